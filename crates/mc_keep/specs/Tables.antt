@@ -13,7 +13,8 @@ use Rattle.mc_model.specs.SameMembers.{SameMembers}
 use Rattle.mc_model.specs.Ascending.{is_once}
 use Rattle.mc_model.specs.Live.{has_tomb, value_row}
 use Rattle.mc_model.specs.Front.{same_cid, is_among, is_linked, head_at, gaps}
-use Rattle.mc_model.specs.Kept.{Kept, processed, is_good, is_stored, cids_of}
+use Rattle.mc_model.specs.Kept.{Kept, processed, is_stored, cids_of}
+use Rattle.mc_model.specs.Offer.{is_good}
 use Rattle.mc_keep.specs.declared.rows.ElementRow.{ElementRow}
 use Rattle.mc_keep.specs.declared.rows.TombRow.{TombRow}
 use Rattle.mc_keep.specs.declared.rows.ValueRow.{ValueRow}

@@ -1,12 +1,12 @@
 -- What further blocks do to the live elements of a key.
-use Rattle.std.proofs.Common.{◌≡◌, ℕ, Bool, true, false, cond, List, [], ◌∷◌, ◌++◌, Option, Some, None, ◌||◌, sym, refl, ap, ◌∙◌, subst, arith}
+use Rattle.std.proofs.Common.{◌≡◌, ℕ, Bool, true, false, cond, List, [], ◌∷◌, ◌++◌, ◌||◌, refl, ap, ◌∙◌}
 use Rattle.std.specs.Prelude.{fold}
-use Rattle.std.specs.List.{list_any, flat_map}
+use Rattle.std.specs.List.{list_any}
 use Rattle.std.proofs.lemmas.List.Folds.{list_any-append}
 use Rattle.std.proofs.lemmas.List.Concat.{flat_map-append}
 use Rattle.mc_model.specs.declared.block.Block.{Block}
 use Rattle.mc_model.specs.Id.{id_text}
-use Rattle.mc_model.specs.Rank.{Ranked, greater, greatest}
+use Rattle.mc_model.specs.Rank.{greater, greatest}
 use Rattle.mc_model.specs.Live.{has_tomb, is_hidden, ranked_in, live_among, live, value_row, is_tomb}
 use Rattle.mc_model.proofs.Greatest.{greatest-append}
 

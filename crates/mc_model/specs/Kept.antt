@@ -7,19 +7,12 @@ use Rattle.mc_model.specs.declared.block.Block.{Block}
 use Rattle.mc_model.specs.declared.block.Stored.{Stored}
 use Rattle.mc_model.specs.Ascending.{is_once}
 use Rattle.mc_model.specs.Front.{same_cid}
+use Rattle.mc_model.specs.Offer.{is_good, block_of}
 
 pub record Kept : Type 0 where
   pub graph : List Stored
   pub order : List Cid
   pub mark : Bool
-
--- a stand-in for the reading of bytes under a CID, with no links and the empty delta where they are damaged. Opaque to every proof.
-pub block_of : Cid → List ℕ → Block
-block_of cid bytes = record { cid = cid; links = []; delta = record { elements = []; tombstones = []; priority = 0 } }
-
--- a stand-in: whether the bytes are Good under the CID
-pub is_good : Cid → List ℕ → Bool
-is_good cid bytes = true
 
 -- the bytes that are stored under an identifier
 abbrev pub bytes_at : List Stored → Cid → Option (List ℕ)
