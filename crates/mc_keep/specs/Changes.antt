@@ -1,12 +1,12 @@
 -- What the changes of a commit come to.
-use Rattle.std.specs.Prelude.{ℕ, ◌+◌, ◌&&◌, Bool, List, [], length, map, find, fold, Option, None, Some, unwrap_or, ◌++◌, if◌then◌else◌}
+use Rattle.std.specs.Prelude.{ℕ, ◌+◌, ◌&&◌, Bool, List, [], length, map, fold, Option, None, Some, unwrap_or, ◌++◌, if◌then◌else◌}
 use Rattle.std.specs.List.{list_any}
 use Rattle.std.specs.Option.{option_map}
 use Rattle.std.specs.Str.{bytes_eq}
 use Rattle.mc_base.specs.declared.cid.Cid.{Cid}
 use Rattle.mc_model.specs.declared.block.Block.{Block}
 use Rattle.mc_model.specs.Rank.{Ranked}
-use Rattle.mc_model.specs.Front.{Head, same_cid, is_among}
+use Rattle.mc_model.specs.Front.{Head, same_cid}
 use Rattle.mc_model.specs.Kept.{Kept, blocks_in}
 use Rattle.mc_keep.specs.declared.rows.TombRow.{TombRow}
 use Rattle.mc_keep.specs.declared.rows.ValueRow.{ValueRow}
@@ -52,10 +52,12 @@ head_in_row row = (row.cid, row.height)
 abbrev pub heads_in_rows : List HeadRow → List Head
 heads_in_rows rows = map head_in_row rows
 
--- the height that rows give an identifier
-abbrev pub height_in : List HeadRow → Cid → Option ℕ
-height_in rows cid = option_map (λ (row : HeadRow). row.height) (find (λ (row : HeadRow). same_cid cid row.cid) rows)
+-- the height of a head after one that is none any more, after a new one, and after all of them in turn
+abbrev pub head_without : Cid → Option ℕ → Cid → Option ℕ
+head_without cid height out = if same_cid cid out then None else height
 
--- the height of a head after some are none any more, and some are new
+abbrev pub head_with : Cid → Option ℕ → HeadRow → Option ℕ
+head_with cid height row = if same_cid cid row.cid then Some row.height else height
+
 abbrev pub head_after : Cid → Option ℕ → List Cid → List HeadRow → Option ℕ
-head_after cid old out new = elim (height_in new cid) [ Some height ↦ Some height | None ↦ if is_among out cid then None else old ]
+head_after cid height out new = fold (head_with cid) (fold (head_without cid) height out) new
