@@ -47,7 +47,7 @@ pub fn reserve_cids(cids: &mut IndexSet<Cid>, rows: usize) -> Result<(), AllocEr
 }
 
 // Adds an identifier, also where it is there.
-fn put_cid(cids: &mut IndexSet<Cid>, cid: Cid)
+pub fn put_cid(cids: &mut IndexSet<Cid>, cid: Cid)
     requires room { 0 < spare cids.old }
     ensures among { (other : Cid) → is_among cids.new.keys other ≡ (same_cid other cid || is_among cids.old.keys other) }
     ensures spare { spare cids.old ≤ spare cids.new + 1 }
@@ -55,7 +55,7 @@ fn put_cid(cids: &mut IndexSet<Cid>, cid: Cid)
     let _added = cids.insert(cid);
 }
 
-fn drop_cid(cids: &mut IndexSet<Cid>, cid: &Cid)
+pub fn drop_cid(cids: &mut IndexSet<Cid>, cid: &Cid)
     ensures among { (other : Cid) → is_among cids.new.keys other ≡ (not (same_cid other cid.now) && is_among cids.old.keys other) }
     ensures spare { spare cids.old ≤ spare cids.new }
 {

@@ -1,4 +1,4 @@
-use Rattle.std.proofs.Common.{◌∙◌, ap, cond, true, ◌||◌}
+use Rattle.std.proofs.Common.{◌∙◌, ap, ◌||◌}
 use Rattle.mc_model.specs.Front.{same_cid, is_among}
 use Rattle.mc_keep_mem.proofs.CidFacts.{same_cid-symm, cond_or}
 use Rattle.mc_keep_mem.proofs.OnOk.{on_ok}

@@ -1,4 +1,4 @@
-use Rattle.std.proofs.Common.{◌∙◌, ap, cond, ℕ}
+use Rattle.std.proofs.Common.{◌∙◌, ap, cond}
 use Rattle.std.specs.Prelude.{Some}
 use Rattle.indexmap.specs.IndexMap.{get}
 use Rattle.mc_model.specs.Front.{same_cid}
