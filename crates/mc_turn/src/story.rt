@@ -1,0 +1,14 @@
+//! Values that stand for a list.
+ghost use Rattle.std.specs.Prelude.{◌≡◌, List, length};
+
+/// A value that stands for a list of entries, which only grows while the value lies in a turn.
+pub trait Story {
+    type Entry;
+
+    /// The list, which contracts alone read.
+    ghost list: { Self → List Self.Entry };
+
+    /// The number of entries in the list.
+    fn length(&self) -> u64
+        ensures { result ≡ length (list self.now) };
+}
