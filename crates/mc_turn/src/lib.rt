@@ -3,10 +3,11 @@
 
 mod rule;
 mod story;
+#[cfg(test)]
+mod tests;
 mod turn;
 mod view;
 
-pub use rule::TurnRule;
 pub use story::Story;
 pub use turn::{Busy, Held, Refused, Seat, Turn};
 pub use view::View;

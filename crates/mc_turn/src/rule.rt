@@ -6,7 +6,7 @@ use atomic_table::{Join, Play, Split, TableRule};
 use std::snapshot::Snapshot;
 
 /// The rule of the table under a turn, which holds between any two steps. The key is the first value.
-pub struct TurnRule;
+pub(crate) struct TurnRule;
 
 impl<T: Story> TableRule<Option<T>, View<T::Entry>, Snapshot<T>> for TurnRule {
     ghost use Rattle.std.specs.Prelude.{length};

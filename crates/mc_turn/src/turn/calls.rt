@@ -65,10 +65,9 @@ impl<T: Story> Turn<T> {
         ensures apart { AreApart (view seat.old) (view other) }
     {
         let Seat { seat: other } = other;
-        self.table
-            .shared
-            .join_seat::<JoinViews>(&mut seat.seat, other);
-        self.table.shared.load::<Look>(&mut seat.seat, 1);
+        let shared = &self.table.shared;
+        shared.join_seat::<JoinViews>(&mut seat.seat, other);
+        shared.load::<Look>(&mut seat.seat, 1);
     }
 
     /// The value, once the turn is got: it tries again until then. The value's list begins with all that the
@@ -101,14 +100,12 @@ impl<T: Story> Turn<T> {
         ensures held { IfOk result (λ h. view seat.new ≡ held_view (view seat.old) (0 ∷ []) (T.list h.value)) }
         ensures busy { IfErr result (λ b. (b.word ≡ 1) × (view seat.new ≡ noted_view (view seat.old) (b.word ∷ []))) }
     {
-        let word = self
-            .table
-            .shared
-            .compare_exchange::<TryTake>(&mut seat.seat, 0, 0, 1);
+        let shared = &self.table.shared;
+        let word = shared.compare_exchange::<TryTake>(&mut seat.seat, 0, 0, 1);
         if word != 0 {
             return Err(Busy { word });
         }
-        let value = self.table.shared.exchange(&mut seat.seat, 0, None).unwrap();
+        let value = shared.exchange(&mut seat.seat, 0, None).unwrap();
         Ok(Held {
             value,
             turn: PhantomData,
@@ -127,12 +124,11 @@ impl<T: Story> Turn<T> {
     {
         let Held { value, turn: _ } = held;
         let length = value.length();
-        let before = self.table.shared.exchange(&mut seat.seat, 0, Some(value));
+        let shared = &self.table.shared;
+        let before = shared.exchange(&mut seat.seat, 0, Some(value));
         let None = before else { unreachable!() };
-        self.table
-            .shared
-            .store::<Publish>(&mut seat.seat, 1, length);
-        self.table.shared.store::<Release>(&mut seat.seat, 0, 0);
+        shared.store::<Publish>(&mut seat.seat, 1, length);
+        shared.store::<Release>(&mut seat.seat, 0, 0);
     }
 
     /// The length that was published last. It isn't below what the seat has seen, and is just the length of
