@@ -20,14 +20,14 @@ module _ {A : Type 0} where
   pub begins_length : (xs ys : List A) → Begins xs ys → length xs ≤ length ys
   begins_length xs ys a = let e : length xs + length a.0 ≡ length ys = sym (length-append xs a.0) ∙ ap length a.1 in omega arith
 
-  two : (xs ys r t : List A) → xs ++ r ≡ ys ++ t → length xs ≤ length ys → Begins xs ys
-  two [] ys r t e h = (ys, refl)
-  two (x ∷ xs) [] r t e h = absurd (omega arith)
-  two (x ∷ xs) (y ∷ ys) r t e h = let b = two xs ys r t (tail-eq_of_cons-eq e) (omega arith) in (b.0, λ k. head-eq_of_cons-eq e k ∷ b.1 k)
+  begins_from_appends : (xs ys r t : List A) → xs ++ r ≡ ys ++ t → length xs ≤ length ys → Begins xs ys
+  begins_from_appends [] ys r t e h = (ys, refl)
+  begins_from_appends (x ∷ xs) [] r t e h = absurd (omega arith)
+  begins_from_appends (x ∷ xs) (y ∷ ys) r t e h = let b = begins_from_appends xs ys r t (tail-eq_of_cons-eq e) (omega arith) in (b.0, λ k. head-eq_of_cons-eq e k ∷ b.1 k)
 
   -- of two beginnings of one list the shorter begins the longer
   pub begins_both : (xs ys log : List A) → Begins xs log → Begins ys log → length xs ≤ length ys → Begins xs ys
-  begins_both xs ys log a b h = two xs ys a.0 b.0 (a.1 ∙ sym b.1) h
+  begins_both xs ys log a b h = begins_from_appends xs ys a.0 b.0 (a.1 ∙ sym b.1) h
 
   pub longer_begins : (xs ys log : List A) → Begins xs log → Begins ys log → Begins (longer_of xs ys) log
   longer_begins xs ys log a b = go (leb (length xs) (length ys)) where

@@ -290,8 +290,3 @@ module _ {T E : Type 0} (story : T → List E) (base id : ℕ) (v : View E) wher
 pub noted : {E : Type 0} (v u w : View E) (words : List ℕ) (word : ℕ) → u ≡ noted_view v words → w ≡ noted_view u (word ∷ []) → w ≡ noted_view v (words ++ word ∷ [])
 noted {E} v u w words word a b = let F : View E → View E = λ x. noted_view x (word ∷ []) in let G : List ℕ → View E = λ l. record v { tried = l } in
     b ∙ (ap F a ∙ ap G (append_assoc v.tried words (word ∷ [])))
-
--- and then the seat gets the value
-pub held_then : {E : Type 0} (v u w : View E) (words : List ℕ) (log : List E) → u ≡ noted_view v words → w ≡ held_view u (0 ∷ []) log → w ≡ held_view v (words ++ 0 ∷ []) log
-held_then {E} v u w words log a b = let F : View E → View E = λ x. held_view x (0 ∷ []) log in let G : List ℕ → View E = λ l. record v { tried = l; held = Some log } in
-    b ∙ (ap F a ∙ ap G (append_assoc v.tried words (0 ∷ [])))

@@ -1,8 +1,9 @@
 //! Values that stand for a list.
 ghost use Rattle.std.specs.Prelude.{◌≡◌, List, length};
 
-/// A value that stands for a list of entries, which only grows while the value lies in a turn.
+/// A value that stands for a list of entries. From one give to the next a turn lets the list only grow.
 pub trait Story {
+    /// What the list is made of.
     type Entry;
 
     /// The list, which contracts alone read.

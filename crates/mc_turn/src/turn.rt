@@ -23,9 +23,10 @@ pub struct Turn<T: Story> {
     ghost sized: { (table.shared.table_id.words ≡ 2) × (table.shared.table_id.slots ≡ 1) },
 }
 
-/// What a thread steps on a turn with. It has no bytes; `view` says what it knows.
+/// What a thread calls a turn with. It has no bytes; contracts read what it knows as its view.
 ///
-/// `E` is the type of the entries, `T::Entry`.
+/// `E` is the type of the entries, `T::Entry`. Condition of each call that takes a seat: it is a seat of
+/// this turn, which `new` gave or which was split from one.
 #[derive(Drop)]
 pub struct Seat<T, E> {
     seat: atomic_table::Seat<Option<T>, View<E>>,
@@ -34,6 +35,7 @@ pub struct Seat<T, E> {
 
 /// The value of a turn, which its owner may read and change. It can only be given back.
 pub struct Held<'a, T: Story> {
+    /// The value itself.
     pub value: T,
     turn: PhantomData<&'a Turn<T>>,
 }
@@ -41,12 +43,14 @@ pub struct Held<'a, T: Story> {
 /// There was no memory for a turn. The value comes back.
 #[derive(Drop)]
 pub struct Refused<T> {
+    /// The value that `new` was given.
     pub value: T,
 }
 
-/// The turn is held: `word` is what the exchange found in word 0.
+/// The turn is held.
 #[derive(Clone, Copy, Debug, PartialEq, Eq, Error)]
 #[error("the turn is held, its word is {word}")]
 pub struct Busy {
+    /// What the exchange found in word 0.
     pub word: u64,
 }

@@ -1,6 +1,6 @@
 use Rattle.std.proofs.Common.{◌≢◌, ◌∷◌, [], ◌++◌, ◌∙◌, arith}
 use Rattle.std.proofs.lemmas.List.Elements.{All-push}
-use Rattle.mc_turn.proofs.Steps.{noted, held_then}
+use Rattle.mc_turn.proofs.Steps.{noted}
 use Rattle.mc_turn.proofs.turn.Turn.take.Goals as goal
 
 pub loop-preserved : goal.loop-preserved
