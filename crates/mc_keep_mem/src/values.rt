@@ -91,3 +91,20 @@ fn remove_row<S: BuildHasher>(rows: &mut HashMap<String, Held, S>, key: &str)
 {
     let _old = rows.remove(key);
 }
+
+/// Makes the changes in their order. It takes no memory.
+pub fn put_values<S: BuildHasher + Drop>(values: &mut Values<S>, changes: Vec<ValueChange>)
+    requires rows_room { length changes.items ≤ spare values.old.rows }
+    requires pending_room { vec_len values.old.pending + length changes.items ≤ vec_capacity values.old.pending }
+    requires named { list_all is_named changes.items ≡ true }
+    requires covered { IsCovered values.old.rows values.old.ordered values.old.pending.items }
+    ensures rows { (key : List ℕ) → row_in values.new.rows key ≡ values_after key (row_in values.old.rows key) changes.items }
+    ensures covered { IsCovered values.new.rows values.new.ordered values.new.pending.items }
+    ensures rows_spare { spare values.old.rows ≤ spare values.new.rows + length changes.items }
+    ensures pending_spare { vec_len values.new.pending ≤ vec_len values.old.pending + length changes.items }
+    ensures pending_capacity { vec_capacity values.old.pending ≤ vec_capacity values.new.pending }
+{
+    for change in changes {
+        put_value(values, change);
+    }
+}

@@ -1,4 +1,4 @@
-use Rattle.std.proofs.Common.{Some, Result, Ok, Err, IsOk, OnOk}
+use Rattle.std.proofs.Common.{Some}
 use Rattle.std.specs.String.{string_bytes}
 use Rattle.std.proofs.lemmas.Map.Text.{hash_map_updates_text}
 use Rattle.mc_keep_mem.proofs.OnOk.{on_ok}

@@ -1,4 +1,4 @@
-use Rattle.std.proofs.Common.{◌≡◌, ◌∙◌, ap, sym, subst, ◌++◌, ◌∷◌, []}
+use Rattle.std.proofs.Common.{◌∙◌, sym, subst}
 use Rattle.mc_keep_mem.specs.Values.{IsCovered}
 use Rattle.mc_keep_mem.proofs.ValueFacts.{covered_new, bytes_same}
 use Rattle.mc_keep_mem.proofs.values.set_row.Goals as goal
