@@ -1,0 +1,4 @@
+pub mod Fronts
+pub mod Keys
+pub mod Reading
+pub mod Writing
