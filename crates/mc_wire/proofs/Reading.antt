@@ -27,7 +27,7 @@ pub record IsReading (bytes : List ℕ) (place value scale : ℕ) : Type 0 where
 scale_next : (place next : ℕ) → next ≡ place + 1 → 2 ^ (7 * next) ≡ 2 ^ (7 * place) * 128
 scale_next place next follows = let e : 7 * next ≡ 7 * place + 7 = omega arith in rw e (pow-add 2 (7 * place) 7)
 
-groups_value-push : (bytes : List ℕ) (byte : ℕ) → groups_value (bytes ++ byte ∷ []) ≡ groups_value bytes + byte % 128 * 2 ^ (7 * length bytes)
+pub groups_value-push : (bytes : List ℕ) (byte : ℕ) → groups_value (bytes ++ byte ∷ []) ≡ groups_value bytes + byte % 128 * 2 ^ (7 * length bytes)
 groups_value-push [] byte = omega arith
 groups_value-push (first ∷ bytes) byte =
     let scale : 2 ^ (7 * suc (length bytes)) ≡ 128 * 2 ^ (7 * length bytes) = scale_next (length bytes) (suc (length bytes)) (omega arith) ∙ mul_comm _ 128 in
@@ -56,7 +56,7 @@ going_on bytes place going inside on = (elim (leb (suc place) (prefix_len goes_o
       let ends : get_or bytes place 0 < 128 = leb-false 128 _ (subst (λ (n : ℕ). goes_on (get_or bytes n 0) ≡ false) same (prefix_len_stops goes_on bytes 0 (omega arith))) in omega arith
 ]) refl
 
-front_by : (bytes : List ℕ) (n : ℕ) → prefix_len goes_on bytes ≡ n → front_varint bytes ≡ (if nat_le 9 n && has_no_room (drop 9 bytes) then Err LongVarint else (if nat_le (length bytes) n then Err Short else Ok (groups_value (take (n + 1) bytes), n + 1)))
+pub front_by : (bytes : List ℕ) (n : ℕ) → prefix_len goes_on bytes ≡ n → front_varint bytes ≡ (if nat_le 9 n && has_no_room (drop 9 bytes) then Err LongVarint else (if nat_le (length bytes) n then Err Short else Ok (groups_value (take (n + 1) bytes), n + 1)))
 unfolding front_varint
 front_by bytes n e = rw e
 
