@@ -3,3 +3,4 @@ pub mod CidFacts
 pub mod FreshFacts
 pub mod GraphFacts
 pub mod ValueFacts
+pub mod TombFacts

@@ -1,3 +1,4 @@
 pub mod Front
 pub mod Graph
+pub mod Tombs
 pub mod Values
