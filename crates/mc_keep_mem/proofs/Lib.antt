@@ -4,3 +4,4 @@ pub mod FreshFacts
 pub mod GraphFacts
 pub mod ValueFacts
 pub mod TombFacts
+pub mod ChainFacts

@@ -1,3 +1,4 @@
+pub mod Chains
 pub mod Front
 pub mod Graph
 pub mod Tombs

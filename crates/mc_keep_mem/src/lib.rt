@@ -2,6 +2,7 @@
 #![tactic(auto)]
 
 mod cids;
+mod elements;
 mod front;
 mod graph;
 mod heads;
@@ -9,6 +10,7 @@ mod tombs;
 mod values;
 
 pub use cids::{cid_at, has_cid, position_of, push_cid, reserve_cids};
+pub use elements::{Elements, Node, elements_of, put_element};
 pub use front::{put_links, put_marks};
 pub use graph::{block_bytes, has_block, put_blocks, reserve_blocks};
 pub use heads::{drop_heads, put_heads, reserve_heads};
