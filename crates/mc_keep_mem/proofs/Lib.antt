@@ -5,3 +5,4 @@ pub mod GraphFacts
 pub mod ValueFacts
 pub mod TombFacts
 pub mod ChainFacts
+pub mod SortFacts

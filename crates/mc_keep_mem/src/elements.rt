@@ -46,7 +46,7 @@ pub fn put_element<S: BuildHasher + Drop>(elements: &mut Elements<S>, row: Eleme
         priority,
         value,
     } = row;
-    let place = elements.nodes.len();
+    let place = count_of(&elements.nodes);
     let before = set_last(&mut elements.lasts, key, place);
     elements.nodes.push_reserved(Node {
         cid,
@@ -54,6 +54,12 @@ pub fn put_element<S: BuildHasher + Drop>(elements: &mut Elements<S>, row: Eleme
         value,
         before,
     });
+}
+
+fn count_of(nodes: &Vec<Node>) -> usize
+    ensures { result ≡ length nodes.now.items }
+{
+    nodes.as_slice().len()
 }
 
 // Makes a place the last of a key, and gives the one that was.
