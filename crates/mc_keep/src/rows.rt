@@ -7,6 +7,7 @@ ghost use Rattle.std.specs.Cmp.Rules.{comparing};
 ghost use Rattle.std.proofs.Common.{rules};
 ghost use Rattle.std.proofs.lemmas.Cmp.{eq_by_cmp_equiv};
 ghost use Rattle.mc_keep.specs.ElementOrder.{element_cmp, element_total};
+ghost use Rattle.mc_keep.specs.HeadOrder.{head_row_cmp, head_row_total};
 
 use mc_base::{Bytes, Cid, Text};
 use std::cmp::Ordering;
@@ -88,12 +89,53 @@ pub struct ValueRow {
 }
 
 /// A processed block to which no processed block links.
-#[derive(Clone, Copy, Debug, PartialEq, Eq, PartialOrd, Ord)]
+#[derive(Clone, Copy, Debug)]
 pub struct HeadRow {
     /// The block.
     pub cid: Cid,
     /// Its height, the priority of its delta.
     pub height: u64,
+}
+
+impl PartialEq for HeadRow {
+    ghost eq = { eq_by_cmp head_row_cmp };
+
+    ghost laws = { record { symm = (eq_by_cmp_equiv head_row_total).symm; trans = λ x y z e f. (eq_by_cmp_equiv head_row_total).congr x y z e ∙ f } };
+
+    fn eq(&self, other: &HeadRow) -> bool {
+        self.cmp(other).is_eq()
+    }
+}
+
+impl Eq for HeadRow {
+    ghost laws = { eq_by_cmp_equiv head_row_total };
+}
+
+impl PartialOrd for HeadRow {
+    ghost partial_cmp = { as_partial_cmp head_row_cmp };
+
+    ghost laws = { partial_order_from_own_ties (Prim.search (comparing, rules)) (Prim.search (comparing, rules)) };
+
+    fn partial_cmp(&self, other: &HeadRow) -> Option<Ordering> {
+        Some(self.cmp(other))
+    }
+}
+
+/// By the block, and then by the height.
+impl Ord for HeadRow {
+    ghost cmp = { head_row_cmp };
+
+    ghost total = { head_row_total };
+
+    ghost matches_partial_cmp = { λ x y. refl };
+
+    ghost matches_eq = { λ x y. refl };
+
+    fn cmp(&self, other: &HeadRow) -> Ordering {
+        self.cid
+            .cmp(&other.cid)
+            .then(self.height.cmp(&other.height))
+    }
 }
 
 /// How many rows a keeper has, and its mark. Each number is below 2^63.

@@ -6,3 +6,4 @@ pub mod ValueFacts
 pub mod TombFacts
 pub mod ChainFacts
 pub mod SortFacts
+pub mod HeadFacts

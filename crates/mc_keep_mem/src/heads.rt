@@ -54,3 +54,26 @@ pub fn reserve_heads(heads: &mut IndexMap<Cid, u64>, rows: usize) -> Result<(), 
 {
     heads.reserve(rows)
 }
+
+/// The heads, ascending.
+pub fn head_rows(alloc: Global, heads: &IndexMap<Cid, u64>) -> Result<List<HeadRow>, AllocError>
+    ensures { IfOk result (λ rows. Ascends head_cmp (heads_in_rows rows) heads.now.entries) }
+{
+    let mut rows = copy_heads(alloc, heads)?;
+    rows.sort_unstable();
+    rows.dedup();
+    Ok(List::from_vec(rows))
+}
+
+fn copy_heads(alloc: Global, heads: &IndexMap<Cid, u64>) -> Result<Vec<HeadRow>, AllocError>
+    ensures { IfOk result (λ rows. heads_in_rows rows.items ≡ heads.now.entries) }
+{
+    let mut rows = Vec::with_capacity(alloc, heads.len())?;
+    for (cid, height) in heads.iter() {
+        rows.push(HeadRow {
+            cid: *cid,
+            height: *height,
+        })?;
+    }
+    Ok(rows)
+}
