@@ -6,6 +6,7 @@ mod elements;
 mod front;
 mod graph;
 mod heads;
+mod next;
 mod tombs;
 mod values;
 
