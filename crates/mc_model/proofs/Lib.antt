@@ -2,3 +2,13 @@ pub mod Greatest
 pub mod Members
 pub mod Live
 pub mod Ascending
+pub mod Counts
+pub mod Held
+pub mod Sound
+pub mod Climb
+pub mod InOrder
+pub mod Drain
+pub mod Parts
+pub mod Goes
+pub mod Prefix
+pub mod Sample
