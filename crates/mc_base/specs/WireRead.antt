@@ -55,11 +55,13 @@ abbrev pub front_field : ℕ → ℕ → ℕ → Result (Content × ℕ) WireFau
 front_field number wire len (Ok read) = Whole (record { number = number; content = read.0 }) (len + read.1)
 front_field number wire len (Err fault) = NoContent number wire fault
 
+-- after a key of this number, wire type and length, where this rest stands
+abbrev pub after_key : ℕ → ℕ → ℕ → List ℕ → Front
+after_key number wire len rest = if number == 0 then NoContent 0 wire FieldZero else front_field number wire len (front_content wire rest)
+
 -- after a key of this value and length
 abbrev pub front_keyed : Result (ℕ × ℕ) WireFault → List ℕ → Front
-front_keyed (Ok key) text =
-    if key.0 / 8 == 0 then NoContent 0 (key.0 % 8) FieldZero
-    else front_field (key.0 / 8) (key.0 % 8) key.1 (front_content (key.0 % 8) (drop key.1 text))
+front_keyed (Ok key) text = after_key (key.0 / 8) (key.0 % 8) key.1 (drop key.1 text)
 front_keyed (Err fault) text = NoKey fault
 
 unfoldable pub front_of : List ℕ → Front

@@ -45,6 +45,10 @@ same_element a b = bytes_eq a.key b.key && (same_cid a.cid b.cid && bytes_eq a.v
 abbrev pub same_tomb : TombRow → TombRow → Bool
 same_tomb a b = bytes_eq a.key b.key && bytes_eq a.id b.id
 
+-- whether the new row of a key has that key
+abbrev pub is_named : ValueChange → Bool
+is_named change = elim change.row [ None ↦ true | Some row ↦ bytes_eq row.key change.key ]
+
 -- the rows of values, elements and tombstones turn those of `blocks` into those of `blocks` and `more`
 pub record RowsFit (blocks more : List Block) (changes : Changes) : Type 0 where
   pub elements : SameMembers changes.elements (element_rows more)
@@ -53,6 +57,7 @@ pub record RowsFit (blocks more : List Block) (changes : Changes) : Type 0 where
   pub tombs_new : list_any (λ (row : TombRow). has_tomb blocks row.key row.id) changes.tombs ≡ false
   pub tombs_once : is_once same_tomb changes.tombs ≡ true
   pub values : (key : List ℕ) → value_row (blocks ++ more) key ≡ values_after key (value_row blocks key) changes.values
+  pub values_named : list_all is_named changes.values ≡ true
   pub values_once : is_once (λ (a b : ValueChange). bytes_eq a.key b.key) changes.values ≡ true
 
 -- the rows of links and heads turn those of `blocks` into those of `blocks` and `more`

@@ -1,7 +1,9 @@
 -- New identifiers, one after another.
-use Rattle.std.proofs.Common.{◌≡◌, ℕ, ◌+◌, ◌<◌, length, get_or, drop, Bool, true, false, not, ◌||◌, ◌&&◌, List, [], ◌∷◌, ◌++◌, sym, refl, ap, ◌∙◌, subst}
+use Rattle.std.proofs.Common.{◌≡◌, Bool, true, false, not, ◌||◌, ◌&&◌, List, [], ◌∷◌, ◌++◌, sym, refl, ap, ◌∙◌, append_assoc}
 use Rattle.std.specs.List.{list_any}
-use Rattle.std.proofs.lemmas.List.{drop_more}
+use Rattle.std.specs.Prelude.{fold, if◌then◌else◌}
+use Rattle.std.proofs.lemmas.List.{append-nil}
+use Rattle.indexmap.specs.IndexSet.{insert_key}
 use Rattle.std.proofs.lemmas.List.Folds.{list_any-append}
 use Rattle.mc_base.specs.declared.cid.Cid.{Cid}
 use Rattle.mc_model.specs.Ascending.{is_once}
@@ -51,9 +53,10 @@ fresh_tail keys cid cids e =
     let once = and_parts (not (list_any (same_cid cid) cids)) (is_once same_cid cids) parts.1 in
     both (list_any (is_among (keys ++ cid ∷ [])) cids) (is_once same_cid cids) (still_new keys cid cids new.1 (not_true (list_any (same_cid cid) cids) once.0)) once.1
 
--- at a step of a loop
-pub fresh_at : (keys cids : List Cid) (i : ℕ) (d : Cid) → i < length cids → are_fresh keys (drop i cids) ≡ true → is_among keys (get_or cids i d) ≡ false
-fresh_at keys cids i d below e = fresh_head keys (get_or cids i d) (drop (i + 1) cids) (ap (are_fresh keys) (sym (drop_more cids i d below)) ∙ e)
-
-pub fresh_next : (keys cids : List Cid) (i : ℕ) (d : Cid) → i < length cids → are_fresh keys (drop i cids) ≡ true → are_fresh (keys ++ get_or cids i d ∷ []) (drop (i + 1) cids) ≡ true
-fresh_next keys cids i d below e = fresh_tail keys (get_or cids i d) (drop (i + 1) cids) (ap (are_fresh keys) (sym (drop_more cids i d below)) ∙ e)
+-- new identifiers that are inserted in turn stand at the end
+pub insert_fresh : (keys cids : List Cid) → are_fresh keys cids ≡ true → fold (insert_key same_cid) keys cids ≡ keys ++ cids
+insert_fresh keys [] e = sym (append-nil keys)
+insert_fresh keys (cid ∷ cids) e =
+    ap (λ (z : List Cid). fold (insert_key same_cid) z cids) (ap (λ t. if t then keys else keys ++ cid ∷ []) (fresh_head keys cid cids e))
+    ∙ insert_fresh (keys ++ cid ∷ []) cids (fresh_tail keys cid cids e)
+    ∙ append_assoc keys (cid ∷ []) cids

@@ -2,3 +2,4 @@ pub mod OnOk
 pub mod CidFacts
 pub mod FreshFacts
 pub mod GraphFacts
+pub mod ValueFacts

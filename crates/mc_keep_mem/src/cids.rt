@@ -1,7 +1,7 @@
 // Sets of identifiers with room for the next commits: one that keeps their order, and one that does not.
 ghost use Rattle.std.specs.Prelude.{◌≡◌, ◌≤◌, ◌<◌, ◌+◌, [], ◌∷◌, ◌++◌, false, OnOk, length, slice_get};
 ghost use Rattle.std.specs.List.{position};
-ghost use Rattle.indexmap.specs.IndexSet.{spare};
+ghost use Rattle.indexmap.specs.IndexSet.{spare, insert_key};
 ghost use Rattle.mc_base.specs.declared.cid.Cid.{Cid};
 ghost use Rattle.std.specs.Prelude.{not, ◌||◌, ◌&&◌};
 ghost use Rattle.mc_model.specs.Front.{same_cid, is_among};
@@ -10,11 +10,10 @@ use indexmap::IndexSet;
 use mc_base::{Cid, List};
 use std::alloc::AllocError;
 
-// Adds an identifier that is not there at the end.
+// Adds an identifier at the end, unless it is there.
 pub fn push_cid(cids: &mut IndexSet<Cid>, cid: Cid)
     requires room { 0 < spare cids.old }
-    requires new { is_among cids.old.keys cid ≡ false }
-    ensures keys { cids.new.keys ≡ cids.old.keys ++ cid ∷ [] }
+    ensures keys { cids.new.keys ≡ insert_key same_cid cids.old.keys cid }
     ensures spare { spare cids.old ≤ spare cids.new + 1 }
 {
     let _added = cids.insert(cid);

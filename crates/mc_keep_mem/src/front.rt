@@ -1,8 +1,8 @@
 // The order of the processed blocks, the link table and the gaps, as a commit changes them.
 ghost use Rattle.std.specs.Prelude.{◌≡◌, ◌≤◌, ◌<◌, ◌+◌, ◌++◌, ◌&&◌, ◌||◌, not, true, [], length, fold};
-ghost use Rattle.indexmap.specs.IndexSet.{spare};
+ghost use Rattle.indexmap.specs.IndexSet.{spare, insert_key};
 ghost use Rattle.mc_base.specs.declared.cid.Cid.{Cid};
-ghost use Rattle.mc_model.specs.Front.{is_among};
+ghost use Rattle.mc_model.specs.Front.{same_cid, is_among};
 ghost use Rattle.mc_keep_mem.specs.Front.{are_fresh, closed_by, opened_by};
 
 use crate::cids::{drop_cid, has_cid, push_cid, put_cid};
@@ -18,9 +18,26 @@ pub fn put_marks(order: &mut IndexSet<Cid>, gaps: &mut IndexSet<Cid>, marks: &[C
     ensures order_spare { spare order.old ≤ spare order.new + length marks.now }
     ensures gaps_spare { spare gaps.old ≤ spare gaps.new }
 {
-    for mark in marks {
-        drop_cid(gaps, mark);
-        push_cid(order, *mark);
+    push_cids(order, marks);
+    drop_cids(gaps, marks);
+}
+
+fn push_cids(order: &mut IndexSet<Cid>, cids: &[Cid])
+    requires room { length cids.now ≤ spare order.old }
+    ensures keys { order.new.keys ≡ fold (insert_key same_cid) order.old.keys cids.now }
+    ensures spare { spare order.old ≤ spare order.new + length cids.now }
+{
+    for cid in cids {
+        push_cid(order, *cid);
+    }
+}
+
+fn drop_cids(gaps: &mut IndexSet<Cid>, cids: &[Cid])
+    ensures gaps { (cid : Cid) → is_among gaps.new.keys cid ≡ fold (closed_by cid) (is_among gaps.old.keys cid) cids.now }
+    ensures spare { spare gaps.old ≤ spare gaps.new }
+{
+    for cid in cids {
+        drop_cid(gaps, cid);
     }
 }
 

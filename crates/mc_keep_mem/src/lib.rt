@@ -5,8 +5,10 @@ mod cids;
 mod front;
 mod graph;
 mod heads;
+mod values;
 
 pub use cids::{cid_at, has_cid, position_of, push_cid, reserve_cids};
 pub use front::{put_links, put_marks};
-pub use graph::{block_bytes, has_block, push_block, reserve_blocks};
+pub use graph::{block_bytes, has_block, put_blocks, reserve_blocks};
 pub use heads::{drop_heads, put_heads, reserve_heads};
+pub use values::{Held, Values, put_value, put_values};

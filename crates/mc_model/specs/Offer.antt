@@ -2,7 +2,7 @@
 use Rattle.std.specs.Prelude.{ℕ, ◌+◌, List, [], ◌∷◌, length, take, drop, nat_le, ◌==◌, ◌&&◌, not, Bool, if◌then◌else◌, Option, Some, None, Result, Ok, Err, unwrap_or}
 use Rattle.std.specs.Result.{is_ok, result_ok}
 use Rattle.std.specs.Str.{bytes_eq}
-use Rattle.mc_base.specs.Cid.{cid_prefix, digest_of}
+use Rattle.mc_base.specs.Cid.{is_cid, digest_of}
 use Rattle.mc_base.specs.NodeRead.{NodeFault, NodeText, node_of}
 use Rattle.mc_base.specs.declared.cid.Cid.{Cid}
 use Rattle.mc_model.specs.declared.block.Block.{Block}
@@ -23,7 +23,7 @@ pub data Damage : Type 0 where
 
 -- the identifier with these 36 bytes
 abbrev pub cid_of_bytes : List ℕ → Option Cid
-cid_of_bytes bytes = if (length bytes == 36) && bytes_eq (take 4 bytes) cid_prefix then Some (record { 0 = drop 4 bytes }) else None
+cid_of_bytes bytes = if is_cid bytes then Some (record { 0 = drop 4 bytes }) else None
 
 -- one identifier, and those of the links after it
 abbrev pub onto_links : ℕ → Option Cid → Result (List Cid) Damage → Result (List Cid) Damage
