@@ -12,3 +12,8 @@ pub mod Parts
 pub mod Goes
 pub mod Prefix
 pub mod Sample
+pub mod Blocks
+pub mod Heads
+pub mod Bridge
+pub mod Same
+pub mod Commits

@@ -1,0 +1,111 @@
+-- What a keeper tells and what outlives a stop: the same links, gaps and heads, and both are sound together.
+use Rattle.std.proofs.Common.{rules, ◌≡◌, ℕ, suc, ◌+◌, ◌≤◌, Bool, true, false, not, cond, List, [], ◌∷◌, ◌++◌, map, Option, Some, None, ◌||◌, ◌&&◌, sym, refl, ap, ◌∙◌, subst, inl, inr, arith, length}
+use Rattle.std.specs.Prelude.{is_some, filter, ◌==◌}
+use Rattle.std.specs.List.{list_any, list_all}
+use Rattle.std.proofs.lemmas.List.Elements.{filter_agree}
+use Rattle.mc_base.specs.declared.cid.Cid.{Cid}
+use Rattle.mc_model.specs.declared.block.Block.{Block}
+use Rattle.mc_model.specs.declared.block.Stored.{Stored}
+use Rattle.mc_model.specs.Ascending.{is_once, once}
+use Rattle.mc_model.specs.Front.{same_cid, is_processed, is_linked, is_gap, links, gaps, Head, heads, head_at}
+use Rattle.mc_model.specs.Graph.{Vertex, times, has, cids_in, in_graph, all_links, no_gaps, gaps_in, heads_in}
+use Rattle.mc_model.specs.Kept.{Kept, IsKept, is_stored, processed, blocks_in, cids_of}
+use Rattle.mc_model.specs.Offer.{is_good}
+use Rattle.mc_model.specs.State.{Durable, vertices, durable_of, AllGood, DurableHolds}
+use Rattle.mc_model.proofs.Blocks.{block_in_cid, is_processed_has, is_linked_has, cids_in_vertices, in_graph_stored, all_links_blocks, times_once, once_times}
+use Rattle.mc_model.proofs.Counts.{cid_is, cid_itself, and_both, both_and, all_has, has_all}
+use Rattle.mc_model.proofs.Heads.{heads_any, is_head}
+
+not_zero : (n : ℕ) → (suc n == 0) ≡ false
+not_zero n = search rules
+
+module _ (kept : Kept) (sound : IsKept kept) where
+  abbrev durable : Durable
+  durable = durable_of kept
+
+  -- the links of processed blocks, block by block
+  pub kept_links : links (processed kept) ≡ all_links durable.graph durable.order
+  kept_links = sym (all_links_blocks kept.graph kept.order sound.stored)
+
+  pub kept_linked : (c : Cid) → is_linked (processed kept) c ≡ has c (all_links durable.graph durable.order)
+  kept_linked c = is_linked_has (processed kept) c ∙ ap (has c) kept_links
+
+  pub kept_gaps : gaps (processed kept) ≡ once same_cid (gaps_in durable.graph durable.order)
+  kept_gaps =
+      ap (once same_cid)
+      (filter_agree (λ c. not (is_processed (processed kept) c)) (λ c. not (has c kept.order)) (λ c. ap not (is_processed_has kept.graph kept.order c)) (links (processed kept))
+      ∙ ap (filter (λ c. not (has c kept.order))) kept_links)
+
+  pub kept_no_gaps : no_gaps durable.graph durable.order ≡ (length (gaps (processed kept)) == 0)
+  kept_no_gaps = sym (ap (λ cids. length cids == 0) kept_gaps ∙ none_once (λ c. has c kept.order) (all_links durable.graph durable.order))
+    where
+      some_once : (x : Cid) (xs : List Cid) → (length (once same_cid (x ∷ xs)) == 0) ≡ false
+      some_once x [] = refl
+      some_once x (y ∷ xs) =
+          elim (has x (y ∷ xs)) as (λ t. (length {A = Cid} (elim t [ true ↦ once same_cid (y ∷ xs) | false ↦ x ∷ once same_cid (y ∷ xs) ]) == 0) ≡ false) [ true ↦ some_once y xs | false ↦ not_zero (length (once same_cid (y ∷ xs))) ]
+
+      none_once : (test : Cid → Bool) (xs : List Cid) → (length (once same_cid (filter (λ c. not (test c)) xs)) == 0) ≡ list_all test xs
+      none_once test [] = refl
+      none_once test (x ∷ xs) =
+          elim (test x) as (λ t. (length (once same_cid (cond (not t) (x ∷ filter (λ c. not (test c)) xs) (filter (λ c. not (test c)) xs))) == 0) ≡ (t && list_all test xs)) [
+            | true ↦ none_once test xs
+            | false ↦ some_once x (filter (λ c. not (test c)) xs)
+          ]
+
+  has_filter : (keep : Cid → Bool) (c : Cid) (xs : List Cid) → has c (filter keep xs) ≡ (has c xs && keep c)
+  has_filter keep c [] = refl
+  has_filter keep c (x ∷ xs) =
+      elim (same_cid c x) as (λ s. same_cid c x ≡ s → has c (cond (keep x) (x ∷ filter keep xs) (filter keep xs)) ≡ ((s || has c xs) && keep c)) [
+        | true ↦ λ s. subst (λ (z : Cid). has c (cond (keep z) (x ∷ filter keep xs) (filter keep xs)) ≡ keep c) (cid_is c x s)
+            (elim (keep c) as (λ t. keep c ≡ t → has c (cond t (x ∷ filter keep xs) (filter keep xs)) ≡ t) [
+              | true ↦ λ k. ap (λ z. z || has c (filter keep xs)) s
+              | false ↦ λ k. has_filter keep c xs ∙ ap (λ z. has c xs && z) k ∙ none (has c xs)
+            ] refl)
+        | false ↦ λ s. elim (keep x) as (λ t. has c (cond t (x ∷ filter keep xs) (filter keep xs)) ≡ (has c xs && keep c)) [
+          | true ↦ ap (λ z. z || has c (filter keep xs)) s ∙ has_filter keep c xs
+          | false ↦ has_filter keep c xs
+        ]
+      ] refl
+    where
+      none : (b : Bool) → (b && false) ≡ false
+      none true = refl
+      none false = refl
+
+  pub kept_gap : (c : Cid) → is_gap (processed kept) c ≡ has c (gaps_in durable.graph durable.order)
+  kept_gap c =
+      ap (λ z. z && not (is_processed (processed kept) c)) (kept_linked c)
+      ∙ ap (λ z. has c (all_links durable.graph durable.order) && not z) (is_processed_has kept.graph kept.order c)
+      ∙ sym (has_filter (λ d. not (has d kept.order)) c (all_links durable.graph durable.order))
+
+  pub kept_head : (c : Cid) → is_some (head_at (processed kept) c) ≡ has c (heads_in durable.graph durable.order)
+  kept_head c =
+      is_head (processed kept) c
+      ∙ ap (λ z. z && not (is_linked (processed kept) c)) (is_processed_has kept.graph kept.order c)
+      ∙ ap (λ z. has c kept.order && not z) (kept_linked c)
+      ∙ sym (has_filter (λ d. not (has d (all_links durable.graph durable.order))) c kept.order)
+
+all_good : (graph : List Stored) → list_all (λ (stored : Stored). is_good stored.cid stored.bytes) graph ≡ true → AllGood (vertices graph)
+all_good [] e = tt
+all_good (s ∷ graph) e = let parts = and_both (is_good s.cid s.bytes) (list_all (λ (stored : Stored). is_good stored.cid stored.bytes) graph) e in ((parts.0, refl), all_good graph parts.1)
+
+good_all : (graph : List Stored) → AllGood (vertices graph) → list_all (λ (stored : Stored). is_good stored.cid stored.bytes) graph ≡ true
+good_all [] h = refl
+good_all (s ∷ graph) h = both_and _ _ h.0.0 (good_all graph h.1)
+
+-- what a keeper tells is sound
+pub kept_holds : (kept : Kept) → IsKept kept → DurableHolds (durable_of kept)
+kept_holds kept sound = record {
+  good = all_good kept.graph sound.good;
+  stored_once = λ c. subst (λ (z : List Cid). times c z ≤ 1) (sym (cids_in_vertices kept.graph)) (times_once (cids_of kept.graph) sound.stored_once c);
+  order_once = times_once kept.order sound.order_once;
+  stored = λ c e. in_graph_stored kept.graph c ∙ all_has (is_stored kept.graph) kept.order sound.stored c e;
+}
+
+-- and where that is so it is what a keeper may tell
+pub holds_kept : (kept : Kept) → DurableHolds (durable_of kept) → IsKept kept
+holds_kept kept sound = record {
+  good = good_all kept.graph sound.good;
+  stored_once = once_times (cids_of kept.graph) (λ c. subst (λ (z : List Cid). times c z ≤ 1) (cids_in_vertices kept.graph) (sound.stored_once c));
+  order_once = once_times kept.order sound.order_once;
+  stored = has_all (is_stored kept.graph) kept.order (λ c e. sym (in_graph_stored kept.graph c) ∙ sound.stored c e);
+}
