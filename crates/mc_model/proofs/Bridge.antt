@@ -14,7 +14,7 @@ use Rattle.mc_model.specs.Offer.{is_good}
 use Rattle.mc_model.specs.State.{Durable, vertices, durable_of, AllGood, DurableHolds}
 use Rattle.mc_model.proofs.Blocks.{block_in_cid, is_processed_has, is_linked_has, cids_in_vertices, in_graph_stored, all_links_blocks, times_once, once_times}
 use Rattle.mc_model.proofs.Counts.{cid_is, cid_itself, and_both, both_and, all_has, has_all}
-use Rattle.mc_model.proofs.Heads.{heads_any, is_head}
+use Rattle.mc_model.proofs.Heads.{heads_cid, is_head}
 
 not_zero : (n : ℕ) → (suc n == 0) ≡ false
 not_zero n = search rules
@@ -83,6 +83,9 @@ module _ (kept : Kept) (sound : IsKept kept) where
       ∙ ap (λ z. z && not (is_linked (processed kept) c)) (is_processed_has kept.graph kept.order c)
       ∙ ap (λ z. has c kept.order && not z) (kept_linked c)
       ∙ sym (has_filter (λ d. not (has d (all_links durable.graph durable.order))) c kept.order)
+
+  pub kept_heads : (c : Cid) → has c (map (λ (head : Head). head.0) (heads (processed kept))) ≡ has c (heads_in durable.graph durable.order)
+  kept_heads c = heads_cid (processed kept) c ∙ sym (is_head (processed kept) c) ∙ kept_head c
 
 all_good : (graph : List Stored) → list_all (λ (stored : Stored). is_good stored.cid stored.bytes) graph ≡ true → AllGood (vertices graph)
 all_good [] e = tt

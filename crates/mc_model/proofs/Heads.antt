@@ -2,6 +2,7 @@
 use Rattle.std.proofs.Common.{◌≡◌, ℕ, Bool, true, false, not, cond, List, [], ◌∷◌, map, Option, Some, None, ◌||◌, ◌&&◌, sym, refl, ap, ◌∙◌}
 use Rattle.std.specs.Prelude.{is_some, filter}
 use Rattle.std.specs.List.{list_any, find}
+use Rattle.std.specs.List.Sorted.{IsStrictlySortedBy}
 use Rattle.std.specs.Option.{option_map}
 use Rattle.std.specs.Cmp.{IsTotalOrder}
 use Rattle.std.specs.Cmp.Lexicographic.{slice_cmp}
@@ -14,6 +15,7 @@ use Rattle.mc_base.specs.declared.cid.Cid.{Cid}
 use Rattle.mc_model.specs.declared.block.Block.{Block}
 use Rattle.mc_model.specs.Front.{same_cid, is_processed, is_linked, Head, head_of, head_cmp, heads, head_at}
 use Rattle.mc_model.proofs.Ascending.{ascending_ascends}
+use Rattle.mc_model.proofs.Counts.{cid_is}
 use Rattle.mc_model.proofs.Members.{list_any-map, list_any-filter}
 
 pub head_total : IsTotalOrder head_cmp
@@ -32,6 +34,9 @@ head_tied x y e =
     let parts = then_equal (slice_cmp nat_cmp x.0.0 y.0.0) (nat_cmp x.1 y.1) e in
     ap (λ (d : List ℕ). head_with d x.1) (slice_cmp-IsAntisymmetric nat_cmp-IsAntisymmetric x.0.0 y.0.0 parts.0)
     ∙ ap (head_with y.0.0) (nat_cmp-IsAntisymmetric x.1 y.1 parts.1)
+
+pub heads_sorted : (blocks : List Block) → IsStrictlySortedBy head_cmp (heads blocks)
+heads_sorted blocks = (ascending_ascends head_cmp head_total head_tied (map head_of (filter (λ (block : Block). not (is_linked blocks block.cid)) blocks))).sorted
 
 -- a test finds a head where it finds a block that none links to
 pub heads_any : (test : Head → Bool) (blocks : List Block) → list_any test (heads blocks) ≡ list_any (λ (block : Block). not (is_linked blocks block.cid) && test (head_of block)) blocks
@@ -59,3 +64,27 @@ is_head blocks c =
     always : (a : Bool) → (a && true) ≡ a
     always true = refl
     always false = refl
+
+-- the identifiers of the heads are those of the processed blocks that none links to
+pub heads_cid : (blocks : List Block) (c : Cid) → list_any (same_cid c) (map (λ (head : Head). head.0) (heads blocks)) ≡ (is_processed blocks c && not (is_linked blocks c))
+heads_cid blocks c =
+    list_any-map (same_cid c) (λ (head : Head). head.0) (heads blocks)
+    ∙ heads_any (λ (head : Head). same_cid c head.0) blocks
+    ∙ tested (λ d. not (is_linked blocks d)) blocks
+  where
+    tested : (keep : Cid → Bool) (all : List Block) → list_any (λ (block : Block). keep block.cid && same_cid c block.cid) all ≡ (is_processed all c && keep c)
+    tested keep [] = refl
+    tested keep (b ∷ all) =
+        elim (same_cid c b.cid) as (λ s. same_cid c b.cid ≡ s → ((keep b.cid && s) || list_any (λ (block : Block). keep block.cid && same_cid c block.cid) all) ≡ ((s || is_processed all c) && keep c)) [
+          | true ↦ λ s. ap (λ z. (z && true) || list_any (λ (block : Block). keep block.cid && same_cid c block.cid) all) (ap keep (sym (cid_is c b.cid s))) ∙ ap (λ z. (keep c && true) || z) (tested keep all) ∙ once_more (keep c) (is_processed all c)
+          | false ↦ λ s. ap (λ z. z || list_any (λ (block : Block). keep block.cid && same_cid c block.cid) all) (none (keep b.cid)) ∙ tested keep all
+        ] refl
+      where
+        once_more : (k p : Bool) → ((k && true) || (p && k)) ≡ k
+        once_more true p = refl
+        once_more false true = refl
+        once_more false false = refl
+
+        none : (k : Bool) → (k && false) ≡ false
+        none true = refl
+        none false = refl

@@ -13,7 +13,7 @@ use Rattle.mc_model.specs.SameMembers.{SameMembers}
 use Rattle.mc_model.proofs.Ascending.{ascending_ascends, ascending_fixed}
 use Rattle.mc_model.proofs.Counts.{cid_is, or_cases, or_left, or_right}
 use Rattle.mc_model.proofs.Greatest.{greatest_same}
-use Rattle.mc_model.proofs.Heads.{head_total, head_tied, heads_any, is_head}
+use Rattle.mc_model.proofs.Heads.{head_total, head_tied, heads_any, heads_sorted, is_head}
 use Rattle.mc_model.proofs.Live.{live_among_alike}
 use Rattle.mc_model.proofs.Members.{same_flat_map, list_any-filter}
 
@@ -49,6 +49,9 @@ module _ (xs ys : List Block) (same : SameMembers xs ys) where
   pub same_linked : (c : Cid) → is_linked xs c ≡ is_linked ys c
   same_linked c = same.same (λ (block : Block). is_among block.links c)
 
+  pub same_gap : (c : Cid) → is_gap xs c ≡ is_gap ys c
+  same_gap c = ap (λ t. t && not (is_processed xs c)) (same_linked c) ∙ ap (λ t. is_linked ys c && not t) (same_processed c)
+
   pub same_hidden : (key id : List ℕ) → has_tomb xs key id ≡ has_tomb ys key id
   same_hidden key id = same.same (λ (block : Block). list_any (is_tomb key id) block.delta.tombstones)
 
@@ -78,7 +81,7 @@ module _ (xs ys : List Block) (same : SameMembers xs ys) where
   }
 
   pub same_heads : heads xs ≡ heads ys
-  same_heads = ascending_fixed head_cmp head_total head_tied (heads xs) (heads ys) (ascending_ascends head_cmp head_total head_tied _).sorted (ascending_ascends head_cmp head_total head_tied _).sorted same_heads_members
+  same_heads = ascending_fixed head_cmp head_total head_tied (heads xs) (heads ys) (heads_sorted xs) (heads_sorted ys) same_heads_members
 
   pub same_head : (c : Cid) → is_some (head_at xs c) ≡ is_some (head_at ys c)
   same_head c =
