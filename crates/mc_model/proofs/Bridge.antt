@@ -87,7 +87,7 @@ module _ (kept : Kept) (sound : IsKept kept) where
   pub kept_heads : (c : Cid) → has c (map (λ (head : Head). head.0) (heads (processed kept))) ≡ has c (heads_in durable.graph durable.order)
   kept_heads c = heads_cid (processed kept) c ∙ sym (is_head (processed kept) c) ∙ kept_head c
 
-all_good : (graph : List Stored) → list_all (λ (stored : Stored). is_good stored.cid stored.bytes) graph ≡ true → AllGood (vertices graph)
+pub all_good : (graph : List Stored) → list_all (λ (stored : Stored). is_good stored.cid stored.bytes) graph ≡ true → AllGood (vertices graph)
 all_good [] e = tt
 all_good (s ∷ graph) e = let parts = and_both (is_good s.cid s.bytes) (list_all (λ (stored : Stored). is_good stored.cid stored.bytes) graph) e in ((parts.0, refl), all_good graph parts.1)
 
