@@ -77,7 +77,7 @@ all_wanted order q (x ∷ cids) c e =
 
 -- a move from part to part
 
-others_times : (c d : Cid) (xs : List Cid) → times d (others xs c) ≡ cond (not (same_cid d c)) (times d xs) 0
+pub others_times : (c d : Cid) (xs : List Cid) → times d (others xs c) ≡ cond (not (same_cid d c)) (times d xs) 0
 others_times c d xs = times-filter d (λ e. not (same_cid e c)) xs
 
 bad_others_cids : (c : Cid) (bad : List (Cid × ℕ)) → bad_cids (bad_others bad c) ≡ others (bad_cids bad) c

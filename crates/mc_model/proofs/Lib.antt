@@ -15,5 +15,8 @@ pub mod Sample
 pub mod Blocks
 pub mod Heads
 pub mod Bridge
+pub mod OnceLength
 pub mod Same
 pub mod Commits
+pub mod Found
+pub mod Recall

@@ -1,5 +1,5 @@
 -- The same blocks in any order give the same values, links, heads and gaps.
-use Rattle.std.proofs.Common.{◌≡◌, ℕ, Bool, true, false, not, cond, List, [], ◌∷◌, ◌||◌, ◌&&◌, sym, refl, ap, ◌∙◌, subst, inl, inr}
+use Rattle.std.proofs.Common.{◌≡◌, ℕ, Bool, true, false, not, cond, List, [], ◌∷◌, ◌||◌, ◌&&◌, sym, refl, ap, ◌∙◌, subst, inl, inr, length}
 use Rattle.std.specs.Prelude.{is_some, filter}
 use Rattle.std.specs.List.{list_any}
 use Rattle.std.proofs.lemmas.List.Elements.{filter_agree}
@@ -16,6 +16,7 @@ use Rattle.mc_model.proofs.Greatest.{greatest_same}
 use Rattle.mc_model.proofs.Heads.{head_total, head_tied, heads_any, heads_sorted, is_head}
 use Rattle.mc_model.proofs.Live.{live_among_alike}
 use Rattle.mc_model.proofs.Members.{same_flat_map, list_any-filter}
+use Rattle.mc_model.proofs.OnceLength.{same_once_length}
 
 any_agree : {A : Type 0} (p q : A → Bool) → ((x : A) → p x ≡ q x) → (xs : List A) → list_any p xs ≡ list_any q xs
 any_agree p q same [] = refl
@@ -63,12 +64,20 @@ module _ (xs ys : List Block) (same : SameMembers xs ys) where
   pub same_value : (key : List ℕ) → value_row xs key ≡ value_row ys key
   same_value key = greatest_same (live xs key) (live ys key) (same_live key)
 
+  -- the links that aren't processed
+  open_links : SameMembers (filter (λ c. not (is_processed xs c)) (links xs)) (filter (λ c. not (is_processed ys c)) (links ys))
+  open_links =
+      subst (λ first. SameMembers first (filter (λ c. not (is_processed ys c)) (links ys)))
+      (sym (filter_agree (λ c. not (is_processed xs c)) (λ c. not (is_processed ys c)) (λ c. ap not (same_processed c)) (links xs)))
+      (same_filter (λ c. not (is_processed ys c)) (links xs) (links ys) (same_flat_map (λ (block : Block). block.links) xs ys same))
+
   pub same_gaps : SameMembers (gaps xs) (gaps ys)
   same_gaps =
-      same_once (filter (λ c. not (is_processed xs c)) (links xs)) (filter (λ c. not (is_processed ys c)) (links ys))
-      (subst (λ first. SameMembers first (filter (λ c. not (is_processed ys c)) (links ys)))
-        (sym (filter_agree (λ c. not (is_processed xs c)) (λ c. not (is_processed ys c)) (λ c. ap not (same_processed c)) (links xs)))
-        (same_filter (λ c. not (is_processed ys c)) (links xs) (links ys) (same_flat_map (λ (block : Block). block.links) xs ys same)))
+      same_once (filter (λ c. not (is_processed xs c)) (links xs)) (filter (λ c. not (is_processed ys c)) (links ys)) open_links
+
+  pub same_gap_count : length (gaps xs) ≡ length (gaps ys)
+  same_gap_count =
+      same_once_length (filter (λ c. not (is_processed xs c)) (links xs)) (filter (λ c. not (is_processed ys c)) (links ys)) open_links
 
   same_heads_members : SameMembers (heads xs) (heads ys)
   same_heads_members = record {

@@ -1,12 +1,13 @@
 // The laws of a replica's events.
-ghost use Rattle.std.specs.Prelude.{◌≡◌, ◌⊎◌, Bool, true, false, List, [], ◌∷◌, Option, Some, None, if◌then◌else◌};
+ghost use Rattle.std.specs.Prelude.{◌≡◌, ℕ, Bool, true, false, List, [], ◌∷◌, Option, Some, None, if◌then◌else◌};
 ghost use Rattle.mc_base.specs.declared.cid.Cid.{Cid};
-ghost use Rattle.mc_model.specs.Graph.{has, no_gaps, heads_in, HasNoCycle, IsReached};
-ghost use Rattle.mc_model.specs.Wanted.{wanted};
+ghost use Rattle.mc_model.specs.Graph.{Vertex, has, in_graph, links_in, no_gaps, heads_in, HasNoCycle, IsReached};
+ghost use Rattle.mc_model.specs.Wanted.{IsOnce, wanted, start_first, recall};
 ghost use Rattle.mc_model.specs.State.{Durable, Running, State, nothing_durable, IsSound, IsWhole, wanted_in};
 ghost use Rattle.mc_model.specs.Events.{Event, MayCome, MayComeAll, StaysSound, happens, after, is_commit, failed, Goes, GoesOn};
-ghost use Rattle.mc_model.specs.Found.{Offers};
-ghost use Rattle.mc_model.specs.Drain.{DrainsAll, IsDrained, IsClosure, IsSoFar, RunFits, IsEmptied};
+ghost use Rattle.mc_model.specs.Offer.{is_good, block_of};
+ghost use Rattle.mc_model.specs.Found.{Offers, Nothing, Good, found_bytes, found_in, is_found, found_links};
+ghost use Rattle.mc_model.specs.Drain.{IsAdded, IsClosed, DrainsAll, IsDrained, IsClosure, IsSoFar, RunFits, IsEmptied};
 
 /// Over every list of events from a sound state the state stays sound, after each event and also where it stopped; an
 /// empty replica is sound; and so it is with a commit that fails, wholly or not at all.
@@ -62,4 +63,46 @@ pub fn drain_is_closed()
     ensures parts { (found : Offers) (state : State) (events : List Event) → DrainsAll found state events → RunFits found state.run → RunFits found (after state events).run }
     ensures emptied { (found : Offers) (state : State) (events : List Event) → DrainsAll found state events → RunFits found state.run →
         IsEmptied (after state events).run → IsDrained found (after state events) }
+{}
+
+/// A start of a job, where something waits, and a recall of all that is in flight are events.
+pub fn queue_moves_are_events()
+    ensures start { (durable : Durable) (run : Running) →
+        Goes (record { durable = durable; run = Some run }) (record { durable = durable; run = Some (record run { queue = start_first run.queue run.queue.waiting }) }) }
+    ensures recall { (durable : Durable) (run : Running) → IsOnce durable.order run.queue →
+        Goes (record { durable = durable; run = Some run }) (record { durable = durable; run = Some (record run { queue = recall run.queue }) }) }
+{}
+
+/// What the heads reach is the least set that holds them and, with each block, its links within the graph.
+pub fn reached_is_least()
+    ensures starts { (graph : List Vertex) (start : List Cid) (c : Cid) → has c start ≡ true → in_graph graph c ≡ true → IsReached graph start c }
+    ensures goes { (graph : List Vertex) (start : List Cid) (m c : Cid) → IsReached graph start m → has c (links_in graph m) ≡ true → in_graph graph c ≡ true → IsReached graph start c }
+    ensures least { (graph : List Vertex) (start : List Cid) (test : Cid → Bool) →
+        ((c : Cid) → has c start ≡ true → in_graph graph c ≡ true → test c ≡ true) →
+        ((m c : Cid) → test m ≡ true → has c (links_in graph m) ≡ true → in_graph graph c ≡ true → test c ≡ true) →
+        (c : Cid) → IsReached graph start c → test c ≡ true }
+{}
+
+/// The closed set is the least set that holds the processed blocks, the wanted ones with a good offer and, with each
+/// block added, its links with a good offer.
+pub fn closed_is_least()
+    ensures old { (found : Offers) (order start : List Cid) (c : Cid) → has c order ≡ true → IsClosed found order start c }
+    ensures starts { (found : Offers) (order start : List Cid) (c : Cid) → has c start ≡ true → is_found (found c) ≡ true → IsClosed found order start c }
+    ensures goes { (found : Offers) (order start : List Cid) (m c : Cid) →
+        IsAdded found order start m → has c (found_links (found m)) ≡ true → is_found (found c) ≡ true → IsClosed found order start c }
+    ensures least { (found : Offers) (order start : List Cid) (test : Cid → Bool) →
+        ((c : Cid) → has c order ≡ true → test c ≡ true) →
+        ((c : Cid) → has c start ≡ true → is_found (found c) ≡ true → test c ≡ true) →
+        ((m c : Cid) → IsAdded found order start m → test m ≡ true → has c (found_links (found m)) ≡ true → is_found (found c) ≡ true → test c ≡ true) →
+        (c : Cid) → IsClosed found order start c → test c ≡ true }
+{}
+
+/// The first offer that has the digest decides: a good block that is offered first is found, with its links, and whatever
+/// bytes are found first decide by whether they are good.
+pub fn first_offer_decides()
+    ensures first { (cid : Cid) (bytes : List ℕ) (rest : List (List ℕ)) → is_good cid bytes ≡ true → found_in (bytes ∷ rest) cid ≡ Good (block_of cid bytes).links }
+    ensures found { (cid : Cid) (offers : List (List ℕ)) (bytes : List ℕ) → found_bytes offers cid ≡ Some bytes → is_found (found_in offers cid) ≡ is_good cid bytes }
+    ensures links { (cid : Cid) (offers : List (List ℕ)) (bytes : List ℕ) →
+        found_bytes offers cid ≡ Some bytes → is_good cid bytes ≡ true → found_in offers cid ≡ Good (block_of cid bytes).links }
+    ensures none { (cid : Cid) (offers : List (List ℕ)) → found_bytes offers cid ≡ None → found_in offers cid ≡ Nothing }
 {}

@@ -1,5 +1,5 @@
 // What holds of every value, by the definitions.
-ghost use Rattle.std.specs.Prelude.{◌≡◌, ℕ, List, is_some};
+ghost use Rattle.std.specs.Prelude.{◌≡◌, ℕ, List, length, is_some};
 ghost use Rattle.mc_base.specs.declared.cid.Cid.{Cid};
 ghost use Rattle.mc_model.specs.declared.block.Block.{Block};
 ghost use Rattle.mc_model.specs.declared.delta.Delta.{Delta};
@@ -30,6 +30,7 @@ pub fn same_blocks_same_answers()
     ensures linked { (xs ys : List Block) → SameMembers xs ys → (cid : Cid) → is_linked xs cid ≡ is_linked ys cid }
     ensures gap { (xs ys : List Block) → SameMembers xs ys → (cid : Cid) → is_gap xs cid ≡ is_gap ys cid }
     ensures gaps { (xs ys : List Block) → SameMembers xs ys → SameMembers (gaps xs) (gaps ys) }
+    ensures gap_count { (xs ys : List Block) → SameMembers xs ys → length (gaps xs) ≡ length (gaps ys) }
     ensures heads { (xs ys : List Block) → SameMembers xs ys → heads xs ≡ heads ys }
     ensures head { (xs ys : List Block) → SameMembers xs ys → (cid : Cid) → is_some (head_at xs cid) ≡ is_some (head_at ys cid) }
 {}

@@ -1,4 +1,4 @@
-use Rattle.mc_model.proofs.Same.{same_value, same_hidden, same_processed, same_linked, same_gap, same_gaps, same_heads, same_head}
+use Rattle.mc_model.proofs.Same.{same_value, same_hidden, same_processed, same_linked, same_gap, same_gaps, same_gap_count, same_heads, same_head}
 use Rattle.mc_model.proofs.laws.same_blocks_same_answers.Goals as goal
 
 pub returns-clause-value : goal.returns-clause-value
@@ -24,3 +24,6 @@ returns-clause-heads c = same_heads
 
 pub returns-clause-head : goal.returns-clause-head
 returns-clause-head c = same_head
+
+pub returns-clause-gap_count : goal.returns-clause-gap_count
+returns-clause-gap_count c = same_gap_count
