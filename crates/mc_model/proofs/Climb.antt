@@ -113,3 +113,11 @@ reach_least graph start test starts goes (m ∷ path) c e =
     let parts = and_both (is_path graph start path m) (has c (links_in graph m) && in_graph graph c) e in
     let link = and_both (has c (links_in graph m)) (in_graph graph c) parts.1 in
     goes m c (reach_least graph start test starts goes path m parts.0) link.0 link.1
+
+-- what is reached depends on the members of the starts alone
+path_same : (graph : List Vertex) (start other : List Cid) → ((c : Cid) → has c start ≡ has c other) → (path : List Cid) (c : Cid) → is_path graph start path c ≡ is_path graph other path c
+path_same graph start other same [] c = ap (λ t. t && in_graph graph c) (same c)
+path_same graph start other same (m ∷ path) c = ap (λ t. t && (has c (links_in graph m) && in_graph graph c)) (path_same graph start other same path m)
+
+pub reached_same : (graph : List Vertex) (start other : List Cid) → ((c : Cid) → has c start ≡ has c other) → (c : Cid) → IsReached graph start c → IsReached graph other c
+reached_same graph start other same c h = record { path = h.path; along = sym (path_same graph start other same h.path c) ∙ h.along }

@@ -1,8 +1,12 @@
 -- One run in which each event comes, computed, with the states after its parts written by hand.
 use Rattle.std.proofs.Common.{◌≡◌, true, false, [], ◌∷◌, Some, None, refl}
+use Rattle.std.specs.Prelude.{if◌then◌else◌}
 use Rattle.mc_base.specs.declared.cid.Cid.{Cid}
 use Rattle.mc_model.specs.Events.{Store, Process, Hear, Want, GiveBack, Missing, Bad, Requeue, WalkBegin, WalkVisit, WalkEnd, Batch, Stop, Open, after, is_commit, failed}
-use Rattle.mc_model.specs.Graph.{Vertex}
+use Rattle.mc_model.specs.Drain.{is_way, is_in_order}
+use Rattle.mc_model.specs.Found.{Offers, Nothing, Good}
+use Rattle.mc_model.specs.Front.{same_cid}
+use Rattle.mc_model.specs.Graph.{Vertex, heads_in, gaps_in, is_path}
 use Rattle.mc_model.specs.State.{Durable, Running, State, OpenBatch, nothing_durable}
 use Rattle.mc_model.specs.Wanted.{Queue, no_queue}
 
@@ -129,3 +133,37 @@ batch = record { elements = []; pairs = (107 ∷ [], one) ∷ [] }
 pub batches : after clean (Batch (Some batch) ∷ [])
     ≡ record { durable = clean.durable; run = Some (record { queue = no_queue; walk = None; batch = Some batch; whole = true }) }
 batches = refl
+
+-- a drain of the block three: two is its link, and is there; one is not
+
+abbrev offered : Offers
+offered c = if same_cid c three then Good (two ∷ []) else (if same_cid c two then Good (one ∷ one ∷ []) else Nothing)
+
+pub drains : after waits (Want ∷ Store (third ∷ []) ∷ Process (three ∷ []) ∷ Want ∷ Store (second ∷ []) ∷ Process (two ∷ []) ∷ Want ∷ Missing one ∷ [])
+    ≡ record {
+      durable = record { graph = third ∷ second ∷ []; order = three ∷ two ∷ []; mark = true };
+      run = Some (record { queue = record { waiting = []; flight = []; missing = one ∷ []; bad = [] }; walk = None; batch = None; whole = true });
+    }
+drains = refl
+
+pub adds_linked : is_way offered [] (three ∷ []) (three ∷ []) two ≡ true
+adds_linked = refl
+
+pub adds_no_missing : is_way offered [] (three ∷ []) (two ∷ three ∷ []) one ≡ false
+adds_no_missing = refl
+
+pub adds_in_order : is_in_order offered (three ∷ []) [] (three ∷ two ∷ []) ≡ true
+adds_in_order = refl
+
+pub adds_not_before : is_in_order offered (three ∷ []) [] (two ∷ three ∷ []) ≡ false
+adds_not_before = refl
+
+-- two is no head where three is processed; one is a gap, to which two links; and three reaches one over two
+pub has_head : heads_in (third ∷ second ∷ []) (two ∷ three ∷ []) ≡ three ∷ []
+has_head = refl
+
+pub has_gaps : gaps_in (third ∷ second ∷ []) (two ∷ three ∷ []) ≡ one ∷ one ∷ []
+has_gaps = refl
+
+pub reaches : is_path (third ∷ second ∷ first ∷ []) (three ∷ []) (two ∷ three ∷ []) one ≡ true
+reaches = refl

@@ -40,7 +40,7 @@ pub all_good-append : (graph more : List Vertex) → AllGood graph → AllGood m
 all_good-append [] more h k = k
 all_good-append (v ∷ graph) more h k = (h.0, all_good-append graph more h.1 k)
 
-stored_once : (graph more : List Vertex) → ((c : Cid) → times c (cids_in graph) + times c (cids_in more) ≤ 1) → (c : Cid) → times c (cids_in (graph ++ more)) ≤ 1
+pub stored_once : (graph more : List Vertex) → ((c : Cid) → times c (cids_in graph) + times c (cids_in more) ≤ 1) → (c : Cid) → times c (cids_in (graph ++ more)) ≤ 1
 stored_once graph more h c = omega (arith, h c, times-append c (cids_in graph) (cids_in more), ap (times c) (cids_in-append graph more))
 
 store_whole : (durable : Durable) (blocks : List Vertex) (q : Queue) (walk : Option (ℕ × ℕ)) (whole : Bool) → DurableHolds durable → WholeHolds durable q walk whole → WholeHolds (record durable { graph = durable.graph ++ blocks }) q walk whole

@@ -1,3 +1,4 @@
+use Rattle.mc_model.proofs.Bridge.{kept_mark}
 use Rattle.mc_model.proofs.Commits.{store_is, process_is, walk_end_is}
 use Rattle.mc_model.proofs.kept.kept_changes_are_events.Goals as goal
 
@@ -9,3 +10,6 @@ returns-clause-process c = process_is
 
 pub returns-clause-walk_end : goal.returns-clause-walk_end
 returns-clause-walk_end c = walk_end_is
+
+pub returns-clause-mark : goal.returns-clause-mark
+returns-clause-mark c = kept_mark

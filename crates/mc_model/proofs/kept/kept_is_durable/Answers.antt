@@ -1,5 +1,5 @@
 use Rattle.std.proofs.Common.{sym}
-use Rattle.mc_model.proofs.Blocks.{in_graph_stored, is_processed_has}
+use Rattle.mc_model.proofs.Blocks.{in_graph_stored, is_processed_has, links_in_stored, all_links_blocks}
 use Rattle.mc_model.proofs.Bridge.{kept_links, kept_linked, kept_gap, kept_gaps, kept_no_gaps, kept_head, kept_heads, kept_holds, holds_kept}
 use Rattle.mc_model.proofs.kept.kept_is_durable.Goals as goal
 
@@ -35,3 +35,9 @@ returns-clause-holds c = kept_holds
 
 pub returns-clause-kept : goal.returns-clause-kept
 returns-clause-kept c = holds_kept
+
+pub returns-clause-block_links : goal.returns-clause-block_links
+returns-clause-block_links c kept cid = links_in_stored kept.graph cid
+
+pub returns-clause-some_links : goal.returns-clause-some_links
+returns-clause-some_links c kept cids = all_links_blocks kept.graph cids
