@@ -1,11 +1,11 @@
 -- A keeper's commits as events.
-use Rattle.std.proofs.Common.{◌≡◌, ◌≢◌, ◌+◌, ◌≤◌, arith, inl, inr, Bool, true, false, List, [], ◌++◌, Some, None, sym, refl, ap, ◌∙◌, subst, cond}
+use Rattle.std.proofs.Common.{◌≡◌, ◌≢◌, arith, inl, inr, Bool, true, false, List, [], ◌++◌, Some, None, sym, ap, ◌∙◌, subst, cond}
 use Rattle.std.specs.Prelude.{unwrap_or}
 use Rattle.std.proofs.lemmas.List.{append-nil}
 use Rattle.mc_base.specs.declared.cid.Cid.{Cid}
 use Rattle.mc_model.specs.declared.block.Stored.{Stored}
-use Rattle.mc_model.specs.Events.{Store, Process, WalkEnd, MayRun, runs, processed_mark, ended_mark, with_blocks, with_processed}
-use Rattle.mc_model.specs.Graph.{Vertex, times, no_gaps, has, in_graph, cids_in}
+use Rattle.mc_model.specs.Events.{Store, Process, WalkEnd, MayRun, runs, processed_mark}
+use Rattle.mc_model.specs.Graph.{Vertex, no_gaps, has, in_graph}
 use Rattle.mc_model.specs.Kept.{Kept, IsKept, is_stored}
 use Rattle.mc_model.specs.State.{Durable, DurableHolds, Running, durable_of, vertices}
 use Rattle.mc_model.proofs.Blocks.{in_graph_stored}
@@ -25,8 +25,8 @@ pub commit_stores : (kept : Kept) (changes : Changes) (run : Running) → IsKept
 commit_stores kept changes run sound fits marks mark = (
   (all_good changes.store fits.good, stored_apart kept.graph changes.store sound.stored_once fits.once fits.new),
   sym (store_is kept changes.store)
-  ∙ ap (λ order. told (kept.graph ++ changes.store) order kept.mark) (sym (append-nil kept.order) ∙ ap (λ cids. kept.order ++ cids) (sym marks))
-  ∙ ap (λ new. told (kept.graph ++ changes.store) (kept.order ++ changes.marks) (unwrap_or new kept.mark)) (sym mark),
+      ∙ ap (λ order. told (kept.graph ++ changes.store) order kept.mark) (sym (append-nil kept.order) ∙ ap (λ cids. kept.order ++ cids) (sym marks))
+      ∙ ap (λ new. told (kept.graph ++ changes.store) (kept.order ++ changes.marks) (unwrap_or new kept.mark)) (sym mark),
 )
 
 pub commit_processes : (kept : Kept) (changes : Changes) (run : Running) → IsKept kept → MarksFit kept changes → changes.store ≡ [] → changes.marks ≢ []
@@ -39,7 +39,7 @@ commit_processes kept changes run sound fits store some mark = (
     λ c e. in_graph_stored kept.graph c ∙ ap (λ graph. is_stored graph c) (sym same) ∙ all_has (is_stored (kept.graph ++ changes.store)) changes.marks fits.stored c e,
   ),
   sym (process_is kept run.whole (unwrap_or changes.mark kept.mark) changes.marks mark)
-  ∙ ap (λ graph. told graph (kept.order ++ changes.marks) (unwrap_or changes.mark kept.mark)) (sym same),
+      ∙ ap (λ graph. told graph (kept.order ++ changes.marks) (unwrap_or changes.mark kept.mark)) (sym same),
 )
   where
     same : kept.graph ++ changes.store ≡ kept.graph
@@ -71,4 +71,3 @@ commit_sound kept changes sound store marks =
             ∙ all_has (is_stored (kept.graph ++ changes.store)) changes.marks marks.stored c h
       ];
     }))
-

@@ -14,11 +14,11 @@ ghost use Rattle.mc_keep.specs.Tables.{StoreFits, MarksFit};
 pub fn commits_are_events()
     ensures store { (kept : Kept) (changes : Changes) (run : Running) → IsKept kept → StoreFits kept changes → changes.marks ≡ [] → changes.mark ≡ None →
         MayRun (durable_of kept) run (Store (vertices changes.store))
-            × ((runs (durable_of kept) run (Store (vertices changes.store))).durable ≡ durable_of (changed kept changes)) }
+        × ((runs (durable_of kept) run (Store (vertices changes.store))).durable ≡ durable_of (changed kept changes)) }
     ensures process { (kept : Kept) (changes : Changes) (run : Running) → IsKept kept → MarksFit kept changes → changes.store ≡ [] → changes.marks ≢ [] →
         unwrap_or changes.mark kept.mark ≡ processed_mark run.whole (durable_of kept) (kept.order ++ changes.marks) →
         MayRun (durable_of kept) run (Process changes.marks)
-            × ((runs (durable_of kept) run (Process changes.marks)).durable ≡ durable_of (changed kept changes)) }
+        × ((runs (durable_of kept) run (Process changes.marks)).durable ≡ durable_of (changed kept changes)) }
     ensures sound { (kept : Kept) (changes : Changes) → IsKept kept → StoreFits kept changes → MarksFit kept changes → IsKept (changed kept changes) }
     ensures clear { (kept : Kept) (run : Running) → no_gaps (durable_of kept).graph kept.order ≡ true →
         (runs (durable_of kept) run WalkEnd).durable ≡ durable_of (changed kept (record no_changes { mark = Some false })) }

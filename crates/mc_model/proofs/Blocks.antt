@@ -1,7 +1,7 @@
 -- Stored blocks: their identifiers, and how to find them.
-use Rattle.std.proofs.Common.{◌≡◌, ℕ, ◌+◌, ◌≤◌, Bool, true, false, not, cond, List, [], ◌∷◌, ◌++◌, map, Option, Some, None, ◌||◌, ◌&&◌, sym, refl, ap, ◌∙◌, subst, inl, inr, arith, length}
+use Rattle.std.proofs.Common.{◌≡◌, ℕ, ◌+◌, ◌≤◌, Bool, true, false, not, cond, List, [], ◌∷◌, ◌++◌, Option, Some, None, ◌||◌, ◌&&◌, sym, refl, ap, ◌∙◌, arith, length}
 use Rattle.std.specs.Prelude.{nat_le, is_some, Result, Ok, Err, unwrap_or}
-use Rattle.std.specs.List.{list_any, list_all, find, flat_map}
+use Rattle.std.specs.List.{list_all, find}
 use Rattle.std.specs.Option.{option_map}
 use Rattle.std.specs.Result.{result_ok}
 use Rattle.std.specs.Str.{bytes_eq}
@@ -12,12 +12,12 @@ use Rattle.mc_model.specs.declared.block.Block.{Block}
 use Rattle.mc_model.specs.declared.block.Stored.{Stored}
 use Rattle.mc_model.specs.declared.delta.Delta.{Delta}
 use Rattle.mc_model.specs.Ascending.{is_once}
-use Rattle.mc_model.specs.Front.{same_cid, is_among, is_processed, is_linked, links}
+use Rattle.mc_model.specs.Front.{same_cid, is_processed, is_linked, links}
 use Rattle.mc_model.specs.Graph.{Vertex, times, has, cids_in, in_graph, links_of, links_in, all_links}
 use Rattle.mc_model.specs.Kept.{bytes_at, is_stored, block_under, block_in, blocks_in, cids_of}
 use Rattle.mc_model.specs.Offer.{Damage, TooLarge, WrongDigest, empty_delta, block_max, offer, block_of, block_with, block_of_node, links_from, data_of}
 use Rattle.mc_model.specs.State.{vertex_of, vertices}
-use Rattle.mc_model.proofs.Counts.{cid_is, cid_itself, or_left, or_right, times_has, has_times, times_none}
+use Rattle.mc_model.proofs.Counts.{cid_is, cid_itself, times_has, times_none}
 use Rattle.mc_model.proofs.Members.{list_any-flat_map}
 
 -- the block of a reading has the identifier under which it is read

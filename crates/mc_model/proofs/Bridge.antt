@@ -1,21 +1,20 @@
 -- What a keeper tells and what outlives a stop: the same links, gaps and heads, and both are sound together.
-use Rattle.std.proofs.Common.{rules, ◌≡◌, ℕ, suc, ◌+◌, ◌≤◌, Bool, true, false, not, cond, List, [], ◌∷◌, ◌++◌, map, Option, Some, None, ◌||◌, ◌&&◌, sym, refl, ap, ◌∙◌, subst, inl, inr, arith, length}
+use Rattle.std.proofs.Common.{rules, ◌≡◌, ℕ, suc, ◌≤◌, Bool, true, false, not, cond, List, [], ◌∷◌, ◌++◌, map, ◌||◌, ◌&&◌, sym, refl, ap, ◌∙◌, subst, length}
 use Rattle.std.specs.Prelude.{is_some, filter, ◌==◌, ◌↔◌}
-use Rattle.std.specs.List.{list_any, list_all}
+use Rattle.std.specs.List.{list_all}
 use Rattle.std.proofs.lemmas.List.Elements.{filter_agree}
 use Rattle.mc_base.specs.declared.cid.Cid.{Cid}
-use Rattle.mc_model.specs.declared.block.Block.{Block}
 use Rattle.mc_model.specs.declared.block.Stored.{Stored}
-use Rattle.mc_model.specs.Ascending.{is_once, once}
+use Rattle.mc_model.specs.Ascending.{once}
 use Rattle.mc_model.specs.Events.{processed_mark}
 use Rattle.mc_model.specs.Front.{same_cid, is_processed, is_linked, is_gap, links, gaps, Head, heads, head_at}
-use Rattle.mc_model.specs.Graph.{Vertex, times, has, cids_in, in_graph, all_links, no_gaps, gaps_in, heads_in, HasNoCycle, IsReached}
+use Rattle.mc_model.specs.Graph.{times, has, all_links, no_gaps, gaps_in, heads_in, HasNoCycle, IsReached}
 use Rattle.mc_model.specs.Kept.{Kept, IsKept, is_stored, processed, blocks_in, cids_of}
 use Rattle.mc_model.specs.Offer.{is_good}
 use Rattle.mc_model.specs.State.{Durable, vertices, durable_of, AllGood, DurableHolds}
-use Rattle.mc_model.proofs.Blocks.{block_in_cid, is_processed_has, is_linked_has, cids_in_vertices, in_graph_stored, all_links_blocks, times_once, once_times}
+use Rattle.mc_model.proofs.Blocks.{is_processed_has, is_linked_has, cids_in_vertices, in_graph_stored, all_links_blocks, times_once, once_times}
 use Rattle.mc_model.proofs.Climb.{reached, path_within, reached_same}
-use Rattle.mc_model.proofs.Counts.{cid_is, cid_itself, and_both, both_and, all_has, has_all}
+use Rattle.mc_model.proofs.Counts.{cid_is, and_both, both_and, all_has, has_all}
 use Rattle.mc_model.proofs.Heads.{heads_cid, is_head}
 
 not_zero : (n : ℕ) → (suc n == 0) ≡ false
@@ -122,9 +121,9 @@ head_cids kept = map (λ (head : Head). head.0) (heads (processed kept))
 pub kept_reach : (kept : Kept) → IsKept kept → length (gaps (processed kept)) ≡ 0 → HasNoCycle (vertices kept.graph) → (c : Cid) → has c kept.order ≡ true ↔ IsReached (vertices kept.graph) (head_cids kept) c
 kept_reach kept sound none acyclic c = (
   (λ e. reached_same (vertices kept.graph) (heads_in (vertices kept.graph) kept.order) (head_cids kept) (λ d. sym (kept_heads kept sound d)) c
-    (reached (vertices kept.graph) kept.order acyclic (kept_holds kept sound).stored c e)),
+      (reached (vertices kept.graph) kept.order acyclic (kept_holds kept sound).stored c e)),
   (λ h. let from : IsReached (vertices kept.graph) (heads_in (vertices kept.graph) kept.order) c = reached_same (vertices kept.graph) (head_cids kept) (heads_in (vertices kept.graph) kept.order) (kept_heads kept sound) c h in
-    path_within (vertices kept.graph) kept.order full from.path c from.along),
+      path_within (vertices kept.graph) kept.order full from.path c from.along),
 )
   where
     full : no_gaps (vertices kept.graph) kept.order ≡ true

@@ -1,17 +1,16 @@
 -- What a keeper's commits need is where the events that they are may come.
-use Rattle.std.proofs.Common.{◌≡◌, ℕ, ◌+◌, ◌≤◌, Bool, true, false, not, cond, List, [], ◌∷◌, ◌++◌, map, ◌||◌, ◌&&◌, sym, refl, ap, ◌∙◌, subst, inl, inr, ◌⊎◌, arith}
-use Rattle.std.specs.List.{list_any, list_all}
-use Rattle.std.proofs.lemmas.List.{append-nil}
+use Rattle.std.proofs.Common.{◌≡◌, ◌+◌, ◌≤◌, Bool, true, false, List, [], ◌∷◌, ◌++◌, ◌||◌, sym, refl, ap, ◌∙◌, inl, inr, arith}
+use Rattle.std.specs.List.{list_any}
 use Rattle.mc_base.specs.declared.cid.Cid.{Cid}
 use Rattle.mc_model.specs.declared.block.Stored.{Stored}
 use Rattle.mc_model.specs.Ascending.{is_once}
 use Rattle.mc_model.specs.Events.{processed_mark, ended_mark, with_blocks, with_processed, with_walk_ended}
 use Rattle.mc_model.specs.Front.{same_cid, is_among}
-use Rattle.mc_model.specs.Graph.{Vertex, times, has, cids_in, in_graph, no_gaps}
+use Rattle.mc_model.specs.Graph.{Vertex, times, has, cids_in}
 use Rattle.mc_model.specs.Kept.{Kept, is_stored, cids_of}
 use Rattle.mc_model.specs.State.{Durable, vertex_of, vertices, durable_of}
 use Rattle.mc_model.proofs.Blocks.{cids_in_vertices, in_graph_stored, times_once}
-use Rattle.mc_model.proofs.Counts.{cid_is, or_cases, or_none, all_has, times_none, times_has}
+use Rattle.mc_model.proofs.Counts.{cid_is, or_cases, or_none, times_none}
 use Rattle.mc_model.proofs.Members.{list_any-map}
 
 -- a test that holds for none of a list

@@ -1,7 +1,7 @@
 -- Offers that are good, and closed sets as least sets.
-use Rattle.std.proofs.Common.{◌≡◌, ℕ, Bool, true, false, not, cond, List, [], ◌∷◌, ◌++◌, Option, Some, None, ◌||◌, ◌&&◌, sym, refl, ap, ◌∙◌, subst, inl, inr, ◌⊎◌, length}
+use Rattle.std.proofs.Common.{◌≡◌, ℕ, Bool, true, false, not, cond, List, [], ◌∷◌, Some, ◌&&◌, refl, ap, ◌∙◌, inl, inr, length}
 use Rattle.std.specs.Prelude.{nat_le, Result, Ok, Err, unwrap_or}
-use Rattle.std.specs.List.{find, flat_map}
+use Rattle.std.specs.List.{find}
 use Rattle.std.specs.Result.{is_ok, result_ok}
 use Rattle.std.specs.Str.{bytes_eq}
 use Rattle.mc_base.specs.Cid.{digest_of}
@@ -9,7 +9,7 @@ use Rattle.mc_base.specs.NodeRead.{node_of}
 use Rattle.mc_base.specs.declared.cid.Cid.{Cid}
 use Rattle.mc_model.specs.declared.block.Block.{Block}
 use Rattle.mc_model.specs.Drain.{is_new, is_way, IsAdded, IsClosed}
-use Rattle.mc_model.specs.Found.{Found, Good, Offers, PeerOffers, peer_list, offers_from, found_bytes, found_reading, found_as, found_in, is_found, found_links}
+use Rattle.mc_model.specs.Found.{Good, Offers, found_bytes, found_reading, found_as, found_in, is_found, found_links}
 use Rattle.mc_model.specs.Graph.{has}
 use Rattle.mc_model.specs.Offer.{Damage, TooLarge, WrongDigest, block_max, empty_delta, offer, is_good, block_of, block_of_node}
 use Rattle.mc_model.proofs.Counts.{and_both, both_and}

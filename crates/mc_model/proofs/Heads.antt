@@ -1,5 +1,5 @@
 -- The order of heads, and heads as members.
-use Rattle.std.proofs.Common.{◌≡◌, ℕ, Bool, true, false, not, cond, List, [], ◌∷◌, map, Option, Some, None, ◌||◌, ◌&&◌, sym, refl, ap, ◌∙◌}
+use Rattle.std.proofs.Common.{◌≡◌, ℕ, Bool, true, false, not, cond, List, [], ◌∷◌, map, Some, None, ◌||◌, ◌&&◌, sym, refl, ap, ◌∙◌}
 use Rattle.std.specs.Prelude.{is_some, filter}
 use Rattle.std.specs.List.{list_any, find}
 use Rattle.std.specs.List.Sorted.{IsStrictlySortedBy}

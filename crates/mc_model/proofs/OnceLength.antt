@@ -1,5 +1,5 @@
 -- Lists without repeats and with the same members are of one length.
-use Rattle.std.proofs.Common.{◌≡◌, ℕ, suc, ◌+◌, ◌≤◌, Bool, true, false, not, cond, List, [], ◌∷◌, ◌||◌, ◌&&◌, sym, refl, ap, ◌∙◌, inl, inr, arith, length}
+use Rattle.std.proofs.Common.{◌≡◌, ℕ, suc, ◌+◌, ◌≤◌, Bool, true, false, not, cond, List, [], ◌∷◌, ◌||◌, sym, refl, ap, ◌∙◌, arith, length}
 use Rattle.std.specs.List.{list_any}
 use Rattle.mc_base.specs.declared.cid.Cid.{Cid}
 use Rattle.mc_model.specs.Ascending.{once}
@@ -7,7 +7,7 @@ use Rattle.mc_model.specs.Front.{same_cid}
 use Rattle.mc_model.specs.Graph.{times, has}
 use Rattle.mc_model.specs.SameMembers.{SameMembers}
 use Rattle.mc_model.specs.Wanted.{others}
-use Rattle.mc_model.proofs.Counts.{cid_is, cid_itself, or_none, times_has, has_times, times_none, times-filter}
+use Rattle.mc_model.proofs.Counts.{cid_is, cid_itself}
 use Rattle.mc_model.proofs.Held.{others_times}
 
 same_turned : (c d : Cid) → same_cid c d ≡ same_cid d c

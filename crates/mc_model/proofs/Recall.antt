@@ -1,14 +1,13 @@
 -- What is in flight comes back one after another.
-use Rattle.std.proofs.Common.{◌≡◌, ℕ, ◌+◌, ◌≤◌, Bool, true, false, not, cond, List, [], ◌∷◌, ◌++◌, map, sym, refl, ap, ◌∙◌, subst, arith, filter, Some}
-use Rattle.std.specs.Prelude.{fold}
+use Rattle.std.proofs.Common.{◌≡◌, ◌+◌, ◌≤◌, Bool, true, false, not, cond, List, [], ◌∷◌, ◌++◌, sym, refl, ap, ◌∙◌, subst, arith, Some}
 use Rattle.std.proofs.lemmas.List.{append_assoc, append-nil}
 use Rattle.mc_base.specs.declared.cid.Cid.{Cid}
-use Rattle.mc_model.specs.Events.{Event, GiveBack, MayComeAll, after, happens, Goes}
+use Rattle.mc_model.specs.Events.{GiveBack, Goes}
 use Rattle.mc_model.specs.Front.{same_cid}
 use Rattle.mc_model.specs.Graph.{times, has}
 use Rattle.mc_model.specs.State.{Durable, Running, State}
-use Rattle.mc_model.specs.Wanted.{Queue, IsOnce, others, give_back, recall}
-use Rattle.mc_model.proofs.Counts.{cid_is, cid_itself, or_left, times_has, times_none}
+use Rattle.mc_model.specs.Wanted.{Queue, IsOnce, others, recall}
+use Rattle.mc_model.proofs.Counts.{cid_is, cid_itself, or_left, times_has}
 use Rattle.mc_model.proofs.Goes.{goes_not, goes_one, goes_then}
 use Rattle.mc_model.proofs.Held.{in_parts}
 
@@ -48,8 +47,8 @@ back durable run q [] waiting once =
 back durable run q (c ∷ flight) waiting once =
     let now : State = running durable run (with_parts q waiting (c ∷ flight)) in
     let first : Goes now (running durable run (with_parts q (waiting ++ c ∷ []) flight)) =
-        subst (λ (z : List Cid). Goes now (running durable run (with_parts q (waiting ++ c ∷ []) z))) (others_first flight c (once c))
-        (goes_one now (GiveBack c) (or_left (same_cid c c) (has c flight) (cid_itself c))) in
+    subst (λ (z : List Cid). Goes now (running durable run (with_parts q (waiting ++ c ∷ []) z))) (others_first flight c (once c))
+    (goes_one now (GiveBack c) (or_left (same_cid c c) (has c flight) (cid_itself c))) in
     subst (λ (z : List Cid). Goes now (running durable run (with_parts q z []))) (append_assoc waiting (c ∷ []) flight)
     (goes_then now _ _ first (back durable run q flight (waiting ++ c ∷ []) rest))
   where

@@ -6,11 +6,10 @@ use Rattle.std.proofs.lemmas.List.Elements.{filter_agree}
 use Rattle.mc_base.specs.declared.cid.Cid.{Cid}
 use Rattle.mc_model.specs.declared.block.Block.{Block}
 use Rattle.mc_model.specs.Ascending.{once}
-use Rattle.mc_model.specs.Front.{same_cid, is_among, is_processed, is_linked, links, is_gap, gaps, Head, head_of, head_cmp, heads, head_at}
-use Rattle.mc_model.specs.Live.{has_tomb, is_hidden, is_tomb, ranked_in, live_among, live, value_row}
-use Rattle.mc_model.specs.Rank.{greatest}
+use Rattle.mc_model.specs.Front.{same_cid, is_among, is_processed, is_linked, links, is_gap, gaps, head_of, head_cmp, heads, head_at}
+use Rattle.mc_model.specs.Live.{has_tomb, is_hidden, is_tomb, ranked_in, live, value_row}
 use Rattle.mc_model.specs.SameMembers.{SameMembers}
-use Rattle.mc_model.proofs.Ascending.{ascending_ascends, ascending_fixed}
+use Rattle.mc_model.proofs.Ascending.{ascending_fixed}
 use Rattle.mc_model.proofs.Counts.{cid_is, or_cases, or_left, or_right}
 use Rattle.mc_model.proofs.Greatest.{greatest_same}
 use Rattle.mc_model.proofs.Heads.{head_total, head_tied, heads_any, heads_sorted, is_head}
@@ -85,7 +84,7 @@ module _ (xs ys : List Block) (same : SameMembers xs ys) where
         heads_any test xs
         ∙ same.same (λ (block : Block). not (is_linked xs block.cid) && test (head_of block))
         ∙ any_agree (λ (block : Block). not (is_linked xs block.cid) && test (head_of block)) (λ (block : Block). not (is_linked ys block.cid) && test (head_of block))
-          (λ block. ap (λ t. not t && test (head_of block)) (same_linked block.cid)) ys
+        (λ block. ap (λ t. not t && test (head_of block)) (same_linked block.cid)) ys
         ∙ sym (heads_any test ys);
   }
 

@@ -7,8 +7,8 @@ use Rattle.mc_model.specs.Drain.{is_way, is_in_order}
 use Rattle.mc_model.specs.Found.{Offers, Nothing, Good}
 use Rattle.mc_model.specs.Front.{same_cid}
 use Rattle.mc_model.specs.Graph.{Vertex, heads_in, gaps_in, is_path}
-use Rattle.mc_model.specs.State.{Durable, Running, State, OpenBatch, nothing_durable}
-use Rattle.mc_model.specs.Wanted.{Queue, no_queue}
+use Rattle.mc_model.specs.State.{State, OpenBatch, nothing_durable}
+use Rattle.mc_model.specs.Wanted.{no_queue}
 
 abbrev one : Cid
 one = record { 0 = 1 ∷ [] }

@@ -1,5 +1,5 @@
 -- The state of a replica: what outlives a stop, and what doesn't; and where it is sound.
-use Rattle.std.specs.Prelude.{⊤, ℕ, ◌+◌, ◌≤◌, ◌≡◌, Bool, true, false, not, List, [], ◌∷◌, ◌++◌, length, take, drop, map, Option, Some, None}
+use Rattle.std.specs.Prelude.{⊤, ℕ, ◌≤◌, ◌≡◌, Bool, true, false, not, List, [], ◌∷◌, ◌++◌, length, take, drop, map, Option, Some, None}
 use Rattle.mc_base.specs.declared.cid.Cid.{Cid}
 use Rattle.mc_model.specs.declared.block.Stored.{Stored}
 use Rattle.mc_model.specs.declared.delta.Element.{Element}

@@ -16,7 +16,7 @@ pub fn events_keep()
     ensures stays { (state : State) (events : List Event) → IsSound state → MayComeAll state events → StaysSound state events }
     ensures failed { (state : State) (event : Event) (wholly : Bool) → is_commit state.durable event ≡ true → MayCome state.durable state.run event →
         MayComeAll state (failed wholly event)
-            × (after state (failed wholly event) ≡ record { durable = if wholly then (happens state event).durable else state.durable; run = None }) }
+        × (after state (failed wholly event) ≡ record { durable = if wholly then (happens state event).durable else state.durable; run = None }) }
     ensures others { (state : State) (event : Event) → is_commit state.durable event ≡ false → (happens state event).durable ≡ state.durable }
 {}
 
@@ -54,12 +54,12 @@ pub fn drain_is_closed()
         DrainsAll found (record { durable = durable; run = Some run }) events →
         IsDrained found (after (record { durable = durable; run = Some run }) events) →
         IsClosure found durable (wanted run.queue) (after (record { durable = durable; run = Some run }) events).durable
-            (wanted_in (after (record { durable = durable; run = Some run }) events).run) }
+        (wanted_in (after (record { durable = durable; run = Some run }) events).run) }
     ensures so_far { (found : Offers) (durable : Durable) (run : Running) (events : List Event) →
         IsSound (record { durable = durable; run = Some run }) → MayComeAll (record { durable = durable; run = Some run }) events →
         DrainsAll found (record { durable = durable; run = Some run }) events →
         IsSoFar found durable (wanted run.queue) (after (record { durable = durable; run = Some run }) events).durable
-            (wanted_in (after (record { durable = durable; run = Some run }) events).run) }
+        (wanted_in (after (record { durable = durable; run = Some run }) events).run) }
     ensures parts { (found : Offers) (state : State) (events : List Event) → DrainsAll found state events → RunFits found state.run → RunFits found (after state events).run }
     ensures emptied { (found : Offers) (state : State) (events : List Event) → DrainsAll found state events → RunFits found state.run →
         IsEmptied (after state events).run → IsDrained found (after state events) }
