@@ -27,6 +27,7 @@ pub record IsAdded (found : Offers) (order start : List Cid) (c : Cid) : Type 0 
 abbrev pub IsClosed : Offers → List Cid → List Cid → Cid → Type 0
 IsClosed found order start c = (has c order ≡ true) ⊎ IsAdded found order start c
 
+-- a block that one that is added links to
 pub record IsLinkOfAdded (found : Offers) (order start : List Cid) (c : Cid) : Type 0 where
   pub from : Cid
   pub added : IsAdded found order start from
@@ -58,6 +59,7 @@ DrainRuns found durable run (Bad c damage) = found c ≡ Damaged damage
 DrainRuns found durable run Requeue = ⊤
 DrainRuns found durable run event = ⊥
 
+-- the same, where the replica runs
 abbrev pub Drains : Offers → Durable → Option Running → Event → Type 0
 Drains found durable None event = ⊥
 Drains found durable (Some run) event = DrainRuns found durable run event
@@ -106,6 +108,7 @@ AllDamaged found (b ∷ bad) = (found b.0 ≡ Damaged b.1) × AllDamaged found b
 abbrev pub PartsFit : Offers → Queue → Type 0
 PartsFit found q = AllNothing found q.missing × AllDamaged found q.bad
 
+-- so it is, and the replica runs
 abbrev pub RunFits : Offers → Option Running → Type 0
 RunFits found None = ⊥
 RunFits found (Some run) = PartsFit found run.queue

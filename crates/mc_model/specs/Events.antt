@@ -6,6 +6,9 @@ use Rattle.mc_model.specs.Graph.{Vertex, times, has, cids_in, in_graph, all_link
 use Rattle.mc_model.specs.State.{Durable, OpenBatch, Walk, Running, State, AllGood, IsSound}
 use Rattle.mc_model.specs.Wanted.{Queue, no_queue, want_all, hear_all, start_first, give_back, to_missing, to_bad, requeue, without}
 
+-- Store and Process: blocks are stored, and stored blocks are processed. Hear: a message names blocks. Want: a job begins.
+-- GiveBack, Missing, Bad: it ends without a block. Requeue: what is missing or bad is to be tried again. WalkBegin,
+-- WalkVisit, WalkEnd: a walk over the processed blocks. Batch: the open batch changes. Stop and Open: the replica stops and runs.
 pub data Event : Type 0 where
   Store : (blocks : List Vertex) → Event
   Process : (cids : List Cid) → Event

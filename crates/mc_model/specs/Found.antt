@@ -31,6 +31,7 @@ pub record PeerOffers : Type 0 where
   pub planted : Option (List ℕ)
   pub stored : Option (List ℕ)
 
+-- the planted one, and then the stored one
 abbrev pub peer_list : PeerOffers → List (List ℕ)
 peer_list peer = option_list peer.planted ++ option_list peer.stored
 
@@ -63,6 +64,7 @@ is_found Nothing = false
 is_found (Damaged number) = false
 is_found (Good links) = true
 
+-- the links of what was found, or none
 abbrev pub found_links : Found → List Cid
 found_links Nothing = []
 found_links (Damaged number) = []

@@ -55,6 +55,7 @@ pub record State : Type 0 where
 abbrev pub IsGoodVertex : Vertex → Type 0
 IsGoodVertex vertex = (is_good vertex.cid vertex.bytes ≡ true) × (vertex.links ≡ (block_of vertex.cid vertex.bytes).links)
 
+-- so is each of these
 abbrev pub AllGood : List Vertex → Type 0
 AllGood [] = ⊤
 AllGood (vertex ∷ graph) = IsGoodVertex vertex × AllGood graph
@@ -90,6 +91,7 @@ abbrev pub RunHolds : Durable → Option Running → Type 0
 RunHolds durable None = durable.mark ≡ false → no_gaps durable.graph durable.order ≡ true
 RunHolds durable (Some run) = IsOnce durable.order run.queue × WholeHolds durable run.queue run.walk run.whole
 
+-- what outlives a stop is sound, and so is the rest with it
 pub record IsSound (state : State) : Type 0 where
   pub durable : DurableHolds state.durable
   pub run : RunHolds state.durable state.run

@@ -36,10 +36,11 @@ IsOnce order q = (c : Cid) → held order q c ≤ 1
 abbrev pub to_waiting : Queue → Cid → Queue
 to_waiting q c = record q { waiting = q.waiting ++ c ∷ [] }
 
--- the block is wanted now, unless it is processed or wanted already
+-- the block comes to the back of waiting, unless it is processed or wanted already
 abbrev pub want_unless : Bool → Queue → Cid → Queue
 want_unless is_processed q c = if is_processed || has c (wanted q) then q else to_waiting q c
 
+-- the block is linked by a processed one: it is wanted now, unless it is processed or wanted already
 abbrev pub want : List Cid → Queue → Cid → Queue
 want order q c = want_unless (has c order) q c
 
@@ -51,6 +52,7 @@ want_all order q cids = fold (want order) q cids
 abbrev pub others : List Cid → Cid → List Cid
 others cids c = filter (λ d. not (same_cid d c)) cids
 
+-- the same of bad ones
 abbrev pub bad_others : List (Cid × ℕ) → Cid → List (Cid × ℕ)
 bad_others bad c = filter (λ (b : Cid × ℕ). not (same_cid b.0 c)) bad
 
@@ -75,13 +77,15 @@ abbrev pub start_first : Queue → List Cid → Queue
 start_first q [] = q
 start_first q (c ∷ rest) = record q { waiting = rest; flight = q.flight ++ c ∷ [] }
 
--- out of flight, to the back of waiting, of missing or of bad
+-- the block comes out of flight, to the back of waiting
 abbrev pub give_back : Queue → Cid → Queue
 give_back q c = to_waiting (out_of_flight q c) c
 
+-- to the back of missing
 abbrev pub to_missing : Queue → Cid → Queue
 to_missing q c = record (out_of_flight q c) { missing = q.missing ++ c ∷ [] }
 
+-- to the back of bad, with the number of its damage
 abbrev pub to_bad : Queue → Cid → ℕ → Queue
 to_bad q c damage = record (out_of_flight q c) { bad = q.bad ++ (c, damage) ∷ [] }
 
