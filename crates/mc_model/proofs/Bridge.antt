@@ -1,20 +1,23 @@
 -- What a keeper tells and what outlives a stop: the same links, gaps and heads, and both are sound together.
 use Rattle.std.proofs.Common.{rules, ◌≡◌, ℕ, suc, ◌≤◌, Bool, true, false, not, cond, List, [], ◌∷◌, ◌++◌, map, ◌||◌, ◌&&◌, sym, refl, ap, ◌∙◌, subst, length}
-use Rattle.std.specs.Prelude.{is_some, filter, ◌==◌, ◌↔◌}
-use Rattle.std.specs.List.{list_all}
+use Rattle.std.specs.Prelude.{is_some, filter, ◌==◌, ◌↔◌, Option, Some, None, unwrap_or}
+use Rattle.std.specs.List.{list_all, find, flat_map}
+use Rattle.std.specs.Option.{option_map}
 use Rattle.std.proofs.lemmas.List.Elements.{filter_agree}
 use Rattle.mc_base.specs.declared.cid.Cid.{Cid}
 use Rattle.mc_model.specs.declared.block.Stored.{Stored}
 use Rattle.mc_model.specs.Ascending.{once}
 use Rattle.mc_model.specs.Events.{processed_mark}
+use Rattle.mc_model.specs.Found.{Good, PeerOffers, peer_list, offers_from, found_in}
 use Rattle.mc_model.specs.Front.{same_cid, is_processed, is_linked, is_gap, links, gaps, Head, heads, head_at}
-use Rattle.mc_model.specs.Graph.{times, has, all_links, no_gaps, gaps_in, heads_in, HasNoCycle, IsReached}
-use Rattle.mc_model.specs.Kept.{Kept, IsKept, is_stored, processed, blocks_in, cids_of}
+use Rattle.mc_model.specs.Graph.{times, has, links_in, all_links, no_gaps, gaps_in, heads_in, HasNoCycle, IsReached}
+use Rattle.mc_model.specs.Kept.{Kept, IsKept, bytes_at, is_stored, block_under, processed, blocks_in, cids_of}
 use Rattle.mc_model.specs.Offer.{is_good}
 use Rattle.mc_model.specs.State.{Durable, vertices, durable_of, AllGood, DurableHolds}
-use Rattle.mc_model.proofs.Blocks.{is_processed_has, is_linked_has, cids_in_vertices, in_graph_stored, all_links_blocks, times_once, once_times}
+use Rattle.mc_model.proofs.Blocks.{is_processed_has, is_linked_has, cids_in_vertices, in_graph_stored, links_in_stored, all_links_blocks, times_once, once_times}
 use Rattle.mc_model.proofs.Climb.{reached, path_within, reached_same}
 use Rattle.mc_model.proofs.Counts.{cid_is, and_both, both_and, all_has, has_all}
+use Rattle.mc_model.proofs.Found.{first_good}
 use Rattle.mc_model.proofs.Heads.{heads_cid, is_head}
 
 not_zero : (n : ℕ) → (suc n == 0) ≡ false
@@ -133,3 +136,25 @@ kept_reach kept sound none acyclic c = (
 pub kept_mark : (kept : Kept) (cids : List Cid) → IsKept (record { graph = kept.graph; order = kept.order ++ cids; mark = kept.mark })
     → processed_mark true (durable_of kept) (kept.order ++ cids) ≡ not (length (gaps (blocks_in kept.graph (kept.order ++ cids))) == 0)
 kept_mark kept cids sound = ap not (kept_no_gaps (record { graph = kept.graph; order = kept.order ++ cids; mark = kept.mark }) sound)
+
+-- a stored block is good
+stored_good : (graph : List Stored) (c : Cid) (bytes : List ℕ) → list_all (λ (stored : Stored). is_good stored.cid stored.bytes) graph ≡ true → bytes_at graph c ≡ Some bytes → is_good c bytes ≡ true
+stored_good [] c bytes all e = absurd (let no : false ≡ true = ap is_some e in cc)
+stored_good (s ∷ graph) c bytes all e =
+    let parts = and_both (is_good s.cid s.bytes) (list_all (λ (stored : Stored). is_good stored.cid stored.bytes) graph) all in
+    elim (same_cid c s.cid) as (λ t. same_cid c s.cid ≡ t
+    → option_map (λ (stored : Stored). stored.bytes) (cond t (Some s) (find (λ (stored : Stored). same_cid c stored.cid) graph)) ≡ Some bytes → is_good c bytes ≡ true) [
+      | true ↦ λ t h. let same : s.bytes ≡ bytes = ap (λ found. unwrap_or found []) h in ap (λ (z : Cid). is_good z bytes) (cid_is c s.cid t) ∙ ap (is_good s.cid) (sym same) ∙ parts.0
+      | false ↦ λ t h. stored_good graph c bytes parts.1 h
+    ] refl e
+
+-- and its own replica finds it first, with the links that it has in the graph
+pub own_found : (kept : Kept) → IsKept kept → (c : Cid) (peers : List PeerOffers) → is_stored kept.graph c ≡ true
+    → found_in (offers_from (bytes_at kept.graph c) peers) c ≡ Good (links_in (vertices kept.graph) c)
+own_found kept sound c peers e = found (bytes_at kept.graph c) refl e
+  where
+    found : (bytes : Option (List ℕ)) → bytes_at kept.graph c ≡ bytes → is_some bytes ≡ true → found_in (offers_from bytes peers) c ≡ Good (links_in (vertices kept.graph) c)
+    found None same some = absurd (let no : false ≡ true = some in cc)
+    found (Some bytes) same some =
+        first_good c bytes (flat_map peer_list peers) (stored_good kept.graph c bytes sound.good same)
+        ∙ ap Good (ap (λ z. (block_under c z).links) (sym same) ∙ sym (links_in_stored kept.graph c e))

@@ -5,9 +5,10 @@ ghost use Rattle.mc_base.specs.declared.cid.Cid.{Cid};
 ghost use Rattle.mc_model.specs.declared.block.Stored.{Stored};
 ghost use Rattle.mc_model.specs.Ascending.{once};
 ghost use Rattle.mc_model.specs.Events.{processed_mark, ended_mark, with_blocks, with_processed, with_walk_ended};
+ghost use Rattle.mc_model.specs.Found.{Good, PeerOffers, offers_from, found_in};
 ghost use Rattle.mc_model.specs.Front.{Head, same_cid, is_processed, is_linked, is_gap, links, gaps, heads, head_at};
 ghost use Rattle.mc_model.specs.Graph.{has, in_graph, links_in, all_links, no_gaps, gaps_in, heads_in, HasNoCycle, IsReached};
-ghost use Rattle.mc_model.specs.Kept.{Kept, IsKept, is_stored, block_in, blocks_in, processed};
+ghost use Rattle.mc_model.specs.Kept.{Kept, IsKept, bytes_at, is_stored, block_in, blocks_in, processed};
 ghost use Rattle.mc_model.specs.State.{DurableHolds, durable_of, vertices};
 
 /// What a keeper tells has, as a replica's durable state, the same links, gaps and heads; and it is sound as the one
@@ -46,4 +47,11 @@ pub fn kept_changes_are_events()
 pub fn kept_without_gaps_is_reach()
     ensures { (kept : Kept) → IsKept kept → length (gaps (processed kept)) ≡ 0 → HasNoCycle (durable_of kept).graph →
         (cid : Cid) → has cid kept.order ≡ true ↔ IsReached (durable_of kept).graph (map (λ (head : Head). head.0) (heads (processed kept))) cid }
+{}
+
+/// A stored block is what its own replica's offers come to, whatever the others offer, with the links that it has in the
+/// graph.
+pub fn own_block_decides()
+    ensures { (kept : Kept) → IsKept kept → (cid : Cid) (peers : List PeerOffers) → is_stored kept.graph cid ≡ true →
+        found_in (offers_from (bytes_at kept.graph cid) peers) cid ≡ Good (links_in (durable_of kept).graph cid) }
 {}
