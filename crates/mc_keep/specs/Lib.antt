@@ -1,4 +1,5 @@
 pub mod Causes
 pub mod Changes
+pub mod ElementOrder
 pub mod Next
 pub mod Tables

@@ -35,10 +35,6 @@ element_rows blocks = flat_map (λ (block : Block). map (element_row block) bloc
 abbrev pub element_rows_of : List Block → List ℕ → List ElementRow
 element_rows_of blocks key = filter (λ (row : ElementRow). bytes_eq row.key key) (element_rows blocks)
 
--- the order of a key's element rows: by the block, and then by the value
-abbrev pub element_cmp : ElementRow → ElementRow → Ordering
-element_cmp = then_cmp (on (λ (row : ElementRow). row.cid.0) (slice_cmp nat_cmp)) (on (λ (row : ElementRow). row.value) (slice_cmp nat_cmp))
-
 abbrev pub same_element : ElementRow → ElementRow → Bool
 same_element a b = bytes_eq a.key b.key && (same_cid a.cid b.cid && bytes_eq a.value b.value)
 

@@ -10,7 +10,8 @@ ghost use Rattle.mc_model.specs.Kept.{Kept, IsKept, processed, bytes_at, is_stor
 ghost use Rattle.mc_keep.specs.Causes.{IfTold, KeepCause, StaysQuiet, burnt, fires, CommitFails};
 ghost use Rattle.mc_keep.specs.Changes.{row_count, changed, heads_in_rows};
 ghost use Rattle.mc_keep.specs.Next.{IsNext};
-ghost use Rattle.mc_keep.specs.Tables.{ChangesFit, IsSummary, IsSmall, IsValueRow, element_cmp, element_rows_of};
+ghost use Rattle.mc_keep.specs.ElementOrder.{element_cmp};
+ghost use Rattle.mc_keep.specs.Tables.{ChangesFit, IsSummary, IsSmall, IsValueRow, element_rows_of};
 
 use crate::{Changes, ElementRow, HeadRow, KeepError, Summary, ValueRow};
 use mc_base::{Bytes, Cid, Counted, Failed, List};

@@ -1,5 +1,15 @@
 // The rows of a keeper's tables.
+ghost use Rattle.std.specs.Prelude.{refl};
+ghost use Rattle.std.proofs.Common.{◌∙◌};
+ghost use Rattle.std.specs.Ordering.{eq_by_cmp, as_partial_cmp};
+ghost use Rattle.std.specs.Cmp.{partial_order_from_own_ties};
+ghost use Rattle.std.specs.Cmp.Rules.{comparing};
+ghost use Rattle.std.proofs.Common.{rules};
+ghost use Rattle.std.proofs.lemmas.Cmp.{eq_by_cmp_equiv};
+ghost use Rattle.mc_keep.specs.ElementOrder.{element_cmp, element_total};
+
 use mc_base::{Bytes, Cid, Text};
+use std::cmp::Ordering;
 
 /// An element of a processed block.
 #[derive(Debug, Drop)]
@@ -12,6 +22,49 @@ pub struct ElementRow {
     pub priority: u64,
     /// The value.
     pub value: Bytes,
+}
+
+impl PartialEq for ElementRow {
+    ghost eq = { eq_by_cmp element_cmp };
+
+    ghost laws = { record { symm = (eq_by_cmp_equiv element_total).symm; trans = λ x y z e f. (eq_by_cmp_equiv element_total).congr x y z e ∙ f } };
+
+    fn eq(&self, other: &ElementRow) -> bool {
+        self.cmp(other).is_eq()
+    }
+}
+
+impl Eq for ElementRow {
+    ghost laws = { eq_by_cmp_equiv element_total };
+}
+
+impl PartialOrd for ElementRow {
+    ghost partial_cmp = { as_partial_cmp element_cmp };
+
+    ghost laws = { partial_order_from_own_ties (Prim.search (comparing, rules)) (Prim.search (comparing, rules)) };
+
+    fn partial_cmp(&self, other: &ElementRow) -> Option<Ordering> {
+        Some(self.cmp(other))
+    }
+}
+
+/// By the block, and then by the value, the key and the priority.
+impl Ord for ElementRow {
+    ghost cmp = { element_cmp };
+
+    ghost total = { element_total };
+
+    ghost matches_partial_cmp = { λ x y. refl };
+
+    ghost matches_eq = { λ x y. refl };
+
+    fn cmp(&self, other: &ElementRow) -> Ordering {
+        self.cid
+            .cmp(&other.cid)
+            .then(self.value.as_slice().cmp(other.value.as_slice()))
+            .then(self.key.as_bytes().cmp(other.key.as_bytes()))
+            .then(self.priority.cmp(&other.priority))
+    }
 }
 
 /// A tombstone of a processed block.
@@ -35,7 +88,7 @@ pub struct ValueRow {
 }
 
 /// A processed block to which no processed block links.
-#[derive(Clone, Copy, Debug, PartialEq, Eq)]
+#[derive(Clone, Copy, Debug, PartialEq, Eq, PartialOrd, Ord)]
 pub struct HeadRow {
     /// The block.
     pub cid: Cid,

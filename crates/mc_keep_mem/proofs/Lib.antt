@@ -3,3 +3,5 @@ pub mod CidFacts
 pub mod FreshFacts
 pub mod GraphFacts
 pub mod ValueFacts
+pub mod TombFacts
+pub mod ChainFacts
