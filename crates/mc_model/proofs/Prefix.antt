@@ -1,7 +1,7 @@
 -- No event takes anything out of L or B.
-use Rattle.std.proofs.Common.{◌≡◌, ℕ, List, [], ◌∷◌, ◌++◌, Option, Some, None, sym, refl, ap, ◌∙◌}
+use Rattle.std.proofs.Common.{◌≡◌, ℕ, List, [], ◌∷◌, ◌++◌, Option, Some, None, sym, refl, ap, ◌∙◌, subst}
 use Rattle.std.proofs.lemmas.List.{append_assoc, append-nil}
-use Rattle.mc_model.specs.Events.{Event, Store, Process, Hear, Want, GiveBack, Missing, Bad, Requeue, WalkBegin, WalkVisit, WalkEnd, Batch, Stop, Open, visited, runs, comes, happens, after, GoesOn}
+use Rattle.mc_model.specs.Events.{Event, Store, Process, Hear, Want, GiveBack, Missing, Bad, Requeue, WalkBegin, WalkVisit, WalkEnd, Batch, Stop, Open, visited, runs, comes, happens, after, Goes, GoesOn}
 use Rattle.mc_model.specs.State.{Durable, Running, State}
 
 stays : (old new : Durable) → new.order ≡ old.order → new.graph ≡ old.graph → GoesOn old new
@@ -55,3 +55,6 @@ comes_goes durable None Stop = stays durable durable refl refl
 pub goes_on : (state : State) (events : List Event) → GoesOn state.durable (after state events).durable
 goes_on state [] = stays state.durable state.durable refl refl
 goes_on state (event ∷ events) = goes_on_then _ _ _ (comes_goes state.durable state.run event) (goes_on (happens state event) events)
+
+pub goes_grow : (old new : State) → Goes old new → GoesOn old.durable new.durable
+goes_grow old new g = subst (λ (z : State). GoesOn old.durable z.durable) g.ends (goes_on old g.events)

@@ -32,6 +32,7 @@ pub fn events_join()
     ensures one { (state : State) (event : Event) → MayCome state.durable state.run event → Goes state (happens state event) }
     ensures join { (a b c : State) → Goes a b → Goes b c → Goes a c }
     ensures sound { (old new : State) → Goes old new → IsSound old → IsSound new }
+    ensures grows { (old new : State) → Goes old new → GoesOn old.durable new.durable }
 {}
 
 /// Where whole is true and no gap is left, the mark is clear; and then, where no block leads back to itself, what is
