@@ -6,6 +6,7 @@ mod error;
 mod fuse;
 mod keeper;
 mod keepers;
+mod laws;
 mod rows;
 
 pub use changes::{Changes, ValueChange};
@@ -13,5 +14,6 @@ pub use error::KeepError;
 pub use fuse::Fuse;
 pub use keeper::Keeper;
 pub use keepers::{KeeperPlan, Keepers};
+pub use laws::commits_are_events;
 pub use mc_model::Stored;
 pub use rows::{ElementRow, HeadRow, Summary, TombRow, ValueRow};
