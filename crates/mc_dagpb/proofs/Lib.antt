@@ -1,0 +1,4 @@
+pub mod LinkFacts
+pub mod NodeFacts
+pub mod StepFacts
+pub mod Utf8

@@ -1,0 +1,14 @@
+//! Nodes of a content-addressed graph (IPLD dag-pb specification), read by this store's profile and written in its one
+//! spelling.
+#![tactic(auto)]
+
+mod fault;
+mod link;
+mod node;
+mod order;
+mod read;
+mod step;
+
+pub use fault::{NodeError, NodeFault, NodeFaultKind};
+pub use node::Node;
+pub use read::read_node;
