@@ -8,7 +8,9 @@ mod node;
 mod order;
 mod read;
 mod step;
+mod write;
 
 pub use fault::{NodeError, NodeFault, NodeFaultKind};
 pub use node::Node;
 pub use read::read_node;
+pub use write::{node_len, write_node};
