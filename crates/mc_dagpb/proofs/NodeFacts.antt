@@ -53,7 +53,7 @@ good_node text at order node reading ends =
 some_is_not_none : {A : Type 0} {x : A} → ◌≡◌ {A = Option A} (Some x) None → ⊥
 some_is_not_none e = cc
 
-none_before : (before : List ℕ) → node_key_fault before 1 2 ≡ None → has_data before ≡ false
+pub none_before : (before : List ℕ) → node_key_fault before 1 2 ≡ None → has_data before ≡ false
 none_before before allowed = (elim (has_data before) as (λ b. has_data before ≡ b → b ≡ false) [ true ↦ λ e. absurd (some_is_not_none (rw e at allowed)) | false ↦ λ e. refl ]) refl
 
 no_payload : (payload : Option (List ℕ)) → is_some payload ≡ false → payload ≡ None

@@ -33,7 +33,7 @@ parts_in-anywhere : (number first second : ℕ) (text : List ℕ) → parts_in n
 unfolding fronts_from
 parts_in-anywhere number first second text = parts_in-past number 0 first second text
 
-hash_read : (key : ℕ) (fault : Option NodeFault) (found : Option (List ℕ)) (hash : List ℕ) → unless fault (hash_or key found) ≡ Ok hash → found ≡ Some hash
+pub hash_read : (key : ℕ) (fault : Option NodeFault) (found : Option (List ℕ)) (hash : List ℕ) → unless fault (hash_or key found) ≡ Ok hash → found ≡ Some hash
 hash_read key None (Some found) hash e = cc
 hash_read key None None hash e = absurd (cc)
 hash_read key (Some fault) found hash e = absurd (cc)

@@ -3,6 +3,7 @@
 #![tactic(auto)]
 
 mod fault;
+mod laws;
 mod link;
 mod node;
 mod order;
@@ -11,6 +12,7 @@ mod step;
 mod write;
 
 pub use fault::{NodeError, NodeFault, NodeFaultKind};
+pub use laws::nodes_are_read;
 pub use node::Node;
 pub use read::read_node;
 pub use write::{node_len, write_node};
