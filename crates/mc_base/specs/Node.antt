@@ -1,8 +1,7 @@
 -- Nodes of a content-addressed graph (IPLD dag-pb specification), by this store's profile: a node has the fields Data (1) and
 -- Links (2, each a PBLink), and a PBLink has Hash (1), Name (2) and Tsize (3).
-use Rattle.std.specs.Prelude.{◌≡◌, ℕ, List, [], ◌∷◌, ◌++◌, map, Bool, true, false, IsTrue, ◌==◌, ◌&&◌, ◌||◌, Option, Some, None, ⊤, ◌⊎◌}
+use Rattle.std.specs.Prelude.{◌≡◌, ℕ, ◌<◌, List, [], ◌∷◌, ◌++◌, map, Bool, true, false, IsTrue, ◌==◌, ◌&&◌, ◌||◌, Option, Some, None, ⊤, ◌⊎◌}
 use Rattle.std.specs.List.{list_all, flat_map}
-use Rattle.std.specs.List.Sorted.{IsStrictlyIncreasing}
 use Rattle.std.specs.Str.{is_utf8}
 use Rattle.mc_base.specs.Cid.{cid_prefix}
 use Rattle.mc_base.specs.Wire.{Field, Fields, Content, Varint, Fixed64, Part, Fixed32, part_field_bytes}
@@ -14,13 +13,18 @@ is_link_content number (Part bytes) = number == 1 || (number == 2 && is_utf8 byt
 is_link_content number (Varint value) = number == 3
 is_link_content number content = false
 
+-- each number is above the one before, and the first is above this one
+abbrev pub Ascends : ℕ → List Field → Type 0
+Ascends below [] = ⊤
+Ascends below (field ∷ fields) = (below < field.number) × Ascends field.number fields
+
 -- a link by its bytes: its fields in ascending order of their numbers, the first of them Hash
 pub record Link (text hash : List ℕ) : Type 0 where
   pub fields : List Field
   pub others : List Field
   pub parts : Fields text fields
   pub hash_first : fields ≡ record { number = 1; content = Part hash } ∷ others
-  pub ascending : IsStrictlyIncreasing (map (λ field. field.number) fields)
+  pub ascending : Ascends 0 fields
   pub allowed : IsTrue (list_all (λ field. is_link_content field.number field.content) fields)
 
 abbrev pub Links : List (List ℕ) → List (List ℕ) → Type 0

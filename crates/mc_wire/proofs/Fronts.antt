@@ -1,6 +1,7 @@
 -- The fronts of a text, step by step.
 use Rattle.std.proofs.Common.{◌≡◌, ◌≢◌, ℕ, zero, suc, ◌+◌, ◌-◌, ◌<◌, ◌≤◌, List, [], ◌∷◌, length, drop, Bool, true, false, refl, ap, sym, ◌∙◌, arith, Some}
 use Rattle.std.proofs.lemmas.List.{drop_all}
+use Rattle.std.specs.Bool.{if◌then◌else◌}
 use Rattle.mc_base.specs.Wire.{Field}
 use Rattle.mc_base.specs.WireRead.{Front, Whole, NoKey, NoContent, Placed, front_of, is_whole, len_of, fronts_past, fronts_from, fault_of, WireFault}
 
@@ -28,6 +29,12 @@ fronts_field at (byte ∷ bytes) field (suc len) found some inside =
     let less : suc len - 1 ≡ len = omega arith in
     let e : at + suc len ≡ at + 1 + len = omega arith in
     rw (found, less, e, fronts_past-drop len (at + 1) bytes)
+
+-- a text that isn't empty begins with its front
+pub fronts_others : (at : ℕ) (text : List ℕ) → 0 < length text → (others : List Placed) × fronts_from at text ≡ record { at = at; front = front_of text } ∷ others
+unfolding fronts_from
+fronts_others at [] inside = absurd (omega arith)
+fronts_others at (byte ∷ bytes) inside = (if is_whole (front_of (byte ∷ bytes)) then fronts_past (len_of (front_of (byte ∷ bytes)) - 1) (at + 1) bytes else [], refl)
 
 -- a front that is no field is the last
 pub fronts_fault : (at : ℕ) (text : List ℕ) → is_whole (front_of text) ≡ false → 0 < length text → fronts_from at text ≡ record { at = at; front = front_of text } ∷ []

@@ -113,3 +113,9 @@ part_field_is_written number part some small fits = record {
   key_is = varint_is_written (8 * number + 2) (omega arith);
   body_is = (varint_bytes (length part), refl, varint_is_written (length part) fits);
 }
+
+pub varint_bytes_most : (value : ℕ) → value < 2 ^ 64 → (1 ≤ length (varint_bytes value)) × (length (varint_bytes value) ≤ 10)
+varint_bytes_most value fits =
+    let written = varint_is_written value fits in
+    let len : length (varint_bytes value) ≡ length written.first + 1 = rw written.parts (length-append written.first (written.last ∷ [])) in
+    (omega arith, omega (arith, written.at_most_ten))

@@ -1,7 +1,7 @@
 -- What the values of this crate say of a text.
 use Rattle.std.specs.Prelude.{◌≡◌, ◌≢◌, ℕ, ◌+◌, ◌-◌, ◌*◌, ◌<◌, ◌≤◌, List, [], ◌∷◌, length, take, drop, Option, Some, None, Result, Ok, Err, ⊤}
 use Rattle.mc_base.specs.Wire as wire
-use Rattle.mc_base.specs.Wire.{Field}
+use Rattle.mc_base.specs.Wire.{Field, wire_type}
 use Rattle.mc_base.specs.WireRead as read
 use Rattle.mc_base.specs.WireRead.{WireFault, Front, after_key, front_varint, front_content, front_of, fault_of, NoKey, NoContent, Whole, Placed, fronts_from}
 use Rattle.mc_wire.specs.declared.fault.WireFault.{WireFault as Fault}
@@ -40,6 +40,16 @@ EndsAt (Fixed32 from) end = from + 4 ≡ end
 abbrev pub field_at : List ℕ → PlacedField → Field
 field_at text field = record { number = field.number; content = content_at text field.content }
 
+-- a front after a key of this number and wire type
+abbrev pub IsKeyed : ℕ → ℕ → Front → Type 0
+IsKeyed number wire (NoKey fault) = ⊥
+IsKeyed number wire (NoContent keyed typed fault) = (keyed ≡ number) × (typed ≡ wire)
+IsKeyed number wire (Whole field len) = (field.number ≡ number) × (wire_type field.content ≡ wire)
+
+-- the fronts of a text from an offset on
+abbrev pub fronts_at : List ℕ → ℕ → List Placed
+fronts_at text at = fronts_from at (drop at text)
+
 -- the key at an offset of a text
 pub record KeyAt (text : List ℕ) (at : ℕ) (key : Key) : Type 0 where
   pub varint : front_varint (drop at text) ≡ Ok (8 * key.number + key.wire_type, key.next - at)
@@ -47,6 +57,9 @@ pub record KeyAt (text : List ℕ) (at : ℕ) (key : Key) : Type 0 where
   pub front : front_of (drop at text) ≡ after_key key.number key.wire_type (key.next - at) (drop key.next text)
   pub begins : at < key.next
   pub ends : key.next ≤ length text
+  pub keyed : IsKeyed key.number key.wire_type (front_of (drop at text))
+  pub others : List Placed
+  pub fronts : fronts_at text at ≡ record { at = at; front = front_of (drop at text) } ∷ others
 
 -- the content of this wire type at an offset of a text, and the offset after it
 pub record ContentAt (text : List ℕ) (wire_type from : ℕ) (content : Content) (next : ℕ) : Type 0 where
@@ -54,10 +67,6 @@ pub record ContentAt (text : List ℕ) (wire_type from : ℕ) (content : Content
   pub bytes : EndsAt content next
   pub begins : from ≤ next
   pub ends : next ≤ length text
-
--- the fronts of a text from an offset on
-abbrev pub fronts_at : List ℕ → ℕ → List Placed
-fronts_at text at = fronts_from at (drop at text)
 
 -- the field at an offset of a text, after which the next one stands
 pub record FieldAt (text : List ℕ) (at : ℕ) (field : PlacedField) : Type 0 where
@@ -85,6 +94,7 @@ pub record KeyFaultAt (text : List ℕ) (at : ℕ) (fault : WireFaultAt) : Type 
 pub record FieldOf (text : List ℕ) (key : Key) (field : PlacedField) : Type 0 where
   pub number : field.number ≡ key.number
   pub numbered : key.number ≢ 0
+  pub typed : wire_type (content_at text field.content) ≡ key.wire_type
   pub content : ContentAt text key.wire_type key.next field.content field.next
   pub at_key : (at : ℕ) → KeyAt text at key → FieldAt text at field
 

@@ -48,7 +48,8 @@ fn with_tenth(value: u64, byte: u64) -> Result<(u64, usize), WireFault>
 /// The number of bytes of the shortest varint of a value, 1 to 10.
 #[tactic(auto, using(crate::proofs::Writing::varint_steps))]
 pub fn varint_len(value: u64) -> u64
-    ensures { result ≡ length (varint_bytes value) }
+    ensures len { result ≡ length (varint_bytes value) }
+    ensures most { result ≤ 10 }
 {
     let mut len = 1;
     let mut rest = value;
