@@ -1,14 +1,8 @@
 -- Bits in groups of five and of eight.
-use Rattle.std.proofs.Common.{◌≡◌, ◌≢◌, ℕ, zero, suc, ◌+◌, ◌-◌, ◌*◌, ◌/◌, ◌%◌, ◌<◌, ◌≤◌, ◌⊎◌, inl, inr, Bool, true, false, List, [], ◌∷◌, ◌++◌, length, map, Option, None, Some, Result, Ok, Err, append_assoc, append-nil, refl, sym, ap, ◌∙◌, arith, length-append}
-use Rattle.std.specs.Prelude.{◌==◌, ◌&&◌, nat_lt, if◌then◌else◌}
-use Rattle.std.specs.List.{flat_map, list_all, slice_index, AllByRecursion}
-use Rattle.std.proofs.lemmas.Bool.{and_parts, cases_lt, eqb-true}
-use Rattle.std.proofs.lemmas.Bool.Decides.{nat_tests}
-use Rattle.mc_base.specs.Base32.{alphabet32, base32_of, byte_bits, five, fives}
-use Rattle.mc_base.specs.declared.base32.Case.{Case}
-use Rattle.mc_base.specs.declared.base32.Case.TheVariants.{Upper, Lower}
-use Rattle.mc_base32.specs.Reading.{decode32, decode32_from, digit_value, eight, eights, first_bad, first_letter, five_bits, is_cut, is_digit32, reading32, text_bits, unused}
-use Rattle.mc_base32.proofs.GroupFacts.{small_values}
+use Rattle.std.proofs.Common.{◌≡◌, ℕ, ◌/◌, ◌%◌, ◌<◌, List, [], ◌∷◌, ◌++◌, refl, ap, ◌∙◌, arith}
+use Rattle.std.specs.List.{flat_map, AllByRecursion}
+use Rattle.mc_base.specs.Base32.{byte_bits, five, fives}
+use Rattle.mc_base32.specs.Reading.{eight, eights, five_bits, unused}
 
 -- each is 0 or 1
 abbrev pub AreBits : List ℕ → Type 0

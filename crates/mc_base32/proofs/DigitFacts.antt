@@ -1,14 +1,13 @@
 -- Digits by the table, and their values.
-use Rattle.std.proofs.Common.{◌≡◌, ◌≢◌, ℕ, zero, suc, ◌+◌, ◌-◌, ◌*◌, ◌/◌, ◌%◌, ◌<◌, ◌≤◌, ◌⊎◌, inl, inr, Bool, true, false, List, [], ◌∷◌, ◌++◌, length, map, Option, None, Some, Result, Ok, Err, append_assoc, append-nil, refl, sym, ap, ◌∙◌, arith, length-append}
+use Rattle.std.proofs.Common.{◌≡◌, ℕ, zero, suc, ◌+◌, ◌<◌, inl, inr, Bool, true, refl, ◌∙◌, arith}
 use Rattle.std.specs.Prelude.{◌==◌, ◌&&◌, nat_lt, if◌then◌else◌}
-use Rattle.std.specs.List.{flat_map, list_all, slice_index, AllByRecursion}
+use Rattle.std.specs.List.{slice_index}
 use Rattle.std.proofs.lemmas.Bool.{and_parts, cases_lt, eqb-true}
 use Rattle.std.proofs.lemmas.Bool.Decides.{nat_tests}
-use Rattle.mc_base.specs.Base32.{alphabet32, base32_of, byte_bits, five, fives}
+use Rattle.mc_base.specs.Base32.{alphabet32}
 use Rattle.mc_base.specs.declared.base32.Case.{Case}
 use Rattle.mc_base.specs.declared.base32.Case.TheVariants.{Upper, Lower}
-use Rattle.mc_base32.specs.Reading.{decode32, decode32_from, digit_value, eight, eights, first_bad, first_letter, five_bits, is_cut, is_digit32, reading32, text_bits, unused}
-use Rattle.mc_base32.proofs.GroupFacts.{small_values}
+use Rattle.mc_base32.specs.Reading.{digit_value, first_letter, is_digit32}
 
 -- the test of one value, which computes
 abbrev reads_back : Case → ℕ → Bool

@@ -1,6 +1,6 @@
 -- The bytes of a group of digits, by arithmetic.
-use Rattle.std.proofs.Common.{◌≡◌, ◌≢◌, ℕ, zero, suc, ◌+◌, ◌-◌, ◌*◌, ◌/◌, ◌%◌, ◌^◌, ◌<◌, ◌≤◌, Bool, true, false, List, [], ◌∷◌, ◌++◌, length, get_or, take, drop, map, Option, None, Some, Ok, Err, length-drop, refl, sym, ap, ◌∙◌, arith}
-use Rattle.std.specs.Prelude.{◌==◌, ◌&&◌, if◌then◌else◌}
+use Rattle.std.proofs.Common.{◌≡◌, ◌≢◌, ℕ, zero, suc, ◌+◌, ◌-◌, ◌*◌, ◌/◌, ◌%◌, ◌^◌, ◌<◌, ◌≤◌, Bool, true, false, List, [], ◌∷◌, length, get_or, take, drop, map, Option, None, Some, Ok, Err, length-drop, refl, sym, ap, ◌∙◌, arith}
+use Rattle.std.specs.Prelude.{◌==◌, if◌then◌else◌}
 use Rattle.std.specs.List.{flat_map, list_all, AllByRecursion}
 use Rattle.std.specs.Int.{to_be_bytes, w64}
 use Rattle.std.proofs.lemmas.Bool.Decides.{nat_tests}
@@ -10,7 +10,6 @@ use Rattle.std.proofs.lemmas.Bool.{eq-eqb, ne_eqb}
 use Rattle.std.proofs.lemmas.Nat.{be_bytes_8}
 use Rattle.mc_base.specs.declared.base32.Case.{Case}
 use Rattle.mc_base.specs.declared.base32.Case.TheVariants.{Upper, Lower}
-use Rattle.mc_base32.specs.declared.fault.Base32Fault.{Base32Fault}
 use Rattle.mc_base32.specs.declared.fault.Base32Fault.TheVariants.{BadLength, TailBits}
 use Rattle.mc_base32.specs.Reading.{decode32_from, digit_value, eight, eights, first_bad, five_bits, is_cut, is_digit32, number32, unused}
 

@@ -1,15 +1,14 @@
 -- Writing and reading are each other's inverse.
-use Rattle.std.proofs.Common.{◌≡◌, ◌≢◌, ℕ, zero, suc, ◌+◌, ◌-◌, ◌*◌, ◌/◌, ◌%◌, ◌<◌, ◌≤◌, ◌⊎◌, inl, inr, Bool, true, false, List, [], ◌∷◌, ◌++◌, length, map, Option, None, Some, Result, Ok, Err, append_assoc, append-nil, refl, sym, ap, ◌∙◌, arith, length-append}
-use Rattle.std.specs.Prelude.{◌==◌, ◌&&◌, if◌then◌else◌}
+use Rattle.std.proofs.Common.{◌≡◌, ◌≢◌, ℕ, ◌+◌, ◌*◌, ◌%◌, ◌<◌, Bool, true, false, List, [], ◌∷◌, ◌++◌, length, map, Option, None, Some, Result, Ok, Err, append-nil, refl, sym, ap, ◌∙◌, arith}
+use Rattle.std.specs.Prelude.{◌==◌, if◌then◌else◌}
 use Rattle.std.specs.List.{flat_map, list_all, slice_index, AllByRecursion}
-use Rattle.std.proofs.lemmas.Bool.{and_parts, cases_lt, eqb-true}
+use Rattle.std.proofs.lemmas.Bool.{and_parts, eqb-true}
 use Rattle.std.proofs.lemmas.Bool.Decides.{nat_tests}
 use Rattle.mc_base.specs.Base32.{alphabet32, base32_of, byte_bits, five, fives}
 use Rattle.mc_base.specs.declared.base32.Case.{Case}
-use Rattle.mc_base.specs.declared.base32.Case.TheVariants.{Upper, Lower}
 use Rattle.mc_base32.specs.declared.fault.Base32Fault.{Base32Fault}
 use Rattle.mc_base32.specs.declared.fault.Base32Fault.TheVariants.{BadChar, BadLength, TailBits}
-use Rattle.mc_base32.specs.Reading.{decode32, decode32_from, digit_value, eight, eights, first_bad, five_bits, is_cut, is_digit32, reading32, text_bits, unused}
+use Rattle.mc_base32.specs.Reading.{decode32, digit_value, eights, first_bad, five_bits, is_cut, is_digit32, text_bits, unused}
 use Rattle.mc_base32.proofs.GroupFacts.{small_values}
 use Rattle.std.proofs.lemmas.Bool.{ne_eqb}
 use Rattle.std.proofs.lemmas.List.{length-map}

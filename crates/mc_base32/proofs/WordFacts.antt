@@ -1,5 +1,5 @@
 -- Digits put together into one number.
-use Rattle.std.proofs.Common.{◌≡◌, ℕ, suc, ◌+◌, ◌*◌, ◌^◌, ◌<◌, ◌≤◌, List, length, drop, map, arith, add-one, refl}
+use Rattle.std.proofs.Common.{◌≡◌, ℕ, ◌+◌, ◌*◌, ◌^◌, ◌<◌, ◌≤◌, List, drop, map, arith, add-one, refl}
 use Rattle.std.proofs.Math.Nat.{pow-le-pow_right, pow-succ'}
 use Rattle.mc_base.specs.declared.base32.Case.{Case}
 use Rattle.mc_base32.specs.Reading.{digit_value, first_bad, number32}

@@ -1,5 +1,5 @@
 -- Reading base32 without padding (RFC 4648, section 6), in upper or in lower case.
-use Rattle.std.specs.Prelude.{◌≡◌, ℕ, ◌+◌, ◌-◌, ◌*◌, ◌/◌, ◌%◌, ◌<◌, ◌==◌, ◌&&◌, ◌||◌, nat_le, nat_lt, if◌then◌else◌, Bool, true, List, [], ◌∷◌, ◌++◌, length, map, All, Option, None, Some, Result, Ok, Err, ⊤}
+use Rattle.std.specs.Prelude.{◌≡◌, ℕ, ◌+◌, ◌-◌, ◌*◌, ◌/◌, ◌%◌, ◌<◌, ◌==◌, ◌&&◌, ◌||◌, nat_le, nat_lt, if◌then◌else◌, Bool, List, [], ◌∷◌, ◌++◌, length, map, All, Option, None, Some, Result, Ok, Err, ⊤}
 use Rattle.std.specs.List.{flat_map, list_all}
 use Rattle.mc_base.specs.Base32.{base32_of}
 use Rattle.mc_base.specs.declared.base32.Case.{Case}

@@ -16,31 +16,44 @@ mod tests {
     use std::alloc::Global;
     use std::test::Fail;
 
+    #[derive(Drop)]
+    struct Row {
+        bytes: &'static [u8],
+        upper: &'static str,
+        lower: &'static str,
+    }
+
+    fn spelled(bytes: &'static [u8], upper: &'static str, lower: &'static str) -> Row {
+        Row {
+            bytes,
+            upper,
+            lower,
+        }
+    }
+
     #[test]
     fn texts_and_bytes(rt: HostRuntime) -> Result<(), Fail> {
         let alloc = rt.alloc();
         // RFC 4648, section 10, without the padding
-        let rows: [(&[u8], &str, &str); 7] = [
-            (b"", "", ""),
-            (b"f", "MY", "my"),
-            (b"fo", "MZXQ", "mzxq"),
-            (b"foo", "MZXW6", "mzxw6"),
-            (b"foob", "MZXW6YQ", "mzxw6yq"),
-            (b"fooba", "MZXW6YTB", "mzxw6ytb"),
-            (b"foobar", "MZXW6YTBOI", "mzxw6ytboi"),
+        let rows = [
+            spelled(b"", "", ""),
+            spelled(b"f", "MY", "my"),
+            spelled(b"fo", "MZXQ", "mzxq"),
+            spelled(b"foo", "MZXW6", "mzxw6"),
+            spelled(b"foob", "MZXW6YQ", "mzxw6yq"),
+            spelled(b"fooba", "MZXW6YTB", "mzxw6ytb"),
+            spelled(b"foobar", "MZXW6YTBOI", "mzxw6ytboi"),
         ];
-        for (bytes, upper, lower) in rows {
-            assert_eq!(rt; encode(alloc, Case::Upper, bytes)?.as_str(), upper);
-            assert_eq!(rt; encode(alloc, Case::Lower, bytes)?.as_str(), lower);
+        for row in rows {
+            assert_eq!(rt; encode(alloc, Case::Upper, row.bytes)?.as_str(), row.upper);
+            assert_eq!(rt; encode(alloc, Case::Lower, row.bytes)?.as_str(), row.lower);
             assert_eq!(rt;
-                decoded(alloc, Case::Upper, upper)?.as_slice(),
-                bytes,
-                "{upper}"
+                decoded(alloc, Case::Upper, row.upper)?.as_slice(),
+                row.bytes
             );
             assert_eq!(rt;
-                decoded(alloc, Case::Lower, lower)?.as_slice(),
-                bytes,
-                "{lower}"
+                decoded(alloc, Case::Lower, row.lower)?.as_slice(),
+                row.bytes
             );
         }
         let faulty = [

@@ -1,5 +1,4 @@
-use Rattle.std.proofs.Common.{◌≡◌, ◌+◌, length}
-use Rattle.mc_base32.specs.Reading.{after, decode32, decode32_from}
+use Rattle.std.proofs.Common.{length}
 use Rattle.mc_base32.proofs.TextFacts.{IsDecoding}
 use Rattle.mc_base32.proofs.decoding.decode.Given as goal
 
