@@ -3,7 +3,7 @@ ghost use Rattle.std.specs.Prelude.{◌≡◌, IfOk, IfErr, Ok};
 ghost use Rattle.mc_cidtext.specs.CidText.{IsFaultOf, IsOneText, IsReadAgain, cid_text, read_cid_text};
 
 use crate::fault::{CidTextError, CidTextFault};
-use mc_base::{Case, Cid, Text, encode32_after};
+use mc_base::{Case, Cid, Text, cids_are_read, encode32_after};
 use mc_base32::{Base32Error, decode};
 use std::alloc::{AllocError, Global};
 
@@ -38,9 +38,14 @@ pub fn from_text(alloc: Global, text: &str) -> Result<Cid, CidTextError>
 /// What `to_text` writes, `from_text` reads.
 pub fn read_again()
     ensures { IsReadAgain }
-{}
+{
+    cids_are_read();
+    mc_base32::read_again();
+}
 
 /// What `from_text` reads is what `to_text` writes for this identifier: it has one text.
 pub fn one_text()
     ensures { IsOneText }
-{}
+{
+    mc_base32::one_text();
+}
