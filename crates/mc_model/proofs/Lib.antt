@@ -1,0 +1,4 @@
+pub mod Greatest
+pub mod Members
+pub mod Live
+pub mod Ascending

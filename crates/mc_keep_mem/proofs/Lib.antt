@@ -1,0 +1,4 @@
+pub mod OnOk
+pub mod CidFacts
+pub mod FreshFacts
+pub mod GraphFacts
