@@ -1,5 +1,4 @@
-use Rattle.std.proofs.Common.{arith, rules, subst, inl, inr, sym}
-use Rattle.mc_app.specs.Lines.{NoFeed}
+use Rattle.std.proofs.Common.{rules, inl, inr}
 use Rattle.mc_app.proofs.LineFacts.{too_long-open, too_long-at}
 use Rattle.mc_app.proofs.line_reader.take_piece.Goals as goal
 use Rattle.mc_app.proofs.line_reader.take_piece.Goals.{then-count-len-via-then-count-len, then-count-len-via-else-count-len+then-len-count, then-at-len-via-then-at-len, then-at-len-via-else-at-len+then-len-at}

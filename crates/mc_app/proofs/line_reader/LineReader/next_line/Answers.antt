@@ -1,4 +1,4 @@
-use Rattle.std.proofs.Common.{arith, rules, sym, ◌∙◌, []}
+use Rattle.std.proofs.Common.{rules, []}
 use Rattle.mc_app.proofs.LineFacts.{ends_with_feed, ends_with_script, breaks_limit}
 use Rattle.mc_app.proofs.line_reader.LineReader.next_line.Goals as goal
 
