@@ -83,3 +83,27 @@ pub rows_after : {Y S : Type 0} (bs key : List ℕ) (old new : HashMap (String Y
 rows_after bs key old new w e updates other =
     ap ranked_held (updates other) ∙ through (bytes_eq bs other) w (get_by_text old other)
     ∙ ap (λ z. cond (bytes_eq z other) (ranked_held w) (row_in old other)) e
+
+-- a key that is put into order needs to wait no more
+pub covered_moved : {Y S : Type 0} (rows : HashMap (String Y) Held S) (ordered new : BTreeSet (String Y)) (pending all : List (String Y)) (key : String Y)
+    → all ≡ pending ++ key ∷ []
+    → ((other : List ℕ) → contains_text new other ≡ cond (bytes_eq (string_bytes key) other) true (contains_text ordered other))
+    → IsCovered rows ordered all → IsCovered rows new pending
+covered_moved rows ordered new pending all key e updates covered = record {
+  each = λ other has.
+      ap (λ t. t || has_text pending other) (updates other)
+      ∙ by other (bytes_eq (string_bytes key) other) refl (ap (λ z. contains_text ordered other || has_text z other) (sym e) ∙ covered.each other has);
+}
+  where
+    last : (a b c : Bool) → c ≡ false → (a || (b || (c || false))) ≡ true → (a || b) ≡ true
+    last true b c f h = refl
+    last false true c f h = refl
+    last false false c f h = absurd (let g : false ≡ true = sym (ap (λ z. z || false) f) ∙ h in cc)
+
+    by : (other : List ℕ) (b : Bool) → bytes_eq (string_bytes key) other ≡ b → (contains_text ordered other || has_text (pending ++ key ∷ []) other) ≡ true
+        → (cond (bytes_eq (string_bytes key) other) true (contains_text ordered other) || has_text pending other) ≡ true
+    by other true f h = ap (λ t. cond t true (contains_text ordered other) || has_text pending other) f
+    by other false f h =
+        ap (λ t. cond t true (contains_text ordered other) || has_text pending other) f
+        ∙ last (contains_text ordered other) (has_text pending other) (bytes_eq other (string_bytes key)) (nat_list_eq_equiv.symm other (string_bytes key) ∙ f)
+        (ap (λ t. contains_text ordered other || t) (sym (list_any-append (λ t. bytes_eq other (string_bytes t)) pending (key ∷ []))) ∙ h)

@@ -1,8 +1,10 @@
 // The next key with a value: the keys that wait are put into order, and those without a value are dropped when they are met.
-ghost use Rattle.std.specs.Prelude.{◌≡◌, ℕ, ◌<◌, ◌≤◌, ◌+◌, [], true, vec_len, vec_capacity, IfOk, OnOk};
+ghost use Rattle.std.specs.Prelude.{◌≡◌, ℕ, ◌<◌, ◌≤◌, ◌+◌, [], true, vec_len, vec_capacity, IfOk, OnOk, OnErr, IfErr, cond};
+ghost use Rattle.std.specs.Prelude as prelude;
+ghost use Rattle.std.specs.Str.{bytes_eq};
 ghost use Rattle.std.specs.HashMap.{spare};
 ghost use Rattle.std.specs.String.{string_bytes};
-ghost use Rattle.std.specs.BTreeSet.{btree_set_len};
+ghost use Rattle.std.specs.BTreeSet.{btree_set_len, contains_text};
 ghost use Rattle.mc_keep.specs.Next.{IsNextOf};
 ghost use Rattle.mc_keep_mem.specs.Values.{row_in, IsCovered, IsFirstKey};
 
@@ -40,10 +42,22 @@ fn settle<S: BuildHasher + Drop>(values: &mut Values<S>) -> Result<(), AllocErro
     ensures capacity { vec_capacity values.old.pending ≤ vec_capacity values.new.pending }
 {
     while let Some(key) = values.pending.pop() {
-        if let Err(failed) = values.ordered.insert(key) {
-            values.pending.push_reserved(failed.value);
+        if let Err(key) = put_in_order(&mut values.ordered, key) {
+            values.pending.push_reserved(key);
             return Err(AllocError);
         }
     }
     Ok(())
+}
+
+// Puts a key into order, or hands it back.
+fn put_in_order(ordered: &mut BTreeSet<String>, key: String) -> Result<(), String>
+    ensures ok { OnOk result ((other : prelude.List ℕ) → contains_text ordered.new other ≡ cond (bytes_eq (string_bytes key) other) true (contains_text ordered.old other)) }
+    ensures err { OnErr result ((other : prelude.List ℕ) → contains_text ordered.new other ≡ contains_text ordered.old other) }
+    ensures returned { IfErr result (λ back. back ≡ key) }
+{
+    match ordered.insert(key) {
+        Ok(_) => Ok(()),
+        Err(failed) => Err(failed.value),
+    }
 }
