@@ -178,3 +178,16 @@ got_at (y ∷ xs) (suc i) x e f = got_at xs i x (let below : i < length xs = gri
 pub is_none : (at : Option ℕ) → ((x : ℕ) → at ≡ Some x → ⊥) → at ≡ None
 is_none None never = refl
 is_none (Some x) never = absurd (never x refl)
+
+-- the same last rows are the same chains
+pub same_chains : {Y S : Type 0} (nodes new_nodes : List Node) (lasts new_lasts : HashMap (String Y) ℕ S) → new_nodes ≡ nodes
+    → ((key : List ℕ) → get_by_text new_lasts key ≡ get_by_text lasts key) → AreChains nodes lasts → AreChains new_nodes new_lasts
+same_chains nodes new_nodes lasts new_lasts e same chains = record {
+  back = ap (lead_back 0) e ∙ chains.back;
+  there = λ key. ap (λ z. is_before (length z) (get_by_text new_lasts key)) e ∙ ap (is_before (length nodes)) (same key) ∙ chains.there key;
+}
+
+pub same_rows : {Y S : Type 0} (nodes new_nodes : List Node) (lasts new_lasts : HashMap (String Y) ℕ S) → new_nodes ≡ nodes
+    → ((key : List ℕ) → get_by_text new_lasts key ≡ get_by_text lasts key) → (key : List ℕ) → rows_in new_nodes new_lasts key ≡ rows_in nodes lasts key
+same_rows nodes new_nodes lasts new_lasts e same key =
+    ap (λ z. map (row_of_node key) (chain z (length z) (get_by_text new_lasts key))) e ∙ ap (λ z. map (row_of_node key) (chain nodes (length nodes) z)) (same key)

@@ -7,3 +7,4 @@ pub mod TombFacts
 pub mod ChainFacts
 pub mod SortFacts
 pub mod HeadFacts
+pub mod Reordered

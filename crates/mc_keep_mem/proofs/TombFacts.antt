@@ -208,3 +208,17 @@ tomb_put_at keys ids keys' ids' pairs new key_text id_text a b key at_key id at_
       numbers = still_numbers keys ids pairs new key.0 id.0 numbers updates';
       tombs = tomb_put keys ids pairs new key.0 id.0 numbers updates';
     }))))
+
+-- the same numbers and pairs are the same tombstones
+pub same_numbers : {Y : Type 0} (keys ids keys' ids' : List (String Y)) (pairs new : List (ℕ × ℕ)) → keys' ≡ keys → ids' ≡ ids
+    → ((pair : ℕ × ℕ) → list_any (same_pair pair) new ≡ list_any (same_pair pair) pairs) → AreNumbers keys ids pairs → AreNumbers keys' ids' new
+same_numbers keys ids keys' ids' pairs new e f same numbers = record {
+  key_below = λ key id has. subst (λ z. key < length z) (sym e) (numbers.key_below key id (sym (same (key, id)) ∙ has));
+  id_below = λ key id has. subst (λ z. id < length z) (sym f) (numbers.id_below key id (sym (same (key, id)) ∙ has));
+}
+
+pub same_tombs : {Y : Type 0} (keys ids keys' ids' : List (String Y)) (pairs new : List (ℕ × ℕ)) → keys' ≡ keys → ids' ≡ ids
+    → ((pair : ℕ × ℕ) → list_any (same_pair pair) new ≡ list_any (same_pair pair) pairs) → (key id : List ℕ) → has_tomb_in keys' ids' new key id ≡ has_tomb_in keys ids pairs key id
+same_tombs keys ids keys' ids' pairs new e f same key id =
+    same (number_of keys' key, number_of ids' id)
+    ∙ ap (λ z. list_any (same_pair (number_of z key, number_of ids' id)) pairs) e ∙ ap (λ z. list_any (same_pair (number_of keys key, number_of z id)) pairs) f

@@ -1,9 +1,5 @@
 -- What the tables of value rows and of the keys in order say.
-use denote.Ref.{Bor}
-use Rattle.std.specs.Prelude.{◌≡◌, ℕ, Bool, true, false, ◌||◌, List, Option, Some, None, is_some}
-use Rattle.std.specs.Ordering.{is_lt, nat_cmp}
-use Rattle.std.specs.Cmp.Lexicographic.{slice_cmp}
-use Rattle.mc_keep.specs.Next.{is_past}
+use Rattle.std.specs.Prelude.{◌≡◌, ℕ, Bool, true, ◌||◌, List, Option, is_some}
 use Rattle.std.specs.List.{list_any}
 use Rattle.std.specs.Option.{option_map}
 use Rattle.std.specs.Str.{bytes_eq}
@@ -28,10 +24,3 @@ has_text texts key = list_any (λ text. bytes_eq key (string_bytes text)) texts
 -- each key with a value is among the keys in order, or waits to be put there
 pub record IsCovered {Y S : Type 0} (rows : HashMap (String Y) Held S) (ordered : BTreeSet (String Y)) (pending : List (String Y)) : Type 0 where
   pub each : (key : List ℕ) → is_some (row_in rows key) ≡ true → (contains_text ordered key || has_text pending key) ≡ true
-
--- the least key of a set past a bound, or none
-abbrev pub IsFirstKey : {Y : Type 0} → BTreeSet (String Y) → List ℕ → Bool → Option (Bor (String Y)) → Type 0
-IsFirstKey ordered bound inclusive None = (key : List ℕ) → is_past bound inclusive key ≡ true → contains_text ordered key ≡ false
-IsFirstKey ordered bound inclusive (Some first) =
-    (is_past bound inclusive (string_bytes first.now) ≡ true) × (contains_text ordered (string_bytes first.now) ≡ true)
-    × ((key : List ℕ) → is_past bound inclusive key ≡ true → contains_text ordered key ≡ true → is_lt (slice_cmp nat_cmp key (string_bytes first.now)) ≡ false)

@@ -123,3 +123,25 @@ fn row_of(alloc: Global, key: &str, node: &Node) -> Result<ElementRow, AllocErro
         value: node.value.try_clone(alloc)?,
     })
 }
+
+/// Makes room for so many rows.
+pub fn reserve_elements<S: BuildHasher + Drop>(
+    elements: &mut Elements<S>,
+    rows: usize,
+) -> Result<(), AllocError>
+    ensures ok { OnOk result ((vec_len elements.new.nodes + rows ≤ vec_capacity elements.new.nodes) × (rows ≤ spare elements.new.lasts)) }
+    ensures rows { (key : prelude.List ℕ) → rows_in elements.new.nodes.items elements.new.lasts key ≡ rows_in elements.old.nodes.items elements.old.lasts key }
+{
+    elements.nodes.reserve(rows)?;
+    reserve_lasts(&mut elements.lasts, rows)
+}
+
+fn reserve_lasts<S: BuildHasher>(
+    lasts: &mut HashMap<String, usize, S>,
+    rows: usize,
+) -> Result<(), AllocError>
+    ensures ok { OnOk result (rows ≤ spare lasts.new) }
+    ensures lasts { (key : prelude.List ℕ) → get_by_text lasts.new key ≡ get_by_text lasts.old key }
+{
+    lasts.reserve(rows)
+}

@@ -1,39 +1,18 @@
-// The next key with a value: the keys that wait are put into order, and those without a value are dropped when they are met.
+// The keys that wait are put into order.
 ghost use Rattle.std.specs.Prelude.{◌≡◌, ℕ, ◌<◌, ◌≤◌, ◌+◌, [], true, vec_len, vec_capacity, IfOk, OnOk, OnErr, IfErr, cond};
 ghost use Rattle.std.specs.Prelude as prelude;
 ghost use Rattle.std.specs.Str.{bytes_eq};
-ghost use Rattle.std.specs.HashMap.{spare};
 ghost use Rattle.std.specs.String.{string_bytes};
-ghost use Rattle.std.specs.BTreeSet.{btree_set_len, contains_text};
-ghost use Rattle.mc_keep.specs.Next.{IsNextOf};
-ghost use Rattle.mc_keep_mem.specs.Values.{row_in, IsCovered, IsFirstKey};
+ghost use Rattle.std.specs.BTreeSet.{contains_text};
+ghost use Rattle.mc_keep_mem.specs.Values.{IsCovered};
 
-use crate::values::{Held, Values};
-use mc_base::Text;
-use mc_keep::ValueRow;
-use std::alloc::{AllocError, AllocFailed, Global};
+use crate::values::Values;
+use std::alloc::AllocError;
 use std::collections::BTreeSet;
 use std::hash::BuildHasher;
-use std::ops::Bound;
 
-// The least key past the bound, also where it has no value.
-fn first_key<'a>(
-    ordered: &'a BTreeSet<String>,
-    bound: &String,
-    inclusive: bool,
-) -> Option<&'a String>
-    ensures { IsFirstKey ordered.now (string_bytes bound.now) inclusive result }
-{
-    let from = if inclusive {
-        Bound::Included(bound)
-    } else {
-        Bound::Excluded(bound)
-    };
-    ordered.range((from, Bound::Unbounded)).next()
-}
-
-// Puts the keys that wait into order.
-fn settle<S: BuildHasher + Drop>(values: &mut Values<S>) -> Result<(), AllocError>
+/// Puts the keys that wait into order. After want of memory some have been, and the others still wait.
+pub fn settle<S: BuildHasher + Drop>(values: &mut Values<S>) -> Result<(), AllocError>
     requires { IsCovered values.old.rows values.old.ordered values.old.pending.items }
     ensures rows { values.new.rows ≡ values.old.rows }
     ensures covered { IsCovered values.new.rows values.new.ordered values.new.pending.items }

@@ -68,3 +68,24 @@ pub fn put_tomb<S: BuildHasher + Drop>(tombs: &mut Tombs<S>, row: TombRow)
     let id = number(&mut tombs.ids, id);
     let _added = tombs.pairs.insert((key, id));
 }
+
+/// Makes room for so many tombstones.
+pub fn reserve_tombs<S: BuildHasher + Drop>(
+    tombs: &mut Tombs<S>,
+    rows: usize,
+) -> Result<(), AllocError>
+    ensures ok { OnOk result ((rows ≤ spare tombs.new.keys) × (rows ≤ spare tombs.new.ids) × (rows ≤ spare tombs.new.pairs)) }
+    ensures tombs { (key id : List ℕ) → has_tomb_in tombs.new.keys.keys tombs.new.ids.keys tombs.new.pairs.keys key id
+        ≡ has_tomb_in tombs.old.keys.keys tombs.old.ids.keys tombs.old.pairs.keys key id }
+{
+    tombs.keys.reserve(rows)?;
+    tombs.ids.reserve(rows)?;
+    reserve_pairs(&mut tombs.pairs, rows)
+}
+
+fn reserve_pairs(pairs: &mut HashSet<(usize, usize)>, rows: usize) -> Result<(), AllocError>
+    ensures ok { OnOk result (rows ≤ spare pairs.new) }
+    ensures pairs { (pair : ℕ × ℕ) → list_any (same_pair pair) pairs.new.keys ≡ list_any (same_pair pair) pairs.old.keys }
+{
+    pairs.reserve(rows)
+}
