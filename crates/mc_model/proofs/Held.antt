@@ -130,7 +130,7 @@ start_parts q (c ∷ rest) d e =
 pub same_start : (q : Queue) (d : Cid) → times d (wanted (start_first q q.waiting)) ≡ times d (wanted q)
 same_start q d = start_parts q q.waiting d refl
 
--- rule 18 for a message
+-- for a message, each in turn
 
 grows_unstuck : (order : List Cid) (q : Queue) (c : Cid) → IsOnce order q → (has c q.missing || has c (bad_cids q.bad)) ≡ true → Grows order q (to_waiting (out_of_stuck q c) c)
 grows_unstuck order q c once e = grows_same order q (to_waiting (out_of_stuck q c) c) (λ d.
