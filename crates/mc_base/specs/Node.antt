@@ -1,10 +1,10 @@
 -- Nodes of a content-addressed graph (IPLD dag-pb specification), by this store's profile: a node has the fields Data (1) and
 -- Links (2, each a PBLink), and a PBLink has Hash (1), Name (2) and Tsize (3).
-use Rattle.std.specs.Prelude.{◌≡◌, ℕ, ◌<◌, List, [], ◌∷◌, ◌++◌, map, Bool, true, false, IsTrue, ◌==◌, ◌&&◌, ◌||◌, Option, Some, None, ⊤, ◌⊎◌}
+use Rattle.std.specs.Prelude.{◌≡◌, ℕ, ◌<◌, List, [], ◌∷◌, ◌++◌, map, Bool, false, IsTrue, ◌==◌, ◌&&◌, ◌||◌, Option, Some, None, ⊤, ◌⊎◌}
 use Rattle.std.specs.List.{list_all, flat_map}
 use Rattle.std.specs.Str.{is_utf8}
 use Rattle.mc_base.specs.Cid.{cid_prefix}
-use Rattle.mc_base.specs.Wire.{Field, Fields, Content, Varint, Fixed64, Part, Fixed32, part_field_bytes}
+use Rattle.mc_base.specs.Wire.{Field, Fields, Content, Varint, Part, part_field_bytes}
 use Rattle.mc_base.specs.declared.cid.Cid.{Cid}
 
 -- a field of a link: a Hash, a Name in UTF-8, or a Tsize
@@ -19,7 +19,7 @@ Ascends below [] = ⊤
 Ascends below (field ∷ fields) = (below < field.number) × Ascends field.number fields
 
 -- a link by its bytes: its fields in ascending order of their numbers, the first of them Hash
-pub record Link (text hash : List ℕ) : Type 0 where
+pub record IsLink (text hash : List ℕ) : Type 0 where
   pub fields : List Field
   pub others : List Field
   pub parts : Fields text fields
@@ -27,11 +27,11 @@ pub record Link (text hash : List ℕ) : Type 0 where
   pub ascending : Ascends 0 fields
   pub allowed : IsTrue (list_all (λ field. is_link_content field.number field.content) fields)
 
-abbrev pub Links : List (List ℕ) → List (List ℕ) → Type 0
-Links [] [] = ⊤
-Links (text ∷ texts) (hash ∷ hashes) = Link text hash × Links texts hashes
-Links [] (hash ∷ hashes) = ⊥
-Links (text ∷ texts) [] = ⊥
+abbrev pub AreLinks : List (List ℕ) → List (List ℕ) → Type 0
+AreLinks [] [] = ⊤
+AreLinks (text ∷ texts) (hash ∷ hashes) = IsLink text hash × AreLinks texts hashes
+AreLinks [] (hash ∷ hashes) = ⊥
+AreLinks (text ∷ texts) [] = ⊥
 
 abbrev pub link_field : List ℕ → Field
 link_field text = record { number = 2; content = Part text }
@@ -45,12 +45,12 @@ IsOrdered fields links None = fields ≡ links
 IsOrdered fields links (Some payload) = (fields ≡ data_field payload ∷ links) ⊎ (fields ≡ links ++ data_field payload ∷ [])
 
 -- a node by its bytes: the Hash of each link, and the content of Data
-pub record Node (text : List ℕ) (links : List (List ℕ)) (payload : Option (List ℕ)) : Type 0 where
+pub record IsNode (text : List ℕ) (links : List (List ℕ)) (payload : Option (List ℕ)) : Type 0 where
   pub fields : List Field
   pub bodies : List (List ℕ)
   pub parts : Fields text fields
   pub ordered : IsOrdered fields (map link_field bodies) payload
-  pub linked : Links bodies links
+  pub linked : AreLinks bodies links
 
 -- a written link: its Hash, an empty Name, and a Tsize of 0
 abbrev pub link_bytes : Cid → List ℕ

@@ -72,5 +72,8 @@ varint_bytes value = varint_bytes_within (suc value) value
 abbrev pub varint_field_bytes : ℕ → ℕ → List ℕ
 varint_field_bytes number value = varint_bytes (8 * number) ++ varint_bytes value
 
+abbrev pub part_head_bytes : ℕ → ℕ → List ℕ
+part_head_bytes number len = varint_bytes (8 * number + 2) ++ varint_bytes len
+
 abbrev pub part_field_bytes : ℕ → List ℕ → List ℕ
-part_field_bytes number part = varint_bytes (8 * number + 2) ++ varint_bytes (length part) ++ part
+part_field_bytes number part = part_head_bytes number (length part) ++ part

@@ -8,3 +8,4 @@ pub mod NodeOrder
 pub mod NodeText
 pub mod StepFacts
 pub mod Utf8
+pub mod WrittenNode

@@ -1,17 +1,16 @@
 -- The Hash of a link.
-use Rattle.std.proofs.Common.{◌≡◌, ◌≢◌, ℕ, ◌<◌, ◌≤◌, List, [], ◌∷◌, length, Bool, true, false, refl, ap, sym, ◌∙◌, arith, Option, Some, None, Result, Ok, Err, ◌==◌, ◌&&◌}
+use Rattle.std.proofs.Common.{◌≡◌, ℕ, ◌≤◌, List, [], ◌∷◌, length, true, false, refl, arith, Option, Some, None, Result, Ok, ◌==◌}
 use Rattle.std.proofs.Math.Dec.{eqb}
-use Rattle.std.proofs.lemmas.Bool.{eqb-true, eqb-false, ne_eqb, true≢false, false≢true}
-use Rattle.std.specs.Bool.{if◌then◌else◌}
+use Rattle.std.proofs.lemmas.Bool.{eqb-true, ne_eqb, false≢true}
 use Rattle.std.specs.List.{list_all, cons_option}
 use Rattle.std.specs.Prelude.{IsTrue}
-use Rattle.mc_base.specs.Wire.{Field, Fields, Content, Varint, Fixed64, Part, Fixed32}
-use Rattle.mc_base.specs.WireRead.{fields_in, fronts_from}
-use Rattle.mc_base.specs.Node.{Link, Ascends, is_link_content}
+use Rattle.mc_base.specs.Wire.{Field, Content, Varint, Fixed64, Part, Fixed32}
+use Rattle.mc_base.specs.WireRead.{fronts_from}
+use Rattle.mc_base.specs.Node.{IsLink, Ascends, is_link_content}
 use Rattle.mc_base.specs.NodeRead.{NodeFault, link_of, link_fault, unless, hash_or, first_of, parts_in, part_of}
 use Rattle.mc_wire.proofs.FieldFacts.{fields_are_read, fields_found}
-use Rattle.mc_dagpb.proofs.FrontFields.{field_part, field_parts, parts_of_fields, none_is_no}
-use Rattle.mc_dagpb.proofs.LinkLaw.{LinkFields, link_fields, link_is_fine, is_allowed, both_are}
+use Rattle.mc_dagpb.proofs.FrontFields.{field_parts, parts_of_fields, none_is_no}
+use Rattle.mc_dagpb.proofs.LinkLaw.{link_fields, link_is_fine, is_allowed, both_are}
 use Rattle.mc_dagpb.proofs.StepFacts.{hash_read}
 
 -- no Hash after another field
@@ -47,7 +46,7 @@ unless_none None read value e = refl
 unless_none (Some fault) read value e = absurd (cc)
 
 -- what is read as a link is one
-pub link_told : (key from : ℕ) (body hash : List ℕ) → link_of key from body ≡ Ok hash → Link body hash
+pub link_told : (key from : ℕ) (body hash : List ℕ) → link_of key from body ≡ Ok hash → IsLink body hash
 link_told key from body hash e =
     let fronts = fronts_from from body in
     let found = hash_read key (link_fault 0 fronts) (first_of (parts_in 1 fronts)) hash e in
@@ -63,7 +62,7 @@ link_told key from body hash e =
     }
 
 -- a link is read as its Hash, wherever it stands
-pub link_is_read : (key from : ℕ) (body hash : List ℕ) → Link body hash → link_of key from body ≡ Ok hash
+pub link_is_read : (key from : ℕ) (body hash : List ℕ) → IsLink body hash → link_of key from body ≡ Ok hash
 link_is_read key from body hash link =
     let fronts = fronts_from from body in
     let read = fields_are_read from body link.fields link.parts in

@@ -1,18 +1,16 @@
 -- A link by its bytes is the one that is read.
-use Rattle.std.proofs.Common.{◌≡◌, ◌≢◌, ℕ, ◌+◌, ◌<◌, ◌≤◌, List, [], ◌∷◌, length, Bool, true, false, refl, ap, subst, sym, ◌∙◌, arith, Option, Some, None, Result, Ok, Err, ◌⊎◌, ◌==◌, ◌&&◌, ◌||◌, not}
-use Rattle.std.proofs.Math.Dec.{eqb, leb}
-use Rattle.std.proofs.lemmas.Bool.{eqb-true, eqb-false, leb-false, lt-leb, ne_eqb, true≢false, false≢true}
+use Rattle.std.proofs.Common.{◌≡◌, ℕ, ◌<◌, List, [], ◌∷◌, Bool, true, false, refl, arith, Option, Some, None, ◌==◌, ◌&&◌, ◌||◌, not}
+use Rattle.std.proofs.Math.Dec.{eqb}
+use Rattle.std.proofs.lemmas.Bool.{eqb-true, false≢true}
 use Rattle.std.proofs.lemmas.Bool.Decides.{nat_tests}
 use Rattle.std.specs.Bool.{if◌then◌else◌}
-use Rattle.std.specs.Option.{option_or, option_map}
+use Rattle.std.specs.Option.{option_or}
 use Rattle.std.specs.Str.{is_utf8}
-use Rattle.mc_base.specs.Wire.{Field, Content, Varint, Fixed64, Part, Fixed32, wire_type, Fields}
-use Rattle.mc_base.specs.Node.{is_link_content, Link, Ascends}
-use Rattle.mc_base.specs.NodeRead.{NodeFaultKind, BadField, WireType, Order, NameText, wire_kind, link_key_fault, link_front_fault, link_fault, link_of, name_fault, part_of, part_in, parts_in, first_of, number_of, fault_at, unless, hash_or}
-use Rattle.mc_dagpb.proofs.FrontFields.{AllFields, all_fields, none_is_no, nothing_is, field_part, field_parts, parts_of_fields}
-use Rattle.mc_dagpb.proofs.StepFacts.{hash_read}
-use Rattle.mc_wire.proofs.FieldFacts.{fields_are_read, fields_found}
-use Rattle.mc_base.specs.WireRead.{Front, NoKey, NoContent, Whole, Placed, fields_in, onto_fields, fronts_from}
+use Rattle.mc_base.specs.Wire.{Field, Content, Varint, Fixed64, Part, Fixed32, wire_type}
+use Rattle.mc_base.specs.Node.{is_link_content, Ascends}
+use Rattle.mc_base.specs.NodeRead.{NodeFaultKind, NameText, wire_kind, link_key_fault, link_front_fault, link_fault, name_fault, fault_at}
+use Rattle.mc_dagpb.proofs.FrontFields.{all_fields, none_is_no}
+use Rattle.mc_base.specs.WireRead.{Front, NoKey, NoContent, Whole, Placed, fields_in, onto_fields}
 use Rattle.std.specs.List.{list_all}
 use Rattle.std.specs.Prelude.{IsTrue}
 

@@ -1,5 +1,5 @@
 -- A node that is read field by field.
-use Rattle.std.proofs.Common.{◌≡◌, ℕ, ◌≤◌, ◌-◌, List, [], ◌∷◌, ◌++◌, ◌==◌, length, Bool, true, false, refl, ap, sym, ◌∙◌, append_assoc, Option, Some, None, Ok, Err}
+use Rattle.std.proofs.Common.{◌≡◌, ℕ, ◌≤◌, ◌-◌, List, [], ◌∷◌, ◌++◌, ◌==◌, length, true, false, refl, sym, ◌∙◌, append_assoc, Option, Some, None, Ok, Err}
 use Rattle.std.proofs.Math.Bool.{or-true, or-false}
 use Rattle.std.proofs.lemmas.Bool.{true≢false}
 use Rattle.std.proofs.lemmas.List.{append-nil}
@@ -7,14 +7,13 @@ use Rattle.std.proofs.lemmas.List.Folds.{list_any-append}
 use Rattle.std.specs.List.{cons_option}
 use Rattle.std.specs.Option.{option_or}
 use Rattle.std.specs.Prelude.{is_some}
-use Rattle.mc_base.specs.NodeRead.{NodeFault, NodeFaultKind, node_fault, node_key_fault, node_of, part_in, parts_in, first_of, link_hashes}
+use Rattle.mc_base.specs.NodeRead.{NodeFault, node_fault, node_key_fault, node_of, part_in, parts_in, first_of, link_hashes}
 use Rattle.mc_base.specs.WireRead.{Front, Placed, Whole}
 use Rattle.mc_wire.specs.Seen.{fronts_at}
 use Rattle.mc_dagpb.specs.Before.{IsAfter, has_data}
 use Rattle.mc_dagpb.specs.Reads.{node_text, with_field}
 use Rattle.mc_dagpb.specs.Seen.{span_bytes}
 use Rattle.mc_dagpb.specs.Step.{StepAt, Says, number_of_field}
-use Rattle.mc_dagpb.specs.declared.link.Span.{Span}
 use Rattle.mc_dagpb.specs.declared.step.NodeField.{NodeField}
 use Rattle.mc_dagpb.specs.declared.step.NodeField.TheVariants.{Data, Link}
 use Rattle.mc_dagpb.specs.declared.step.Step.{Step}

@@ -1,14 +1,12 @@
 -- The order of the fields of a node.
-use Rattle.std.proofs.Common.{◌≡◌, ◌≢◌, ℕ, List, [], ◌∷◌, ◌++◌, length, drop, map, Bool, true, false, refl, ap, subst, sym, ◌∙◌, Option, Some, None, ◌⊎◌, inl, inr, ◌==◌, ◌||◌}
-use Rattle.std.proofs.Math.Bool.{or-true, or-false}
-use Rattle.std.proofs.lemmas.Bool.{true≢false, false≢true}
+use Rattle.std.proofs.Common.{◌≡◌, ℕ, List, [], ◌∷◌, ◌++◌, drop, map, true, false, refl, sym, ◌∙◌, Option, Some, None, inl, inr, ◌==◌, ◌||◌}
+use Rattle.std.proofs.Math.Bool.{or-true}
+use Rattle.std.proofs.lemmas.Bool.{true≢false}
 use Rattle.std.proofs.lemmas.List.Folds.{list_any-append}
-use Rattle.mc_base.specs.Wire.{Field, Part}
-use Rattle.mc_base.specs.Node.{Link, Links, IsOrdered, link_field, data_field}
-use Rattle.mc_base.specs.NodeRead.{first_of, link_hashes}
+use Rattle.mc_base.specs.Wire.{Field}
+use Rattle.mc_base.specs.Node.{AreLinks, IsOrdered, link_field, data_field}
 use Rattle.mc_dagpb.specs.Before.{has_data}
-use Rattle.mc_dagpb.proofs.FrontFields.{field_parts}
-use Rattle.mc_dagpb.proofs.NodeLaw.{IsData, IsLink, Fine}
+use Rattle.mc_dagpb.proofs.NodeLaw.{Fine}
 
 has_data-push : (before : List ℕ) (number : ℕ) → has_data (before ++ number ∷ []) ≡ (has_data before || (number == 1 || false))
 has_data-push before number = list_any-append (λ earlier. earlier == 1) before (number ∷ [])
@@ -31,7 +29,7 @@ pub record LinksOnly (fields : List Field) : Type 0 where
   pub bodies : List (List ℕ)
   pub hashes : List (List ℕ)
   pub are : fields ≡ map link_field bodies
-  pub linked : Links bodies hashes
+  pub linked : AreLinks bodies hashes
 
 joined : (first second : Field) (fields others : List Field) → first ≡ second → fields ≡ others → first ∷ fields ≡ second ∷ others
 joined first second fields others same rest = cc
@@ -57,7 +55,7 @@ pub record OrderedFields (fields : List Field) : Type 0 where
   pub hashes : List (List ℕ)
   pub payload : Option (List ℕ)
   pub ordered : IsOrdered fields (map link_field bodies) payload
-  pub linked : Links bodies hashes
+  pub linked : AreLinks bodies hashes
 
 abbrev IsLast : List Field → List Field → Option (List ℕ) → Type 0
 IsLast fields links None = fields ≡ links
@@ -69,7 +67,7 @@ record LinksThenData (fields : List Field) : Type 0 where
   hashes : List (List ℕ)
   payload : Option (List ℕ)
   ordered : IsLast fields (map link_field bodies) payload
-  linked : Links bodies hashes
+  linked : AreLinks bodies hashes
 
 last_more : (field : Field) (fields links : List Field) (payload : Option (List ℕ)) → IsLast fields links payload → IsLast (field ∷ fields) (field ∷ links) payload
 last_more field fields links None is = rw is
@@ -118,19 +116,19 @@ ordered_fields (field ∷ fields) (inr is, fine) =
     }
 
 -- links are fine where no Data stands before, unless it is the first
-fine_links : (before : List ℕ) (bodies hashes : List (List ℕ)) → has_data (drop 1 before) ≡ false → Links bodies hashes → Fine before (map link_field bodies)
+fine_links : (before : List ℕ) (bodies hashes : List (List ℕ)) → has_data (drop 1 before) ≡ false → AreLinks bodies hashes → Fine before (map link_field bodies)
 fine_links before [] hashes none linked = tt
 fine_links before (body ∷ bodies) [] none linked = absurd linked
 fine_links before (body ∷ bodies) (hash ∷ hashes) none (link, linked) =
     (inr (record { body = body; hash = hash; are = refl; fresh = none; link = link }), fine_links (before ++ 2 ∷ []) bodies hashes (link_more_rest before none) linked)
 
-fine_links_then : (before : List ℕ) (bodies hashes : List (List ℕ)) (payload : List ℕ) → has_data before ≡ false → Links bodies hashes → Fine before (map link_field bodies ++ data_field payload ∷ [])
+fine_links_then : (before : List ℕ) (bodies hashes : List (List ℕ)) (payload : List ℕ) → has_data before ≡ false → AreLinks bodies hashes → Fine before (map link_field bodies ++ data_field payload ∷ [])
 fine_links_then before [] hashes payload none linked = (inl (record { payload = payload; are = refl; fresh = none }), tt)
 fine_links_then before (body ∷ bodies) [] payload none linked = absurd linked
 fine_links_then before (body ∷ bodies) (hash ∷ hashes) payload none (link, linked) =
     (inr (record { body = body; hash = hash; are = refl; fresh = has_data-rest before none; link = link }), fine_links_then (before ++ 2 ∷ []) bodies hashes payload (link_more before none) linked)
 
-pub fine_ordered : (fields : List Field) (bodies hashes : List (List ℕ)) (payload : Option (List ℕ)) → IsOrdered fields (map link_field bodies) payload → Links bodies hashes → Fine [] fields
+pub fine_ordered : (fields : List Field) (bodies hashes : List (List ℕ)) (payload : Option (List ℕ)) → IsOrdered fields (map link_field bodies) payload → AreLinks bodies hashes → Fine [] fields
 fine_ordered fields bodies hashes None are linked = rw are (fine_links [] bodies hashes refl linked)
 fine_ordered fields bodies hashes (Some payload) (inl are) linked = rw are (inl (record { payload = payload; are = refl; fresh = refl }), fine_links (1 ∷ []) bodies hashes refl linked)
 fine_ordered fields bodies hashes (Some payload) (inr are) linked = rw are (fine_links_then [] bodies hashes payload refl linked)

@@ -1,18 +1,16 @@
 -- A field of a node, by its bytes.
-use Rattle.std.proofs.Common.{◌≡◌, ◌≢◌, ℕ, zero, suc, ◌+◌, ◌-◌, ◌<◌, ◌≤◌, List, [], ◌∷◌, length, take, drop, Bool, true, false, refl, ap, subst, sym, ◌∙◌, arith, Option, Some, None, Result, Ok, Err, ◌⊎◌}
+use Rattle.std.proofs.Common.{◌≡◌, ℕ, zero, suc, ◌+◌, ◌-◌, ◌≤◌, List, [], ◌∷◌, length, take, drop, true, false, refl, ap, subst, ◌∙◌, arith, Option, Some, None, Ok, ◌⊎◌}
 use Rattle.std.proofs.lemmas.List.{length-take-le, length-drop, drop-take, take-take}
-use Rattle.std.specs.Bool.{if◌then◌else◌}
 use Rattle.std.specs.List.{cons_option}
-use Rattle.mc_base.specs.Wire.{Field, Part}
-use Rattle.mc_base.specs.WireRead.{Front, Whole, Placed, front_of, is_whole, len_of, fronts_past, fronts_from}
+use Rattle.mc_base.specs.WireRead.{front_of, is_whole, len_of, fronts_past, fronts_from}
 use Rattle.mc_base.specs.NodeRead.{NodeFault, link_of, link_fault, unless, hash_or, fault_in, body_fault, part_in, parts_in, first_of}
-use Rattle.mc_wire.specs.Seen.{FieldAt, field_at, EndsAt}
+use Rattle.mc_wire.specs.Seen.{FieldAt, field_at}
 use Rattle.mc_wire.specs.declared.field.Content.TheVariants.{Part as PartAt}
 use Rattle.mc_wire.specs.declared.field.Field.{Field as PlacedField}
 use Rattle.mc_dagpb.specs.Seen.{IsSpan, span_bytes}
-use Rattle.mc_dagpb.specs.Step.{StepOf, Says}
+use Rattle.mc_dagpb.specs.Step.{StepOf}
 use Rattle.mc_dagpb.specs.declared.link.Span.{Span}
-use Rattle.mc_dagpb.specs.declared.step.NodeField.TheVariants.{Data, Link}
+use Rattle.mc_dagpb.specs.declared.step.NodeField.TheVariants.{Link}
 
 -- the bytes of a part are where a text that is cut at its end goes on
 cut_body : (text : List ℕ) (from to : ℕ) → from ≤ to → to ≤ length text → drop from (take to text) ≡ take (to - from) (drop from text)

@@ -1,5 +1,5 @@
 -- What is known of the fields before one, by their numbers.
-use Rattle.std.specs.Prelude.{◌≡◌, ◌≢◌, ℕ, List, [], ◌∷◌, Bool, true, false, ⊤, drop, ◌==◌}
+use Rattle.std.specs.Prelude.{◌≡◌, ℕ, List, [], ◌∷◌, Bool, true, false, ⊤, drop, ◌==◌}
 use Rattle.std.specs.List.{list_any}
 use Rattle.mc_dagpb.specs.declared.order.Order.{Order}
 use Rattle.mc_dagpb.specs.declared.order.Order.TheVariants.{Start, DataFirst, Links, DataLast}

@@ -2,3 +2,4 @@ pub mod Before
 pub mod Reads
 pub mod Seen
 pub mod Step
+pub mod Written

@@ -1,5 +1,5 @@
 -- What reading a node gives.
-use Rattle.std.specs.Prelude.{◌≡◌, ℕ, List, [], ◌∷◌, ◌++◌, Option, Some, None, Result, Ok, Err, ⊤}
+use Rattle.std.specs.Prelude.{◌≡◌, ℕ, List, [], ◌∷◌, ◌++◌, Some, Err, ⊤}
 use Rattle.mc_base.specs.NodeRead.{NodeText, node_of}
 use Rattle.mc_dagpb.specs.Seen.{fault_named, span_bytes}
 use Rattle.mc_dagpb.specs.declared.fault.NodeError.{NodeError}

@@ -1,8 +1,8 @@
 -- What the values of this crate say of a text.
-use Rattle.std.specs.Prelude.{◌≡◌, ◌≢◌, ℕ, ◌+◌, ◌-◌, ◌<◌, ◌≤◌, List, [], ◌∷◌, length, take, drop, Option, Some, None, Result, Ok, Err, ⊤}
+use Rattle.std.specs.Prelude.{◌≡◌, ℕ, ◌-◌, ◌<◌, ◌≤◌, List, ◌∷◌, length, take, drop, None}
 use Rattle.mc_base.specs.NodeRead as read
 use Rattle.mc_base.specs.NodeRead.{NodeText, link_front_fault}
-use Rattle.mc_base.specs.WireRead.{Front, Whole, Placed}
+use Rattle.mc_base.specs.WireRead.{Front, Whole}
 use Rattle.mc_wire.specs.Seen.{field_at, fronts_at, EndsAt}
 use Rattle.mc_wire.specs.declared.field.Field.{Field}
 use Rattle.mc_dagpb.specs.declared.fault.NodeFaultKind.{NodeFaultKind}

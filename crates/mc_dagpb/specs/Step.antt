@@ -1,7 +1,7 @@
 -- One field of a node.
-use Rattle.std.specs.Prelude.{◌≡◌, ℕ, ◌-◌, ◌<◌, ◌≤◌, List, [], ◌∷◌, ◌++◌, length, Option, Some, None}
+use Rattle.std.specs.Prelude.{◌≡◌, ℕ, ◌-◌, ◌<◌, ◌≤◌, List, ◌∷◌, length, Some, None}
 use Rattle.mc_base.specs.Wire.{Field}
-use Rattle.mc_base.specs.WireRead.{Front, Whole, Placed, fronts_from}
+use Rattle.mc_base.specs.WireRead.{Front, Whole, fronts_from}
 use Rattle.mc_base.specs.NodeRead.{node_front_fault, node_key_fault, body_fault, part_in, parts_in, first_of}
 use Rattle.mc_wire.specs.Seen.{field_at, fronts_at}
 use Rattle.mc_wire.specs.declared.field.Field.{Field as PlacedField}

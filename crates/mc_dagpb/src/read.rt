@@ -1,5 +1,6 @@
 // Reading a node.
 ghost use Rattle.std.specs.Prelude.{◌≡◌, Ok, IfOk, IfErr, OnOk};
+ghost use Rattle.mc_base.specs.Node.{IsNode};
 ghost use Rattle.mc_base.specs.NodeRead.{node_of};
 ghost use Rattle.mc_dagpb.specs.Reads.{node_text, IsFault, with_field};
 ghost use Rattle.mc_dagpb.specs.Step.{IsInside};
@@ -10,10 +11,12 @@ use crate::{Node, NodeError};
 use mc_base::{Bytes, List};
 use std::alloc::{AllocError, Global};
 
-/// The node of a text, by the profile of IPLD dag-pb that `node_of` states. The first fault, from left to right and with
+/// The node of a text, by this store's profile of IPLD dag-pb: Data at most once, before or after all links, and
+/// the fields of a link in ascending order, with a Hash. The first fault, from left to right and with
 /// a look into each link when it is met, is the answer for a text that is no node.
 pub fn read_node(alloc: Global, bytes: &[u8]) -> Result<Node, NodeError>
-    ensures node { IfOk result (λ node. node_of bytes.now ≡ Ok (node_text node)) }
+    ensures node { IfOk result (λ node. IsNode bytes.now node.links node.payload) }
+    ensures read { IfOk result (λ node. node_of bytes.now ≡ Ok (node_text node)) }
     ensures fault { IfErr result (λ error. IsFault bytes.now error) }
 {
     let mut node = Node {

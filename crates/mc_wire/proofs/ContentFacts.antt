@@ -1,13 +1,13 @@
 -- A content by its bytes is the one that is read.
-use Rattle.std.proofs.Common.{◌≡◌, ℕ, ◌+◌, ◌<◌, ◌≤◌, List, [], ◌∷◌, ◌++◌, length, take, drop, Bool, true, false, refl, ap, subst, sym, ◌∙◌, arith, append_assoc, length-append, Result, Ok, Err, ◌==◌}
+use Rattle.std.proofs.Common.{◌≡◌, ℕ, ◌+◌, ◌≤◌, List, [], ◌++◌, length, take, drop, true, false, refl, sym, ◌∙◌, arith, append_assoc, length-append, Result, Ok, Err}
 use Rattle.std.proofs.Math.Dec.{leb, eqb}
 use Rattle.std.proofs.Math.Seq.{drop-append_seam, take-append_seam, take-add}
 use Rattle.std.proofs.lemmas.Bool.{leb-true, le-leb, eqb-true}
 use Rattle.std.proofs.lemmas.List.{length-drop, length-take-le}
-use Rattle.mc_base.specs.Wire.{Content, Varint, Fixed64, Part, Fixed32, IsVarint, IsContent, wire_type}
+use Rattle.mc_base.specs.Wire.{Content, Varint, Fixed64, Part, Fixed32, IsContent, wire_type}
 use Rattle.mc_base.specs.WireRead.{front_varint, front_bytes, front_content, content_varint, content_part, WireFault, Short, WireType}
 use Rattle.mc_wire.proofs.Results.{pair_is, err_is_no_ok}
-use Rattle.mc_wire.proofs.VarintFacts.{VarintAt, varint_is_read, varint_read}
+use Rattle.mc_wire.proofs.VarintFacts.{varint_is_read, varint_read}
 
 front_bytes_are : (make : List ℕ → Content) (skipped part rest : List ℕ) (skip count : ℕ) → skip ≡ length skipped → count ≡ length part →
     front_bytes make skip count (skipped ++ (part ++ rest)) ≡ Ok (make part, skip + count)

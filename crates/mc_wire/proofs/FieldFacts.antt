@@ -1,12 +1,12 @@
 -- The fields of a text are those that are read.
-use Rattle.std.proofs.Common.{◌≡◌, ◌≢◌, ℕ, zero, suc, ◌+◌, ◌-◌, ◌*◌, ◌/◌, ◌%◌, ◌<◌, ◌≤◌, List, [], ◌∷◌, ◌++◌, length, take, drop, Bool, true, false, refl, ap, subst, sym, ◌∙◌, arith, append_assoc, length-append, Option, Some, None, Result, Ok, Err, ◌==◌}
-use Rattle.std.proofs.Math.Dec.{leb, eqb}
-use Rattle.std.proofs.Math.Seq.{drop-append_seam, take-append_seam, take-add}
-use Rattle.std.proofs.lemmas.Bool.{eqb-true, eqb-false, ne_eqb}
+use Rattle.std.proofs.Common.{◌≡◌, ◌≢◌, ℕ, zero, suc, ◌+◌, ◌*◌, ◌/◌, ◌%◌, ◌<◌, ◌≤◌, List, [], ◌∷◌, ◌++◌, length, take, drop, true, false, refl, sym, arith, append_assoc, length-append, Option, Some, None, Result, Ok, Err, ◌==◌}
+use Rattle.std.proofs.Math.Dec.{eqb}
+use Rattle.std.proofs.Math.Seq.{drop-append_seam, take-add}
+use Rattle.std.proofs.lemmas.Bool.{eqb-false, ne_eqb}
 use Rattle.std.proofs.lemmas.List.{length-drop, take-append-drop}
 use Rattle.std.specs.Option.{option_map}
 use Rattle.mc_base.specs.Wire.{Field, Fields, IsPiece, Content, Varint, Fixed64, Part, Fixed32, wire_type}
-use Rattle.mc_base.specs.WireRead.{Front, Whole, NoKey, NoContent, Placed, WireFault, front_of, front_varint, front_content, after_key, front_keyed, front_field, fronts_from, fields_in, fields_of, onto_fields}
+use Rattle.mc_base.specs.WireRead.{Front, Whole, NoKey, NoContent, WireFault, front_of, front_varint, front_content, after_key, front_keyed, front_field, fronts_from, fields_in}
 use Rattle.mc_wire.proofs.ContentFacts.{ContentFound, content_is_read, content_read}
 use Rattle.mc_wire.proofs.Fronts.{fronts_end, fronts_field, fronts_fault}
 use Rattle.mc_wire.proofs.VarintFacts.{VarintAt, varint_is_read, varint_read}

@@ -1,16 +1,14 @@
 -- A varint by its bytes is the one that is read.
-use Rattle.std.proofs.Common.{◌≡◌, ℕ, zero, suc, ◌+◌, ◌<◌, ◌≤◌, List, [], ◌∷◌, ◌++◌, length, get_or, take, drop, Bool, true, false, cond, refl, ap, subst, sym, ◌∙◌, arith, append_assoc, length-append, drop-cons, Ok, Err, Result, ◌&&◌}
-use Rattle.std.proofs.Math.Dec.{leb, ltb}
-use Rattle.std.proofs.Math.Bool.{and-false}
+use Rattle.std.proofs.Common.{◌≡◌, ℕ, suc, ◌+◌, ◌<◌, ◌≤◌, List, [], ◌∷◌, ◌++◌, length, get_or, take, drop, true, false, cond, refl, subst, sym, ◌∙◌, arith, append_assoc, length-append, drop-cons, Ok, ◌&&◌}
+use Rattle.std.proofs.Math.Dec.{leb}
 use Rattle.std.proofs.Math.Seq.{drop-append_seam, take-append-add}
-use Rattle.std.proofs.lemmas.Bool.{leb-true, leb-false, le-leb, lt-leb, le-ltb, ltb-false, false≢true}
+use Rattle.std.proofs.lemmas.Bool.{leb-true, leb-false, lt-leb, le-ltb, ltb-false, false≢true}
 use Rattle.std.proofs.lemmas.List.{take_more, length-take-le}
-use Rattle.std.proofs.lemmas.List.Sums.{prefix_len_passes, prefix_len_stops, prefix_len-le-length}
-use Rattle.std.specs.Bool.{if◌then◌else◌}
+use Rattle.std.proofs.lemmas.List.Sums.{prefix_len_passes, prefix_len_stops}
 use Rattle.std.specs.List.{prefix_len, list_all}
-use Rattle.std.specs.Prelude.{IsTrue, nat_lt, nat_le}
+use Rattle.std.specs.Prelude.{IsTrue, nat_le}
 use Rattle.mc_base.specs.Wire.{goes_on, groups_value, IsVarint}
-use Rattle.mc_base.specs.WireRead.{front_varint, has_no_room, WireFault, Short, LongVarint}
+use Rattle.mc_base.specs.WireRead.{front_varint, has_no_room, Short, LongVarint}
 use Rattle.mc_wire.proofs.Reading.{front_by}
 use Rattle.mc_wire.proofs.Results.{pair_is, err_is_no_ok}
 

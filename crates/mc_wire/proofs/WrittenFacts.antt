@@ -1,12 +1,12 @@
 -- What is written is what the wire format says.
-use Rattle.std.proofs.Common.{◌≡◌, ◌≢◌, ℕ, zero, suc, ◌+◌, ◌-◌, ◌*◌, ◌/◌, ◌%◌, ◌^◌, ◌<◌, ◌≤◌, List, [], ◌∷◌, ◌++◌, length, Bool, true, false, refl, ap, sym, ◌∙◌, arith, append_assoc, length-append}
+use Rattle.std.proofs.Common.{◌≡◌, ℕ, zero, suc, ◌+◌, ◌*◌, ◌/◌, ◌%◌, ◌^◌, ◌<◌, ◌≤◌, List, [], ◌∷◌, ◌++◌, length, true, false, refl, ap, ◌∙◌, arith, append_assoc, length-append}
 use Rattle.std.proofs.Math.Dec.{leb, ltb}
 use Rattle.std.proofs.Math.Pow.{pow_mono}
 use Rattle.std.proofs.lemmas.Bool.{ltb-true, ltb-false, leb-true, leb-false, le-leb}
 use Rattle.std.proofs.Math.Nat.{mul-le-mul_right, mod-eq_of_lt}
 use Rattle.std.specs.List.{list_all}
 use Rattle.std.specs.Prelude.{IsTrue}
-use Rattle.mc_base.specs.Wire.{goes_on, groups_value, IsVarint, IsPiece, Varint, Part, Content, varint_bytes, varint_field_bytes, part_field_bytes}
+use Rattle.mc_base.specs.Wire.{goes_on, groups_value, IsVarint, IsPiece, Varint, Part, varint_bytes, varint_field_bytes, part_field_bytes}
 use Rattle.mc_wire.proofs.Reading.{groups_value-push}
 use Rattle.mc_wire.proofs.Writing.{varint_bytes-one, varint_bytes-more}
 

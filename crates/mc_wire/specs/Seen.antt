@@ -1,5 +1,5 @@
 -- What the values of this crate say of a text.
-use Rattle.std.specs.Prelude.{◌≡◌, ◌≢◌, ℕ, ◌+◌, ◌-◌, ◌*◌, ◌<◌, ◌≤◌, List, [], ◌∷◌, length, take, drop, Option, Some, None, Result, Ok, Err, ⊤}
+use Rattle.std.specs.Prelude.{◌≡◌, ◌≢◌, ℕ, ◌+◌, ◌-◌, ◌*◌, ◌<◌, ◌≤◌, List, [], ◌∷◌, length, take, drop, Some, Result, Ok, Err, ⊤}
 use Rattle.mc_base.specs.Wire as wire
 use Rattle.mc_base.specs.Wire.{Field, wire_type}
 use Rattle.mc_base.specs.WireRead as read

@@ -13,7 +13,7 @@ pub use field::{Content, Field, Key};
 pub use laws::{fields_are_read, varints_are_read, written_is_read};
 pub use read::{next_field, next_key, read_field};
 pub use varint::varint_len;
-pub use write::{put_part_field, put_varint_field};
+pub use write::{put_part_field, put_part_head, put_varint_field};
 
 #[cfg(test)]
 mod tests;

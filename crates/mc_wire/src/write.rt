@@ -1,6 +1,6 @@
 // Writing fields.
 ghost use Rattle.std.specs.Prelude.{◌≡◌, ◌≤◌, ◌++◌, ◌*◌, length, take, OnOk, OnErr};
-ghost use Rattle.mc_base.specs.Wire.{varint_bytes, varint_field_bytes, part_field_bytes};
+ghost use Rattle.mc_base.specs.Wire.{varint_bytes, varint_field_bytes, part_head_bytes, part_field_bytes};
 ghost use Rattle.mc_wire.specs.Kept.{Keeps};
 
 use mc_base::Bytes;
@@ -34,6 +34,20 @@ pub fn put_part_field(out: &mut Bytes, number: u64, part: &[u8]) -> Result<(), A
     put
 }
 
+/// Appends the key and the length of a field of bytes, which the caller writes next. A refusal leaves `out` unchanged.
+pub fn put_part_head(out: &mut Bytes, number: u64, len: u64) -> Result<(), AllocError>
+    requires { (1 ≤ number) × (number ≤ 15) }
+    ensures ok { OnOk result (out.new ≡ out.old ++ part_head_bytes number len) }
+    ensures err { OnErr result (out.new ≡ out.old) }
+{
+    let before = out.len();
+    let put = push_part_head(out, number, len);
+    if put.is_err() {
+        out.truncate(before);
+    }
+    put
+}
+
 fn push_varint_field(out: &mut Bytes, number: u64, value: u64) -> Result<(), AllocError>
     requires { number ≤ 15 }
     ensures ok { OnOk result (out.new ≡ out.old ++ varint_field_bytes number value) }
@@ -48,9 +62,17 @@ fn push_part_field(out: &mut Bytes, number: u64, part: &[u8]) -> Result<(), Allo
     ensures ok { OnOk result (out.new ≡ out.old ++ part_field_bytes number part.now) }
     ensures err { OnErr result (Keeps out.old out.new) }
 {
-    push_varint(out, number * 8 + 2)?;
-    push_varint(out, part.len() as u64)?;
+    push_part_head(out, number, part.len() as u64)?;
     out.extend_from_slice(part)
+}
+
+fn push_part_head(out: &mut Bytes, number: u64, len: u64) -> Result<(), AllocError>
+    requires { number ≤ 15 }
+    ensures ok { OnOk result (out.new ≡ out.old ++ part_head_bytes number len) }
+    ensures err { OnErr result (Keeps out.old out.new) }
+{
+    push_varint(out, number * 8 + 2)?;
+    push_varint(out, len)
 }
 
 // Appends the shortest varint of a value. A refusal may leave some of its bytes.

@@ -1,5 +1,6 @@
-use Rattle.std.proofs.Common.{◌≡◌, rules, arith}
+use Rattle.std.proofs.Common.{rules}
 use Rattle.mc_dagpb.proofs.NodeFacts.{bad_node, good_node, next_node}
+use Rattle.mc_dagpb.proofs.NodeText.{node_told}
 use Rattle.mc_dagpb.proofs.read.read_node.Goals as goal
 
 pub returns-in_err-step-clause-fault : goal.returns-in_err-step-clause-fault
@@ -14,7 +15,12 @@ loop-node-preserved c =
     let stepped = rw c.in-Some.is at c.in_ok-step.ensures.step in
     rw c.in_ok-take.ensures (next_node c.args.bytes.now l.at l.order c.after-order.result l.node c.in-Some.step l.invariant stepped c.after-order.ensures)
 
+pub returns-clause-read : goal.returns-clause-read
+returns-clause-read c =
+    let l = c.loop-node in
+    good_node c.args.bytes.now l.at l.order l.node l.invariant (rw c.in_default.is at c.in_ok-step.ensures.end)
+
 pub returns-clause-node : goal.returns-clause-node
 returns-clause-node c =
     let l = c.loop-node in
-    good_node c.args.bytes.now l.at l.order l.node l.invariant (rw c.in_default.is at c.in_ok-step.ensures.end)
+    node_told c.args.bytes.now l.node.links l.node.payload (good_node c.args.bytes.now l.at l.order l.node l.invariant (rw c.in_default.is at c.in_ok-step.ensures.end))

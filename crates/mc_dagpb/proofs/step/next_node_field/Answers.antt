@@ -1,4 +1,4 @@
-use Rattle.std.proofs.Common.{◌≡◌, ◌∙◌}
+use Rattle.std.proofs.Common.{◌∙◌}
 use Rattle.mc_dagpb.proofs.step.next_node_field.Goals as goal
 
 pub step_of-requires-clause-typed : goal.step_of-requires-clause-typed

@@ -1,4 +1,4 @@
-use Rattle.std.proofs.Common.{◌≡◌, ◌∙◌, ap, rules}
+use Rattle.std.proofs.Common.{◌∙◌, ap, rules}
 use Rattle.mc_base.specs.NodeRead.{fault_in}
 use Rattle.mc_dagpb.proofs.StepFacts.{link_number, link_body, link_step}
 use Rattle.mc_dagpb.proofs.step.step_of.Goals as goal

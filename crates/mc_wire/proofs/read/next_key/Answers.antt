@@ -1,4 +1,4 @@
-use Rattle.std.proofs.Common.{sym, arith, refl}
+use Rattle.std.proofs.Common.{sym, arith}
 use Rattle.mc_wire.proofs.Keys.{key_at, no_key}
 use Rattle.mc_wire.proofs.Fronts.{fronts_at_end}
 use Rattle.mc_wire.proofs.read.next_key.Goals as goal

@@ -1,4 +1,4 @@
-use Rattle.std.proofs.Common.{◌≡◌, ℕ, ◌<◌, ◌≤◌, ◌+◌, ◌*◌, ◌-◌, ◌^◌, arith}
+use Rattle.std.proofs.Common.{◌-◌, arith}
 use Rattle.mc_wire.proofs.Reading.{digit_fits, ends_varint, tenth_varint, short_varint, reads_more}
 use Rattle.mc_wire.proofs.varint.read_varint.Goals as goal
 

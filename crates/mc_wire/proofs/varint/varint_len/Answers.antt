@@ -1,4 +1,4 @@
-use Rattle.std.proofs.Common.{◌≡◌, ◌+◌, length, ap, arith}
+use Rattle.std.proofs.Common.{◌≡◌, length, ap, arith}
 use Rattle.mc_base.specs.Wire.{varint_bytes}
 use Rattle.mc_wire.proofs.Writing.{varint_bytes-one}
 use Rattle.mc_wire.proofs.WrittenFacts.{varint_bytes_most}
