@@ -1,0 +1,10 @@
+pub mod FrontFields
+pub mod LinkFacts
+pub mod LinkHash
+pub mod LinkLaw
+pub mod NodeFacts
+pub mod NodeLaw
+pub mod NodeOrder
+pub mod NodeText
+pub mod StepFacts
+pub mod Utf8

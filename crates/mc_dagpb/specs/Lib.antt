@@ -1,0 +1,4 @@
+pub mod Before
+pub mod Reads
+pub mod Seen
+pub mod Step

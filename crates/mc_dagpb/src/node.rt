@@ -1,0 +1,9 @@
+// What a node says.
+use mc_base::{Bytes, List};
+
+/// The Hash of each link, in order, and the content of Data, where it stands.
+#[derive(Debug, Drop)]
+pub struct Node {
+    pub links: List<Bytes>,
+    pub payload: Option<Bytes>,
+}

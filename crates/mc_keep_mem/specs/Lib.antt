@@ -1,0 +1,5 @@
+pub mod Chains
+pub mod Front
+pub mod Graph
+pub mod Tombs
+pub mod Values

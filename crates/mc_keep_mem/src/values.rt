@@ -1,0 +1,110 @@
+// The table of value rows, and its keys in order: a hash table with room for the next commits, the keys that were put
+// into order, and those that wait to be.
+ghost use Rattle.std.specs.Prelude.{◌≡◌, ℕ, ◌<◌, ◌≤◌, ◌+◌, ◌++◌, ◌∷◌, [], true, List, length, vec_len, vec_capacity, IfOk, OnOk, IfSome, IfNone, is_some, fold, cond, not, Some, None};
+ghost use Rattle.std.specs.Str.{bytes_eq};
+ghost use Rattle.std.specs.List.{list_all};
+ghost use Rattle.std.specs.HashMap.{spare};
+ghost use Rattle.std.specs.String.{string_bytes};
+ghost use Rattle.mc_keep.specs.Changes.{value_after, values_after};
+ghost use Rattle.mc_keep.specs.Tables.{is_named};
+ghost use Rattle.mc_keep_mem.specs.Values.{row_in, IsCovered};
+
+use mc_base::{Bytes, Text};
+use mc_keep::{ValueChange, ValueRow};
+use std::alloc::{AllocError, Global};
+use std::collections::{BTreeSet, HashMap};
+use std::hash::BuildHasher;
+
+/// A value with its priority. Its key is that of the table.
+#[derive(Debug, Drop)]
+pub struct Held {
+    pub priority: u64,
+    pub value: Bytes,
+}
+
+/// The value rows, and their keys in order.
+#[derive(Drop)]
+pub struct Values<S: BuildHasher + Drop> {
+    pub rows: HashMap<String, Held, S>,
+    pub ordered: BTreeSet<String>,
+    pub pending: Vec<String>,
+}
+
+// Makes a change. It takes no memory.
+pub fn put_value<S: BuildHasher + Drop>(values: &mut Values<S>, change: ValueChange)
+    requires rows_room { 0 < spare values.old.rows }
+    requires pending_room { vec_len values.old.pending < vec_capacity values.old.pending }
+    requires named { is_named change ≡ true }
+    requires covered { IsCovered values.old.rows values.old.ordered values.old.pending.items }
+    ensures rows { (key : List ℕ) → row_in values.new.rows key ≡ value_after key (row_in values.old.rows key) change }
+    ensures covered { IsCovered values.new.rows values.new.ordered values.new.pending.items }
+    ensures rows_spare { spare values.old.rows ≤ spare values.new.rows + 1 }
+    ensures pending_spare { vec_len values.new.pending ≤ vec_len values.old.pending + 1 }
+    ensures pending_capacity { vec_capacity values.old.pending ≤ vec_capacity values.new.pending }
+{
+    let ValueChange { key, row } = change;
+    match row {
+        Some(row) => set_row(values, key, row),
+        None => remove_row(&mut values.rows, key.as_str()),
+    }
+}
+
+// Gives a key a value.
+fn set_row<S: BuildHasher + Drop>(values: &mut Values<S>, key: Text, row: ValueRow)
+    requires rows_room { 0 < spare values.old.rows }
+    requires pending_room { vec_len values.old.pending < vec_capacity values.old.pending }
+    requires named { bytes_eq row.key key ≡ true }
+    requires covered { IsCovered values.old.rows values.old.ordered values.old.pending.items }
+    ensures rows { (other : List ℕ) → row_in values.new.rows other ≡ cond (bytes_eq key other) (Some (row.priority, row.value)) (row_in values.old.rows other) }
+    ensures covered { IsCovered values.new.rows values.new.ordered values.new.pending.items }
+    ensures rows_spare { spare values.old.rows ≤ spare values.new.rows + 1 }
+    ensures pending_spare { vec_len values.new.pending ≤ vec_len values.old.pending + 1 }
+    ensures pending_capacity { vec_capacity values.old.pending ≤ vec_capacity values.new.pending }
+{
+    let ValueRow {
+        key: name,
+        priority,
+        value,
+    } = row;
+    if insert_row(&mut values.rows, key, Held { priority, value }) {
+        values.pending.push_reserved(name.into_string());
+    }
+}
+
+// Puts a row in, and tells whether its key is new.
+fn insert_row<S: BuildHasher>(rows: &mut HashMap<String, Held, S>, key: Text, held: Held) -> bool
+    requires room { 0 < spare rows.old }
+    ensures rows { (other : List ℕ) → row_in rows.new other ≡ cond (bytes_eq key other) (Some (held.priority, held.value)) (row_in rows.old other) }
+    ensures new { result ≡ not (is_some (row_in rows.old key)) }
+    ensures spare { spare rows.old ≤ spare rows.new + 1 }
+{
+    match rows.insert(key.into_string(), held) {
+        Ok(None) => true,
+        _ => false,
+    }
+}
+
+// Takes a row out.
+fn remove_row<S: BuildHasher>(rows: &mut HashMap<String, Held, S>, key: &str)
+    ensures rows { (other : List ℕ) → row_in rows.new other ≡ cond (bytes_eq key.now other) None (row_in rows.old other) }
+    ensures spare { spare rows.old ≤ spare rows.new }
+{
+    let _old = rows.remove(key);
+}
+
+/// Makes the changes in their order. It takes no memory.
+pub fn put_values<S: BuildHasher + Drop>(values: &mut Values<S>, changes: Vec<ValueChange>)
+    requires rows_room { length changes.items ≤ spare values.old.rows }
+    requires pending_room { vec_len values.old.pending + length changes.items ≤ vec_capacity values.old.pending }
+    requires named { list_all is_named changes.items ≡ true }
+    requires covered { IsCovered values.old.rows values.old.ordered values.old.pending.items }
+    ensures rows { (key : List ℕ) → row_in values.new.rows key ≡ values_after key (row_in values.old.rows key) changes.items }
+    ensures covered { IsCovered values.new.rows values.new.ordered values.new.pending.items }
+    ensures rows_spare { spare values.old.rows ≤ spare values.new.rows + length changes.items }
+    ensures pending_spare { vec_len values.new.pending ≤ vec_len values.old.pending + length changes.items }
+    ensures pending_capacity { vec_capacity values.old.pending ≤ vec_capacity values.new.pending }
+{
+    for change in changes {
+        put_value(values, change);
+    }
+}

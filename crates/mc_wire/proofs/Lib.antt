@@ -1,0 +1,9 @@
+pub mod ContentFacts
+pub mod FieldFacts
+pub mod Fronts
+pub mod Keys
+pub mod Reading
+pub mod Results
+pub mod VarintFacts
+pub mod Writing
+pub mod WrittenFacts
