@@ -1,4 +1,5 @@
 pub mod Chains
+pub mod Fits
 pub mod Front
 pub mod Graph
 pub mod Tombs
