@@ -3,6 +3,8 @@ use Rattle.std.specs.Prelude.{◌≡◌, ◌≤◌, ◌+◌, ℕ, Bool, true, fa
 use Rattle.std.specs.List.{list_any, list_all}
 use Rattle.std.specs.HashMap.{spare as map_spare, get}
 use Rattle.std.specs.HashSet.{spare as set_spare}
+use Rattle.std.specs.declared.hash.BuildHasher as build
+use Rattle.std.specs.declared.hash.Hasher as hash
 use Rattle.mc_base.specs.declared.cid.Cid.{Cid}
 use Rattle.mc_model.specs.declared.block.Stored.{Stored}
 use Rattle.mc_model.specs.Ascending.{is_once}
@@ -21,14 +23,14 @@ use Rattle.mc_keep_mem.specs.Tombs.{has_tomb_in, with_tomb}
 use Rattle.mc_keep_mem.specs.Values.{row_in, IsCovered}
 
 -- what the tables stand for
-abbrev pub kept_in : {S : Type 0} → Tables S → Kept
+abbrev pub kept_in : {S X : Type 0} {g : build.Ghosts S X} {h : hash.Ghosts X} → Tables S X g h → Kept
 kept_in tables = record { graph = graph_of tables.blocks; order = tables.order.keys; mark = tables.mark }
 
-abbrev pub tomb_in : {S : Type 0} → Tables S → List ℕ → List ℕ → Bool
+abbrev pub tomb_in : {S X : Type 0} {g : build.Ghosts S X} {h : hash.Ghosts X} → Tables S X g h → List ℕ → List ℕ → Bool
 tomb_in tables key id = has_tomb_in tables.tombs.keys.keys tables.tombs.ids.keys tables.tombs.pairs.keys key id
 
 -- the tables are exactly those of what they stand for
-pub record Fits {S : Type 0} (tables : Tables S) : Type 0 where
+pub record Fits {S X : Type 0} {g : build.Ghosts S X} {h : hash.Ghosts X} (tables : Tables S X g h) : Type 0 where
   pub kept : IsKept (kept_in tables)
   pub elements : (key : List ℕ) → SameMembers (rows_in tables.elements.nodes.items tables.elements.lasts key) (element_rows_of (processed (kept_in tables)) key)
   pub tombs : (key id : List ℕ) → tomb_in tables key id ≡ has_tomb (processed (kept_in tables)) key id
@@ -39,7 +41,7 @@ pub record Fits {S : Type 0} (tables : Tables S) : Type 0 where
   pub heads : (cid : Cid) → get same_cid tables.heads cid ≡ head_at (processed (kept_in tables)) cid
 
 -- each table has room for so many rows more
-pub record RoomFor {S : Type 0} (tables : Tables S) (rows : ℕ) : Type 0 where
+pub record RoomFor {S X : Type 0} {g : build.Ghosts S X} {h : hash.Ghosts X} (tables : Tables S X g h) (rows : ℕ) : Type 0 where
   pub blocks : rows ≤ map_spare tables.blocks
   pub order : rows ≤ set_spare tables.order
   pub links : rows ≤ set_spare tables.links
@@ -54,14 +56,14 @@ pub record RoomFor {S : Type 0} (tables : Tables S) (rows : ℕ) : Type 0 where
   pub pending : vec_len tables.values.pending + rows ≤ vec_capacity tables.values.pending
 
 -- the blocks to store and to process are new, and the changed values are named
-pub record ChangesMeet {S : Type 0} (tables : Tables S) (changes : Changes) : Type 0 where
+pub record ChangesMeet {S X : Type 0} {g : build.Ghosts S X} {h : hash.Ghosts X} (tables : Tables S X g h) (changes : Changes) : Type 0 where
   pub new : list_any (λ (stored : Stored). is_stored (graph_of tables.blocks) stored.cid) changes.store ≡ false
   pub once : is_once same_cid (cids_of changes.store) ≡ true
   pub fresh : are_fresh tables.order.keys changes.marks ≡ true
   pub named : list_all is_named changes.values ≡ true
   pub covered : IsCovered tables.values.rows tables.values.ordered tables.values.pending.items
 
-pub record Applied {S : Type 0} (old new : Tables S) (changes : Changes) : Type 0 where
+pub record Applied {S X : Type 0} {g : build.Ghosts S X} {h : hash.Ghosts X} (old new : Tables S X g h) (changes : Changes) : Type 0 where
   pub graph : graph_of new.blocks ≡ graph_of old.blocks ++ changes.store
   pub order : new.order.keys ≡ old.order.keys ++ changes.marks
   pub mark : new.mark ≡ unwrap_or changes.mark old.mark
