@@ -8,3 +8,5 @@ pub mod ChainFacts
 pub mod SortFacts
 pub mod HeadFacts
 pub mod Reordered
+pub mod Fit
+pub mod FitAfter
