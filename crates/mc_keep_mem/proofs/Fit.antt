@@ -39,7 +39,7 @@ found_still : (graph more : List Stored) (cid : Cid) → is_stored graph cid ≡
 found_still [] more cid e = absurd (let f : false ≡ true = e in cc)
 found_still (s ∷ graph) more cid e =
     elim (same_cid cid s.cid) as (λ t. is_some (option_map (λ (stored : Stored). stored.bytes) (cond t (Some s) (find (λ (stored : Stored). same_cid cid stored.cid) graph))) ≡ true
-        → option_map (λ (stored : Stored). stored.bytes) (cond t (Some s) (find (λ (stored : Stored). same_cid cid stored.cid) (graph ++ more))) ≡ option_map (λ (stored : Stored). stored.bytes) (cond t (Some s) (find (λ (stored : Stored). same_cid cid stored.cid) graph))) [
+    → option_map (λ (stored : Stored). stored.bytes) (cond t (Some s) (find (λ (stored : Stored). same_cid cid stored.cid) (graph ++ more))) ≡ option_map (λ (stored : Stored). stored.bytes) (cond t (Some s) (find (λ (stored : Stored). same_cid cid stored.cid) graph))) [
       | true ↦ λ h. refl
       | false ↦ λ h. found_still graph more cid h
     ] e
@@ -86,6 +86,7 @@ elements_put test key rows (row ∷ new) =
     one : (b : Bool) → list_any test (cond b (row ∷ rows) rows) ≡ ((b && test row) || list_any test rows)
     one true = refl
     one false = refl
+
     last : (a b c : Bool) → ((a || b) || c) ≡ (b || (a || c))
     last true true c = refl
     last true false c = refl
@@ -136,6 +137,7 @@ opened_all order cid there (link ∷ links) =
     at_link : (b : Bool) → same_cid cid link ≡ b → (same_cid cid link && not (is_among order link)) ≡ (same_cid cid link && not (is_among order cid))
     at_link true e = ap (λ (z : Cid). same_cid cid link && not (is_among order z)) (sym (cid_is cid link e))
     at_link false e = ap (λ t. t && not (is_among order link)) e ∙ ap (λ t. t && not (is_among order cid)) (sym e)
+
     swap : (a n b c : Bool) → (((a && n) || b) || (c && n)) ≡ (b || ((a || c) && n))
     swap true true true c = refl
     swap true true false c = refl

@@ -61,13 +61,15 @@ module _ {S X : Type 0} {g : build.Ghosts S X} {h : hash.Ghosts X} (old new : Ta
   blocks_after = ap processed told_after ∙ processed_after (kept_in old) changes fits.kept
 
   elements_after : (key : List ℕ) → SameMembers (rows_in new.elements.nodes.items new.elements.lasts key) (element_rows_of (processed (kept_in new)) key)
-  elements_after key = record { same = λ test.
-      ap (list_any test) (applied.elements key)
-      ∙ elements_put test key (rows_in old.elements.nodes.items old.elements.lasts key) changes.elements
-      ∙ ap (λ t. t || list_any (λ (row : ElementRow). bytes_eq row.key key && test row) changes.elements) ((fits.elements key).same test)
-      ∙ ap (λ t. list_any test (element_rows_of (processed (kept_in old)) key) || t) (meet.rows.elements.same (λ (row : ElementRow). bytes_eq row.key key && test row))
-      ∙ sym (rows_of-append test key (processed (kept_in old)) (newly_processed (kept_in old) changes))
-      ∙ ap (λ z. list_any test (element_rows_of z key)) (sym blocks_after) }
+  elements_after key = record {
+    same = λ test.
+        ap (list_any test) (applied.elements key)
+        ∙ elements_put test key (rows_in old.elements.nodes.items old.elements.lasts key) changes.elements
+        ∙ ap (λ t. t || list_any (λ (row : ElementRow). bytes_eq row.key key && test row) changes.elements) ((fits.elements key).same test)
+        ∙ ap (λ t. list_any test (element_rows_of (processed (kept_in old)) key) || t) (meet.rows.elements.same (λ (row : ElementRow). bytes_eq row.key key && test row))
+        ∙ sym (rows_of-append test key (processed (kept_in old)) (newly_processed (kept_in old) changes))
+        ∙ ap (λ z. list_any test (element_rows_of z key)) (sym blocks_after);
+  }
 
   gaps_after : (cid : Cid) → is_among new.gaps.keys cid ≡ is_gap (processed (kept_in new)) cid
   gaps_after cid =
@@ -96,8 +98,8 @@ module _ {S X : Type 0} {g : build.Ghosts S X} {h : hash.Ghosts X} (old new : Ta
     kept = subst IsKept (sym told_after) (commit_sound (kept_in old) changes fits.kept meet.store meet.marks);
     elements = elements_after;
     tombs = λ key id.
-      applied.tombs key id ∙ tombs_put key id (tomb_in old key id) changes.tombs ∙ ap (λ t. t || has_tomb_row changes.tombs key id) (fits.tombs key id)
-      ∙ sym (meet.rows.tombs key id) ∙ ap (λ z. has_tomb z key id) (sym blocks_after);
+        applied.tombs key id ∙ tombs_put key id (tomb_in old key id) changes.tombs ∙ ap (λ t. t || has_tomb_row changes.tombs key id) (fits.tombs key id)
+        ∙ sym (meet.rows.tombs key id) ∙ ap (λ z. has_tomb z key id) (sym blocks_after);
     values = λ key. applied.values key ∙ ap (λ z. values_after key z changes.values) (fits.values key) ∙ sym (meet.rows.values key) ∙ ap (λ z. value_row z key) (sym blocks_after);
     covered = applied.covered;
     links = links_after;

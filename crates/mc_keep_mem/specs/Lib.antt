@@ -2,5 +2,6 @@ pub mod Chains
 pub mod Fits
 pub mod Front
 pub mod Graph
+pub mod Plan
 pub mod Tombs
 pub mod Values
