@@ -8,3 +8,4 @@ pub mod ChainFacts
 pub mod SortFacts
 pub mod HeadFacts
 pub mod Reordered
+pub mod FrontMembers
