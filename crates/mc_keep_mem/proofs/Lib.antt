@@ -9,3 +9,4 @@ pub mod SortFacts
 pub mod HeadFacts
 pub mod Reordered
 pub mod FrontMembers
+pub mod GapCount
