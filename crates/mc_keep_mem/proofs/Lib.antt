@@ -10,3 +10,5 @@ pub mod HeadFacts
 pub mod Reordered
 pub mod Fit
 pub mod FitAfter
+pub mod FrontMembers
+pub mod GapCount
