@@ -12,3 +12,4 @@ pub mod Fit
 pub mod FitAfter
 pub mod FrontMembers
 pub mod GapCount
+pub mod IfOk

@@ -1,6 +1,7 @@
 // The table of heads, with room for the next commits.
 ghost use Rattle.std.specs.Prelude.{◌≡◌, ◌≤◌, ◌<◌, ◌+◌, IfOk, OnOk, length, fold};
-ghost use Rattle.indexmap.specs.IndexMap.{spare, get};
+ghost use Rattle.std.specs.List.{IsDistinct};
+ghost use Rattle.indexmap.specs.IndexMap.{keys, spare, get};
 ghost use Rattle.mc_base.specs.declared.cid.Cid.{Cid};
 ghost use Rattle.mc_model.specs.Ascending.{Ascends};
 ghost use Rattle.mc_model.specs.Front.{same_cid, head_cmp};
@@ -57,7 +58,8 @@ pub fn reserve_heads(heads: &mut IndexMap<Cid, u64>, rows: usize) -> Result<(), 
 
 /// The heads, ascending.
 pub fn head_rows(alloc: Global, heads: &IndexMap<Cid, u64>) -> Result<List<HeadRow>, AllocError>
-    ensures { IfOk result (λ rows. Ascends head_cmp (heads_in_rows rows) heads.now.entries) }
+    ensures rows { IfOk result (λ rows. Ascends head_cmp (heads_in_rows rows) heads.now.entries) }
+    ensures distinct { OnOk result (IsDistinct same_cid (keys heads.now)) }
 {
     let mut rows = copy_heads(alloc, heads)?;
     rows.sort_unstable();
@@ -66,7 +68,8 @@ pub fn head_rows(alloc: Global, heads: &IndexMap<Cid, u64>) -> Result<List<HeadR
 }
 
 fn copy_heads(alloc: Global, heads: &IndexMap<Cid, u64>) -> Result<Vec<HeadRow>, AllocError>
-    ensures { IfOk result (λ rows. heads_in_rows rows.items ≡ heads.now.entries) }
+    ensures rows { IfOk result (λ rows. heads_in_rows rows.items ≡ heads.now.entries) }
+    ensures distinct { OnOk result (IsDistinct same_cid (keys heads.now)) }
 {
     let mut rows = Vec::with_capacity(alloc, heads.len())?;
     for (cid, height) in heads.iter() {
