@@ -10,3 +10,4 @@ pub mod HeadFacts
 pub mod Reordered
 pub mod FrontMembers
 pub mod GapCount
+pub mod NextFacts
