@@ -1,11 +1,12 @@
--- The least key in order past a bound, and the next row.
+-- The least key in order past a bound, and keys that need not be in order.
 use Rattle.std.proofs.Common.{◌≡◌, ℕ, Bool, true, false, cond, ◌||◌, List, [], ◌∷◌, Option, Some, None, sym, refl, ap, ◌∙◌, subst}
 use Rattle.std.specs.Prelude.{is_some}
 use Rattle.std.specs.List.{list_any}
 use Rattle.std.specs.Str.{bytes_eq}
 use Rattle.std.specs.Ordering.{is_lt, is_le, is_gt, is_eq, nat_cmp, ordering_reverse}
 use Rattle.std.specs.Cmp.Lexicographic.{slice_cmp}
-use Rattle.std.specs.HashMap.{HashMap}
+use Rattle.std.specs.HashMap.{HashMap, get_by_text}
+use Rattle.std.specs.Option.{option_copied}
 use Rattle.std.specs.BTreeMap.Range.{IsInRange, IsLeBy}
 use Rattle.std.specs.BTreeSet.{BTreeSet, contains, contains_text, IsKeyRangeOf}
 use Rattle.std.specs.declared.cmp.Ordering.{Ordering}
@@ -17,12 +18,11 @@ use Rattle.std.specs.String.{string_bytes, string_cmp}
 use Rattle.std.proofs.lemmas.Cmp.{nat_list_cmp_total}
 use Rattle.std.proofs.lemmas.Map.Text.{is_eq-slice_cmp}
 use lib.Pointwise.{bytes_decides}
-use Rattle.mc_model.specs.Rank.{Ranked}
-use Rattle.mc_keep.specs.Next.{is_past, IsNextRow, IsNextOf}
-use Rattle.mc_keep.specs.declared.rows.ValueRow.{ValueRow}
+use Rattle.mc_keep.specs.Next.{is_past}
 use Rattle.mc_keep_mem.specs.declared.values.Held.{Held}
 use Rattle.mc_keep_mem.specs.InOrder.{IsFirst, IsFirstText}
-use Rattle.mc_keep_mem.specs.Values.{row_in, has_text, IsCovered}
+use Rattle.mc_keep_mem.specs.Values.{ranked_held, row_in, has_text, IsCovered}
+use denote.Ref.{Bor}
 
 le_not_gt : (o : Ordering) → is_le o ≡ true → is_gt o ≡ false
 le_not_gt Less e = refl
@@ -96,32 +96,6 @@ module _ {Y : Type 0} (ordered : BTreeSet (String Y)) (from : String Y) (range :
   pub none_after : IsKeyRangeOf string_cmp (Excluded from) Unbounded ordered range → range ≡ [] → IsFirst ordered (string_bytes from) false None
   none_after is e = none_of ordered (Excluded from) (string_bytes from) false (λ k p. (lt_less (string_cmp from k) p, tt)) (λ k i. ap is_lt i.0) range is e
 
-is_none : (row : Option Ranked) → is_some row ≡ false → row ≡ None
-is_none None e = refl
-is_none (Some ranked) e = absurd (let f : true ≡ false = e in cc)
-
-module _ {Y S : Type 0} (rows : HashMap (String Y) Held S) (ordered : BTreeSet (String Y)) (pending : List (String Y)) (covered : IsCovered rows ordered pending) (settled : pending ≡ []) where
-  -- a key that is not in order has no value
-  not_there : (key : List ℕ) → contains_text ordered key ≡ false → row_in rows key ≡ None
-  not_there key gone = is_none (row_in rows key) (by (is_some (row_in rows key)) refl)
-    where
-      by : (b : Bool) → is_some (row_in rows key) ≡ b → is_some (row_in rows key) ≡ false
-      by false e = e
-      by true e =
-          let there : (contains_text ordered key || has_text pending key) ≡ true = covered.each key e in
-          absurd (let f : false ≡ true = sym (ap (λ (t : Bool). t || has_text pending key) gone ∙ ap (λ (z : List (String Y)). has_text z key) settled) ∙ there in cc)
-
-  pub next_is : (bound first : List ℕ) (inclusive : Bool) (row : ValueRow) → IsFirstText ordered bound inclusive first → row.key ≡ first → row_in rows first ≡ Some (row.priority, row.value)
-      → IsNextOf (row_in rows) bound inclusive (Some row)
-  next_is bound first inclusive row is named value = record {
-    past = ap (is_past bound inclusive) named ∙ is.past;
-    is_value = ap (row_in rows) named ∙ value;
-    least = λ key p below. not_there key (is.least key p (ap (λ z. is_lt (slice_cmp nat_cmp key z)) (sym named) ∙ below));
-  }
-
-  pub next_none : (bound : List ℕ) (inclusive : Bool) → IsFirst ordered bound inclusive None → IsNextOf (row_in rows) bound inclusive None
-  next_none bound inclusive none key p = not_there key (none key p)
-
 -- a key without a value needs not be in order
 pub covered_without : {Y S : Type 0} (rows : HashMap (String Y) Held S) (ordered new : BTreeSet (String Y)) (pending : List (String Y)) (key : List ℕ) → row_in rows key ≡ None
     → ((other : List ℕ) → contains_text new other ≡ cond (bytes_eq key other) false (contains_text ordered other))
@@ -132,3 +106,12 @@ covered_without rows ordered new pending key gone without covered = record { eac
     by other true e has = absurd (let f : false ≡ true = sym (ap is_some (ap (row_in rows) (sym ((bytes_decides key other).0 e)) ∙ gone)) ∙ has in cc)
     by other false e has =
         ap (λ t. t || has_text pending other) (without other ∙ ap (λ t. cond t false (contains_text ordered other)) e) ∙ covered.each other has
+
+-- where a look-up by the bytes of a key gives nothing, the key has no value
+pub no_value : {Y S : Type 0} (rows : HashMap (String Y) Held S) (text key : List ℕ) (held : Option (Bor Held)) → text ≡ key → option_copied held ≡ get_by_text rows text → ((x : Bor Held) → held ≡ Some x → ⊥) → row_in rows key ≡ None
+no_value rows text key held same value never =
+    ap (row_in rows) (sym same) ∙ ap ranked_held (sym value ∙ ap option_copied (nothing held never))
+  where
+    nothing : (held : Option (Bor Held)) → ((x : Bor Held) → held ≡ Some x → ⊥) → held ≡ None
+    nothing None never = refl
+    nothing (Some x) never = absurd (never x refl)

@@ -8,7 +8,7 @@ ghost use Rattle.mc_keep.specs.Next.{IsNextOf};
 ghost use Rattle.mc_keep_mem.specs.InOrder.{IsFirst};
 ghost use Rattle.mc_keep_mem.specs.Values.{row_in, IsCovered};
 
-use crate::values::{Values, value_of};
+use crate::values::{Values, row_of_key};
 use mc_base::Text;
 use mc_keep::ValueRow;
 use std::alloc::{AllocError, Global};
@@ -81,8 +81,8 @@ fn next_in_order<S: BuildHasher + Drop>(
     ensures covered { IsCovered values.new.rows values.new.ordered values.new.pending.items }
 {
     while let Some(key) = first_key(alloc, &values.ordered, from, inclusive)? {
-        if let Some(row) = value_of(alloc, &values.rows, key.as_str())? {
-            return Ok(Some(row));
+        if let Some(held) = values.rows.get(key.as_str()) {
+            return Ok(Some(row_of_key(alloc, key, held)?));
         }
         drop_key(&mut values.ordered, key.as_str());
     }

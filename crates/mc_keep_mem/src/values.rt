@@ -119,13 +119,20 @@ pub fn value_of<S: BuildHasher>(
     ensures row { IfOk result (λ row. IfSome row (λ r. (r.key ≡ key.now) × (row_in rows.now key.now ≡ Some (r.priority, r.value)))) }
 {
     match rows.get(key) {
-        Some(held) => Ok(Some(ValueRow {
-            key: Text::from_text(alloc, key)?,
-            priority: held.priority,
-            value: held.value.try_clone(alloc)?,
-        })),
+        Some(held) => Ok(Some(row_of_key(alloc, Text::from_text(alloc, key)?, held)?)),
         None => Ok(None),
     }
+}
+
+// The row of a key, which is moved into it.
+pub fn row_of_key(alloc: Global, key: Text, held: &Held) -> Result<ValueRow, AllocError>
+    ensures { IfOk result (λ row. (row.key ≡ key) × (row.priority ≡ held.now.priority) × (row.value ≡ held.now.value)) }
+{
+    Ok(ValueRow {
+        key,
+        priority: held.priority,
+        value: held.value.try_clone(alloc)?,
+    })
 }
 
 /// Whether a key has a value. It takes no memory.
