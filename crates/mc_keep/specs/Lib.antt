@@ -3,4 +3,5 @@ pub mod Changes
 pub mod ElementOrder
 pub mod HeadOrder
 pub mod Next
+pub mod Plan
 pub mod Tables

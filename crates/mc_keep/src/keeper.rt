@@ -1,5 +1,6 @@
 // Where the blocks of a replica and their rows are kept.
 ghost use Rattle.std.specs.Prelude.{◌≡◌, ◌≤◌, ◌+◌, ℕ, Bool, Option, None, true, IfSome, IfOk, OnOk, OnErr, is_some, slice_get};
+ghost use Rattle.std.specs.Result.{is_err};
 ghost use Rattle.std.specs.List.{position};
 ghost use Rattle.mc_base.specs.Causes.{Rose, HasCause};
 ghost use Rattle.mc_base.specs.Told.{Told};
@@ -11,6 +12,7 @@ ghost use Rattle.mc_keep.specs.Causes.{IfTold, KeepCause, StaysQuiet, burnt, fir
 ghost use Rattle.mc_keep.specs.Changes.{row_count, changed, heads_in_rows};
 ghost use Rattle.mc_keep.specs.Next.{IsNext};
 ghost use Rattle.mc_keep.specs.ElementOrder.{element_cmp};
+ghost use Rattle.mc_keep.specs.Plan.{Schedule, ReadsAsPlanned, CommitsAsPlanned, is_fault};
 ghost use Rattle.mc_keep.specs.Tables.{ChangesFit, IsSummary, IsSmall, IsValueRow, element_rows_of};
 
 use crate::{Changes, ElementRow, HeadRow, KeepError, Summary, ValueRow};
@@ -47,6 +49,9 @@ pub trait Keeper: Counted + Send + Sync {
     /// Whether the count of a desk is known never to rise where it is used on a quiet keeper.
     ghost quiet_desk: { Self.Desk → Bool };
 
+    /// Which calls are planned to fail, where that is known.
+    ghost schedule: { Self → Option Schedule };
+
     /// How often the keeper has failed without its fuse, at most `u64::MAX`.
     fn own_faults(&self) -> u64
         ensures { result ≡ own self.now };
@@ -60,6 +65,7 @@ pub trait Keeper: Counted + Send + Sync {
         ensures spare { spare self.old ≤ spare self.new }
         ensures own { KeepCause (own self.old) (own self.new) result }
         ensures quiet { StaysQuiet (quiet self.old) (quiet self.new) (own self.old) (own self.new) }
+        ensures planned { ReadsAsPlanned (schedule self.old) (schedule self.new) (is_fault result) }
         ensures cause { KeepCause (Self.faults self.old) (Self.faults self.new) result };
 
     /// The bytes of a stored block, or none where it is not stored, read by another thread beside the owner's calls.
@@ -84,6 +90,7 @@ pub trait Keeper: Counted + Send + Sync {
         ensures spare { spare self.old ≤ spare self.new }
         ensures own { HasCause (own self.old) (own self.new) result }
         ensures quiet { StaysQuiet (quiet self.old) (quiet self.new) (own self.old) (own self.new) }
+        ensures planned { ReadsAsPlanned (schedule self.old) (schedule self.new) (is_err result) }
         ensures cause { HasCause (Self.faults self.old) (Self.faults self.new) result };
 
     /// The bytes of a stored block, or none where it is not stored.
@@ -94,6 +101,7 @@ pub trait Keeper: Counted + Send + Sync {
         ensures spare { spare self.old ≤ spare self.new }
         ensures own { KeepCause (own self.old) (own self.new) result }
         ensures quiet { StaysQuiet (quiet self.old) (quiet self.new) (own self.old) (own self.new) }
+        ensures planned { ReadsAsPlanned (schedule self.old) (schedule self.new) (is_fault result) }
         ensures cause { KeepCause (Self.faults self.old) (Self.faults self.new) result };
 
     /// Whether the block is stored.
@@ -104,6 +112,7 @@ pub trait Keeper: Counted + Send + Sync {
         ensures spare { spare self.old ≤ spare self.new }
         ensures own { HasCause (own self.old) (own self.new) result }
         ensures quiet { StaysQuiet (quiet self.old) (quiet self.new) (own self.old) (own self.new) }
+        ensures planned { ReadsAsPlanned (schedule self.old) (schedule self.new) (is_err result) }
         ensures cause { HasCause (Self.faults self.old) (Self.faults self.new) result };
 
     /// The place of the block in the order of processing, counted from 0, or none where it is not processed.
@@ -114,6 +123,7 @@ pub trait Keeper: Counted + Send + Sync {
         ensures spare { spare self.old ≤ spare self.new }
         ensures own { HasCause (own self.old) (own self.new) result }
         ensures quiet { StaysQuiet (quiet self.old) (quiet self.new) (own self.old) (own self.new) }
+        ensures planned { ReadsAsPlanned (schedule self.old) (schedule self.new) (is_err result) }
         ensures cause { HasCause (Self.faults self.old) (Self.faults self.new) result };
 
     /// The block at a place in the order of processing, or none past its end.
@@ -124,6 +134,7 @@ pub trait Keeper: Counted + Send + Sync {
         ensures spare { spare self.old ≤ spare self.new }
         ensures own { HasCause (own self.old) (own self.new) result }
         ensures quiet { StaysQuiet (quiet self.old) (quiet self.new) (own self.old) (own self.new) }
+        ensures planned { ReadsAsPlanned (schedule self.old) (schedule self.new) (is_err result) }
         ensures cause { HasCause (Self.faults self.old) (Self.faults self.new) result };
 
     /// Whether a processed block links to it.
@@ -134,6 +145,7 @@ pub trait Keeper: Counted + Send + Sync {
         ensures spare { spare self.old ≤ spare self.new }
         ensures own { HasCause (own self.old) (own self.new) result }
         ensures quiet { StaysQuiet (quiet self.old) (quiet self.new) (own self.old) (own self.new) }
+        ensures planned { ReadsAsPlanned (schedule self.old) (schedule self.new) (is_err result) }
         ensures cause { HasCause (Self.faults self.old) (Self.faults self.new) result };
 
     /// The heads, ascending by the digest.
@@ -144,6 +156,7 @@ pub trait Keeper: Counted + Send + Sync {
         ensures spare { spare self.old ≤ spare self.new }
         ensures own { KeepCause (own self.old) (own self.new) result }
         ensures quiet { StaysQuiet (quiet self.old) (quiet self.new) (own self.old) (own self.new) }
+        ensures planned { ReadsAsPlanned (schedule self.old) (schedule self.new) (is_fault result) }
         ensures cause { KeepCause (Self.faults self.old) (Self.faults self.new) result };
 
     /// All element rows of a key, also of hidden elements, ascending by the block and then by the value.
@@ -154,6 +167,7 @@ pub trait Keeper: Counted + Send + Sync {
         ensures spare { spare self.old ≤ spare self.new }
         ensures own { KeepCause (own self.old) (own self.new) result }
         ensures quiet { StaysQuiet (quiet self.old) (quiet self.new) (own self.old) (own self.new) }
+        ensures planned { ReadsAsPlanned (schedule self.old) (schedule self.new) (is_fault result) }
         ensures cause { KeepCause (Self.faults self.old) (Self.faults self.new) result };
 
     /// Whether a processed block has the tombstone of the key with the id.
@@ -164,6 +178,7 @@ pub trait Keeper: Counted + Send + Sync {
         ensures spare { spare self.old ≤ spare self.new }
         ensures own { HasCause (own self.old) (own self.new) result }
         ensures quiet { StaysQuiet (quiet self.old) (quiet self.new) (own self.old) (own self.new) }
+        ensures planned { ReadsAsPlanned (schedule self.old) (schedule self.new) (is_err result) }
         ensures cause { HasCause (Self.faults self.old) (Self.faults self.new) result };
 
     /// The value row of a key, or none where it has no value.
@@ -174,6 +189,7 @@ pub trait Keeper: Counted + Send + Sync {
         ensures spare { spare self.old ≤ spare self.new }
         ensures own { KeepCause (own self.old) (own self.new) result }
         ensures quiet { StaysQuiet (quiet self.old) (quiet self.new) (own self.old) (own self.new) }
+        ensures planned { ReadsAsPlanned (schedule self.old) (schedule self.new) (is_fault result) }
         ensures cause { KeepCause (Self.faults self.old) (Self.faults self.new) result };
 
     /// Whether a key has a value.
@@ -184,6 +200,7 @@ pub trait Keeper: Counted + Send + Sync {
         ensures spare { spare self.old ≤ spare self.new }
         ensures own { HasCause (own self.old) (own self.new) result }
         ensures quiet { StaysQuiet (quiet self.old) (quiet self.new) (own self.old) (own self.new) }
+        ensures planned { ReadsAsPlanned (schedule self.old) (schedule self.new) (is_err result) }
         ensures cause { HasCause (Self.faults self.old) (Self.faults self.new) result };
 
     /// The value row of the least key above the bound, or at it where `inclusive`, or none where there is no such key.
@@ -199,6 +216,7 @@ pub trait Keeper: Counted + Send + Sync {
         ensures spare { spare self.old ≤ spare self.new }
         ensures own { KeepCause (own self.old) (own self.new) result }
         ensures quiet { StaysQuiet (quiet self.old) (quiet self.new) (own self.old) (own self.new) }
+        ensures planned { ReadsAsPlanned (schedule self.old) (schedule self.new) (is_fault result) }
         ensures cause { KeepCause (Self.faults self.old) (Self.faults self.new) result };
 
     /// Makes room for so many rows. Nothing else changes.
@@ -209,6 +227,7 @@ pub trait Keeper: Counted + Send + Sync {
         ensures spare { spare self.old ≤ spare self.new }
         ensures own { own self.new ≡ own self.old }
         ensures quiet { quiet self.new ≡ quiet self.old }
+        ensures planned { schedule self.new ≡ schedule self.old }
         ensures count { Self.faults self.new ≡ Self.faults self.old };
 
     /// Makes the changes, or fails before or after them, wholly or not at all. It takes no memory. The changes are those
@@ -225,6 +244,7 @@ pub trait Keeper: Counted + Send + Sync {
         ensures spare { spare self.old ≤ spare self.new + row_count changes }
         ensures own { own self.old ≤ own self.new }
         ensures quiet { StaysQuiet (quiet self.old) (quiet self.new) (own self.old) (own self.new) }
+        ensures planned { CommitsAsPlanned (schedule self.old) (schedule self.new) (is_err result) (told self.old) (told self.new) }
         ensures cause { HasCause (Self.faults self.old) (Self.faults self.new) result };
 
     /// What is told is sound: no block is stored or processed twice, each stored block is good, and each processed block

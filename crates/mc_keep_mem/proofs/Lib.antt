@@ -8,6 +8,8 @@ pub mod ChainFacts
 pub mod SortFacts
 pub mod HeadFacts
 pub mod Reordered
+pub mod Fit
+pub mod FitAfter
 pub mod FrontMembers
 pub mod GapCount
 pub mod NextFacts

@@ -1,5 +1,7 @@
 -- What the table of element rows says: the rows of a key are a chain from its last row to its first.
 use Rattle.std.specs.Prelude.{◌≡◌, ℕ, zero, suc, ◌+◌, ◌<◌, Bool, true, ◌&&◌, nat_lt, List, [], ◌∷◌, length, map, slice_get, Option, Some, None, IfSome}
+use Rattle.std.specs.Prelude.{cond}
+use Rattle.std.specs.Str.{bytes_eq}
 use Rattle.std.specs.HashMap.{HashMap, get_by_text}
 use Rattle.std.specs.declared.string.String.{String}
 use Rattle.mc_keep.specs.declared.rows.ElementRow.{ElementRow}
@@ -33,3 +35,7 @@ rows_in nodes lasts key = map (row_of_node key) (chain nodes (length nodes) (get
 pub record AreChains {Y S : Type 0} (nodes : List Node) (lasts : HashMap (String Y) ℕ S) : Type 0 where
   pub back : lead_back 0 nodes ≡ true
   pub there : (key : List ℕ) → is_before (length nodes) (get_by_text lasts key) ≡ true
+
+-- the rows of a key with one more row
+abbrev pub with_element : List ℕ → List ElementRow → ElementRow → List ElementRow
+with_element key rows row = cond (bytes_eq row.key key) (row ∷ rows) rows

@@ -2,7 +2,10 @@
 -- pair of numbers.
 use Rattle.std.specs.Prelude.{◌≡◌, ℕ, ◌<◌, Bool, true, ◌&&◌, nat_eq, List, length}
 use Rattle.std.specs.List.{list_any, position_or_len}
+use Rattle.std.specs.Prelude.{◌||◌}
 use Rattle.std.specs.Str.{bytes_eq}
+use Rattle.mc_keep.specs.declared.rows.TombRow.{TombRow}
+use Rattle.mc_keep.specs.Changes.{is_tomb_row}
 use Rattle.std.specs.declared.string.String.{String}
 use Rattle.std.specs.String.{string_bytes}
 
@@ -24,3 +27,7 @@ has_tomb_in keys ids pairs key id = list_any (same_pair (number_of keys key, num
 pub record AreNumbers {Y : Type 0} (keys ids : List (String Y)) (pairs : List (ℕ × ℕ)) : Type 0 where
   pub key_below : (key id : ℕ) → list_any (same_pair (key, id)) pairs ≡ true → key < length keys
   pub id_below : (key id : ℕ) → list_any (same_pair (key, id)) pairs ≡ true → id < length ids
+
+-- whether a tombstone is there with one more
+abbrev pub with_tomb : List ℕ → List ℕ → Bool → TombRow → Bool
+with_tomb key id there row = is_tomb_row key id row || there

@@ -1,11 +1,11 @@
 // The table of element rows, with room for the next commits: the rows of a key are a chain from its last row to its first.
-ghost use Rattle.std.specs.Prelude.{◌≡◌, ℕ, ◌<◌, ◌≤◌, ◌+◌, ◌++◌, ◌∷◌, [], length, map, vec_len, vec_capacity, slice_get, IfOk, OnOk, cond, true, Option, Some, None};
+ghost use Rattle.std.specs.Prelude.{◌≡◌, ℕ, ◌<◌, ◌≤◌, ◌+◌, ◌++◌, ◌∷◌, [], length, map, fold, vec_len, vec_capacity, slice_get, IfOk, OnOk, cond, true, Option, Some, None};
 ghost use Rattle.std.specs.Prelude as prelude;
 ghost use Rattle.std.specs.HashMap.{spare, get_by_text};
 ghost use Rattle.std.specs.Str.{bytes_eq};
 ghost use Rattle.mc_model.specs.Ascending.{Ascends};
 ghost use Rattle.mc_keep.specs.ElementOrder.{element_cmp};
-ghost use Rattle.mc_keep_mem.specs.Chains.{AreChains, rows_in, row_of_node, chain, is_before};
+ghost use Rattle.mc_keep_mem.specs.Chains.{AreChains, rows_in, row_of_node, chain, is_before, with_element};
 
 use mc_base::{Bytes, Cid, List, Text};
 use mc_keep::ElementRow;
@@ -144,4 +144,19 @@ fn reserve_lasts<S: BuildHasher>(
     ensures lasts { (key : prelude.List ℕ) → get_by_text lasts.new key ≡ get_by_text lasts.old key }
 {
     lasts.reserve(rows)
+}
+
+/// Puts rows in. It takes no memory.
+pub fn put_elements<S: BuildHasher + Drop>(elements: &mut Elements<S>, rows: Vec<ElementRow>)
+    requires nodes_room { vec_len elements.old.nodes + length rows.items ≤ vec_capacity elements.old.nodes }
+    requires lasts_room { length rows.items ≤ spare elements.old.lasts }
+    ensures rows { (key : prelude.List ℕ) → rows_in elements.new.nodes.items elements.new.lasts key
+        ≡ fold (with_element key) (rows_in elements.old.nodes.items elements.old.lasts key) rows.items }
+    ensures nodes_spare { vec_len elements.new.nodes ≤ vec_len elements.old.nodes + length rows.items }
+    ensures nodes_capacity { vec_capacity elements.old.nodes ≤ vec_capacity elements.new.nodes }
+    ensures lasts_spare { spare elements.old.lasts ≤ spare elements.new.lasts + length rows.items }
+{
+    for row in rows {
+        put_element(elements, row);
+    }
 }

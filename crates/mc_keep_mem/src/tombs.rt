@@ -8,7 +8,7 @@ ghost use Rattle.std.specs.String.{string_bytes, string_eq};
 ghost use Rattle.std.specs.declared.string.String.{String};
 ghost use Rattle.std.proofs.Common.{Global};
 ghost use Rattle.mc_keep.specs.Changes.{is_tomb_row};
-ghost use Rattle.mc_keep_mem.specs.Tombs.{has_tomb_in, AreNumbers, number_of, same_pair};
+ghost use Rattle.mc_keep_mem.specs.Tombs.{has_tomb_in, AreNumbers, number_of, same_pair, with_tomb};
 
 use indexmap::IndexSet;
 use mc_base::Text;
@@ -88,4 +88,20 @@ fn reserve_pairs(pairs: &mut HashSet<(usize, usize)>, rows: usize) -> Result<(),
     ensures pairs { (pair : ℕ × ℕ) → list_any (same_pair pair) pairs.new.keys ≡ list_any (same_pair pair) pairs.old.keys }
 {
     pairs.reserve(rows)
+}
+
+/// Puts tombstones in. It takes no memory.
+pub fn put_tombs<S: BuildHasher + Drop>(tombs: &mut Tombs<S>, rows: Vec<TombRow>)
+    requires keys_room { length rows.items ≤ spare tombs.old.keys }
+    requires ids_room { length rows.items ≤ spare tombs.old.ids }
+    requires pairs_room { length rows.items ≤ spare tombs.old.pairs }
+    ensures tombs { (key id : List ℕ) → has_tomb_in tombs.new.keys.keys tombs.new.ids.keys tombs.new.pairs.keys key id
+        ≡ fold (with_tomb key id) (has_tomb_in tombs.old.keys.keys tombs.old.ids.keys tombs.old.pairs.keys key id) rows.items }
+    ensures keys_spare { spare tombs.old.keys ≤ spare tombs.new.keys + length rows.items }
+    ensures ids_spare { spare tombs.old.ids ≤ spare tombs.new.ids + length rows.items }
+    ensures pairs_spare { spare tombs.old.pairs ≤ spare tombs.new.pairs + length rows.items }
+{
+    for row in rows {
+        put_tomb(tombs, row);
+    }
 }

@@ -1,4 +1,0 @@
-pub mod EntryFacts
-pub mod EntryLaw
-pub mod FrontFields
-pub mod Utf8
