@@ -1,6 +1,6 @@
 -- A table with the height of each head by its identifier has the heads.
-use Rattle.std.proofs.Common.{◌≡◌, ℕ, Bool, true, false, not, cond, List, [], ◌∷◌, ◌||◌, ◌&&◌, Option, Some, None, sym, refl, ap, ◌∙◌, subst, inl, inr, map}
-use Rattle.std.specs.Prelude.{filter, unwrap_or, is_some}
+use Rattle.std.proofs.Common.{◌≡◌, ℕ, Bool, true, false, not, cond, List, [], ◌∷◌, ◌||◌, ◌&&◌, Option, Some, None, sym, refl, ap, ◌∙◌, inl, inr, map}
+use Rattle.std.specs.Prelude.{filter, unwrap_or}
 use Rattle.std.specs.List.{list_any, find, AllByRecursion, IsDistinct}
 use Rattle.std.specs.Map.{lookup}
 use Rattle.std.specs.Option.{option_map}

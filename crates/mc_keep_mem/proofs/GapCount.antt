@@ -1,11 +1,11 @@
 -- A list that has each gap just once is as long as the list of gaps.
-use Rattle.std.proofs.Common.{◌≡◌, ℕ, Bool, true, false, not, cond, List, [], ◌∷◌, ◌||◌, ◌&&◌, sym, refl, ap, ◌∙◌, subst, inl, inr, length}
+use Rattle.std.proofs.Common.{◌≡◌, Bool, true, false, not, cond, List, [], ◌∷◌, ◌||◌, ◌&&◌, sym, refl, ap, ◌∙◌, subst, inl, inr, length}
 use Rattle.std.specs.Prelude.{filter}
 use Rattle.std.specs.List.{list_any, AllByRecursion, IsDistinct}
 use Rattle.mc_base.specs.declared.cid.Cid.{Cid}
 use Rattle.mc_model.specs.declared.block.Block.{Block}
 use Rattle.mc_model.specs.Ascending.{once}
-use Rattle.mc_model.specs.Front.{same_cid, is_among, is_processed, is_linked, is_gap, links, gaps}
+use Rattle.mc_model.specs.Front.{same_cid, is_among, is_processed, is_gap, links, gaps}
 use Rattle.mc_model.specs.SameMembers.{SameMembers}
 use Rattle.mc_model.proofs.Blocks.{is_linked_has}
 use Rattle.mc_model.proofs.Counts.{cid_is, cid_itself, or_cases, or_left, or_right}

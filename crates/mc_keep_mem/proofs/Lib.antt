@@ -13,3 +13,4 @@ pub mod FitAfter
 pub mod FrontMembers
 pub mod GapCount
 pub mod IfOk
+pub mod NextFacts

@@ -19,12 +19,12 @@ pub use elements::{Elements, Node, elements_of, put_element, put_elements, reser
 pub use front::{put_links, put_marks};
 pub use graph::{block_bytes, has_block, put_blocks, reserve_blocks};
 pub use heads::{drop_heads, head_rows, put_heads, reserve_heads};
-pub use next::settle;
+pub use next::{next_row, settle};
 pub use plan::{FaultPlan, MemDesk};
 pub use store::Store;
 pub use tables::{Tables, commit_tables};
 pub use tombs::{Tombs, has_tomb, put_tomb, put_tombs, reserve_tombs};
-pub use values::{Held, Values, put_values};
+pub use values::{Held, Values, has_value, put_values, reserve_values, value_of};
 
 #[cfg(test)]
 mod tests {

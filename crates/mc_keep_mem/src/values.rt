@@ -108,3 +108,65 @@ pub fn put_values<S: BuildHasher + Drop>(values: &mut Values<S>, changes: Vec<Va
         put_value(values, change);
     }
 }
+
+/// The value of a key, with its priority, or none.
+pub fn value_of<S: BuildHasher>(
+    alloc: Global,
+    rows: &HashMap<String, Held, S>,
+    key: &str,
+) -> Result<Option<ValueRow>, AllocError>
+    ensures none { IfOk result (λ row. IfNone row (row_in rows.now key.now ≡ None)) }
+    ensures row { IfOk result (λ row. IfSome row (λ r. (r.key ≡ key.now) × (row_in rows.now key.now ≡ Some (r.priority, r.value)))) }
+{
+    match rows.get(key) {
+        Some(held) => Ok(Some(row_of_key(alloc, Text::from_text(alloc, key)?, held)?)),
+        None => Ok(None),
+    }
+}
+
+// The row of a key, which is moved into it.
+pub fn row_of_key(alloc: Global, key: Text, held: &Held) -> Result<ValueRow, AllocError>
+    ensures { IfOk result (λ row. (row.key ≡ key) × (row.priority ≡ held.now.priority) × (row.value ≡ held.now.value)) }
+{
+    Ok(ValueRow {
+        key,
+        priority: held.priority,
+        value: held.value.try_clone(alloc)?,
+    })
+}
+
+/// Whether a key has a value. It takes no memory.
+pub fn has_value<S: BuildHasher>(rows: &HashMap<String, Held, S>, key: &str) -> bool
+    ensures { result ≡ is_some (row_in rows.now key.now) }
+{
+    rows.contains_key(key)
+}
+
+/// Makes room for so many rows.
+pub fn reserve_values<S: BuildHasher + Drop>(
+    values: &mut Values<S>,
+    rows: usize,
+) -> Result<(), AllocError>
+    requires { IsCovered values.old.rows values.old.ordered values.old.pending.items }
+    ensures room { OnOk result (rows ≤ spare values.new.rows) }
+    ensures pending_room { OnOk result (vec_len values.new.pending + rows ≤ vec_capacity values.new.pending) }
+    ensures rows { (key : List ℕ) → row_in values.new.rows key ≡ row_in values.old.rows key }
+    ensures covered { IsCovered values.new.rows values.new.ordered values.new.pending.items }
+    ensures rows_spare { spare values.old.rows ≤ spare values.new.rows }
+    ensures pending_len { vec_len values.new.pending ≡ vec_len values.old.pending }
+    ensures pending_capacity { vec_capacity values.old.pending ≤ vec_capacity values.new.pending }
+{
+    reserve_rows(&mut values.rows, rows)?;
+    values.pending.reserve(rows)
+}
+
+fn reserve_rows<S: BuildHasher>(
+    rows: &mut HashMap<String, Held, S>,
+    more: usize,
+) -> Result<(), AllocError>
+    ensures ok { OnOk result (more ≤ spare rows.new) }
+    ensures rows { (key : List ℕ) → row_in rows.new key ≡ row_in rows.old key }
+    ensures spare { spare rows.old ≤ spare rows.new }
+{
+    rows.reserve(more)
+}
