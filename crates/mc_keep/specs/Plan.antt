@@ -1,5 +1,5 @@
 -- Planned faults: which calls of a keeper fail, where that is known.
-use Rattle.std.specs.Prelude.{◌≡◌, ⊤, ℕ, ◌+◌, ◌-◌, ◌^◌, min, nat_eq, Bool, true, false, ◌||◌, List, Option, Some, None, Result, Ok, Err, if◌then◌else◌}
+use Rattle.std.specs.Prelude.{◌≡◌, ⊤, ℕ, ◌+◌, ◌-◌, ◌^◌, min, nat_eq, Bool, true, false, ◌||◌, List, Option, Some, None, Result, Ok, Err}
 use Rattle.std.specs.List.{list_any}
 use Rattle.mc_model.specs.Kept.{Kept}
 use Rattle.mc_keep.specs.declared.error.KeepError.{KeepError}

@@ -1,9 +1,6 @@
 -- The tables of a keeper, as definitions over the processed blocks, and the changes that keep them so.
 use Rattle.std.specs.Prelude.{◌≡◌, ◌<◌, ◌^◌, ℕ, Some, None, length, Bool, true, false, ◌||◌, ◌&&◌, List, ◌++◌, map, filter, Option}
 use Rattle.std.specs.List.{list_any, list_all, flat_map}
-use Rattle.std.specs.Ordering.{nat_cmp, on, then_cmp}
-use Rattle.std.specs.declared.cmp.Ordering.{Ordering}
-use Rattle.std.specs.Cmp.Lexicographic.{slice_cmp}
 use Rattle.std.specs.Str.{bytes_eq}
 use Rattle.mc_base.specs.declared.cid.Cid.{Cid}
 use Rattle.mc_model.specs.declared.block.Block.{Block}

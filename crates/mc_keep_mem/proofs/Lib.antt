@@ -14,3 +14,4 @@ pub mod FrontMembers
 pub mod GapCount
 pub mod IfOk
 pub mod NextFacts
+pub mod Reserves

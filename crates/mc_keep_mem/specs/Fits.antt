@@ -74,3 +74,30 @@ pub record Applied {S X : Type 0} {g : build.Ghosts S X} {h : hash.Ghosts X} (ol
   pub tombs : (key id : List ℕ) → tomb_in new key id ≡ fold (with_tomb key id) (tomb_in old key id) changes.tombs
   pub values : (key : List ℕ) → row_in new.values.rows key ≡ values_after key (row_in old.values.rows key) changes.values
   pub covered : IsCovered new.values.rows new.values.ordered new.values.pending.items
+
+-- the rows are the same, and there is no less room
+pub record Reserved {S X : Type 0} {g : build.Ghosts S X} {h : hash.Ghosts X} (old new : Tables S X g h) : Type 0 where
+  pub graph : graph_of new.blocks ≡ graph_of old.blocks
+  pub order : new.order.keys ≡ old.order.keys
+  pub mark : new.mark ≡ old.mark
+  pub links : new.links.keys ≡ old.links.keys
+  pub gaps : new.gaps.keys ≡ old.gaps.keys
+  pub heads : new.heads.entries ≡ old.heads.entries
+  pub elements : (key : List ℕ) → rows_in new.elements.nodes.items new.elements.lasts key ≡ rows_in old.elements.nodes.items old.elements.lasts key
+  pub tombs : (key id : List ℕ) → tomb_in new key id ≡ tomb_in old key id
+  pub values : (key : List ℕ) → row_in new.values.rows key ≡ row_in old.values.rows key
+  pub covered : IsCovered new.values.rows new.values.ordered new.values.pending.items
+  pub blocks_room : map_spare old.blocks ≤ map_spare new.blocks
+  pub order_room : set_spare old.order ≤ set_spare new.order
+  pub links_room : set_spare old.links ≤ set_spare new.links
+  pub gaps_room : set_spare old.gaps ≤ set_spare new.gaps
+  pub heads_room : map_spare old.heads ≤ map_spare new.heads
+  pub nodes_len : vec_len new.elements.nodes ≡ vec_len old.elements.nodes
+  pub nodes_room : vec_capacity old.elements.nodes ≤ vec_capacity new.elements.nodes
+  pub lasts_room : map_spare old.elements.lasts ≤ map_spare new.elements.lasts
+  pub keys_room : set_spare old.tombs.keys ≤ set_spare new.tombs.keys
+  pub ids_room : set_spare old.tombs.ids ≤ set_spare new.tombs.ids
+  pub pairs_room : set_spare old.tombs.pairs ≤ set_spare new.tombs.pairs
+  pub values_room : map_spare old.values.rows ≤ map_spare new.values.rows
+  pub pending_len : vec_len new.values.pending ≤ vec_len old.values.pending
+  pub pending_room : vec_capacity old.values.pending ≤ vec_capacity new.values.pending

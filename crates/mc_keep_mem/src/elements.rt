@@ -131,6 +131,9 @@ pub fn reserve_elements<S: BuildHasher + Drop>(
 ) -> Result<(), AllocError>
     ensures ok { OnOk result ((vec_len elements.new.nodes + rows ≤ vec_capacity elements.new.nodes) × (rows ≤ spare elements.new.lasts)) }
     ensures rows { (key : prelude.List ℕ) → rows_in elements.new.nodes.items elements.new.lasts key ≡ rows_in elements.old.nodes.items elements.old.lasts key }
+    ensures nodes_len { vec_len elements.new.nodes ≡ vec_len elements.old.nodes }
+    ensures nodes_capacity { vec_capacity elements.old.nodes ≤ vec_capacity elements.new.nodes }
+    ensures lasts_spare { spare elements.old.lasts ≤ spare elements.new.lasts }
 {
     elements.nodes.reserve(rows)?;
     reserve_lasts(&mut elements.lasts, rows)
@@ -142,6 +145,7 @@ fn reserve_lasts<S: BuildHasher>(
 ) -> Result<(), AllocError>
     ensures ok { OnOk result (rows ≤ spare lasts.new) }
     ensures lasts { (key : prelude.List ℕ) → get_by_text lasts.new key ≡ get_by_text lasts.old key }
+    ensures spare { spare lasts.old ≤ spare lasts.new }
 {
     lasts.reserve(rows)
 }

@@ -6,6 +6,7 @@ ghost use Rattle.mc_model.specs.Front.{same_cid, is_linked, heads};
 ghost use Rattle.mc_model.specs.Live.{has_tomb, value_row};
 ghost use Rattle.mc_model.specs.Kept.{processed, bytes_at, is_stored, nothing_kept};
 ghost use Rattle.mc_keep.specs.Changes.{row_count, changed, heads_in_rows};
+ghost use Rattle.mc_keep.specs.Next.{IsNext};
 ghost use Rattle.mc_keep.specs.ElementOrder.{element_cmp};
 ghost use Rattle.mc_keep.specs.Tables.{ChangesFit, IsSummary, IsSmall, IsValueRow, element_rows_of};
 ghost use Rattle.mc_keep_mem.specs.Fits.{Fits, RoomFor, kept_in};
@@ -14,10 +15,12 @@ use crate::cids::{cid_at, has_cid, position_of};
 use crate::elements::elements_of;
 use crate::graph::{block_bytes, has_block};
 use crate::heads::head_rows;
-use crate::tables::{Tables, commit_tables};
+use crate::next::next_row;
+use crate::tables::{Tables, commit_tables, reserve_tables};
 use crate::tombs::has_tomb as has_tomb_row;
+use crate::values::{has_value, value_of};
 use mc_base::{Bytes, Cid, List};
-use mc_keep::{Changes, ElementRow, HeadRow, Summary};
+use mc_keep::{Changes, ElementRow, HeadRow, Summary, ValueRow};
 use std::alloc::{AllocError, Global};
 use std::hash::BuildHasher;
 
@@ -101,5 +104,45 @@ impl<S: BuildHasher + Drop> Store<S> {
             gaps: self.tables.gaps.as_slice().len() as u64,
             mark: self.tables.mark,
         }
+    }
+
+    pub fn value(&self, alloc: Global, key: &str) -> Result<Option<ValueRow>, AllocError>
+        ensures { IfOk result (λ row. IsValueRow (processed (kept_in self.now.tables)) key.now row) }
+    {
+        value_of(alloc, &self.tables.values.rows, key)
+    }
+
+    pub fn has(&self, key: &str) -> bool
+        ensures { result ≡ is_some (value_row (processed (kept_in self.now.tables)) key.now) }
+    {
+        has_value(&self.tables.values.rows, key)
+    }
+
+    // Puts the keys that wait into order, so the tables change, and nothing that they tell.
+    pub fn value_from(
+        &mut self,
+        alloc: Global,
+        bound: &str,
+        inclusive: bool,
+    ) -> Result<Option<ValueRow>, AllocError>
+        ensures row { IfOk result (λ row. IsNext (processed (kept_in self.old.tables)) bound.now inclusive row) }
+        ensures kept { kept_in self.new.tables ≡ kept_in self.old.tables }
+        ensures room { self.new.room ≡ self.old.room }
+    {
+        next_row(alloc, &mut self.tables.values, bound, inclusive)
+    }
+
+    // Makes room for so many rows.
+    pub fn reserve(&mut self, rows: u64) -> Result<(), AllocError>
+        ensures ok { OnOk result (rows ≤ self.new.room) }
+        ensures kept { kept_in self.new.tables ≡ kept_in self.old.tables }
+        ensures room { self.old.room ≤ self.new.room }
+    {
+        if rows <= self.room {
+            return Ok(());
+        }
+        reserve_tables(&mut self.tables, rows as usize)?;
+        self.room = rows;
+        Ok(())
     }
 }

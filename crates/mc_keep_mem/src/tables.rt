@@ -1,17 +1,20 @@
 // All tables of a keeper, and a commit on them that takes no memory.
 ghost use Rattle.std.specs.Prelude.{◌≡◌, ◌≤◌, ◌+◌, ◌-◌, IfSome, OnOk};
 ghost use Rattle.mc_keep.specs.Changes.{row_count};
-ghost use Rattle.mc_keep_mem.specs.Fits.{RoomFor, Applied, ChangesMeet};
+ghost use Rattle.mc_keep_mem.specs.Values.{IsCovered};
+ghost use Rattle.mc_keep_mem.specs.Fits.{RoomFor, Applied, ChangesMeet, Reserved};
 
-use crate::elements::{Elements, put_elements};
+use crate::cids::reserve_cids;
+use crate::elements::{Elements, put_elements, reserve_elements};
 use crate::front::{put_links, put_marks};
-use crate::graph::put_blocks;
-use crate::heads::{drop_heads, put_heads};
-use crate::tombs::{Tombs, put_tombs};
-use crate::values::{Values, put_values};
+use crate::graph::{put_blocks, reserve_blocks};
+use crate::heads::{drop_heads, put_heads, reserve_heads};
+use crate::tombs::{Tombs, put_tombs, reserve_tombs};
+use crate::values::{Values, put_values, reserve_values};
 use indexmap::{IndexMap, IndexSet};
 use mc_base::{Bytes, Cid};
 use mc_keep::Changes;
+use std::alloc::AllocError;
 use std::hash::BuildHasher;
 
 /// The tables: the stored blocks, the order of the processed ones, their links, gaps and heads, and the rows that they
@@ -81,4 +84,23 @@ fn apply<S: BuildHasher + Drop>(tables: &mut Tables<S>, changes: Changes, room: 
     if let Some(mark) = mark {
         tables.mark = mark;
     }
+}
+
+/// Makes room for so many rows in each table.
+pub fn reserve_tables<S: BuildHasher + Drop>(
+    tables: &mut Tables<S>,
+    rows: usize,
+) -> Result<(), AllocError>
+    requires { IsCovered tables.old.values.rows tables.old.values.ordered tables.old.values.pending.items }
+    ensures ok { OnOk result (RoomFor tables.new rows) }
+    ensures reserved { Reserved tables.old tables.new }
+{
+    reserve_blocks(&mut tables.blocks, rows)?;
+    reserve_cids(&mut tables.order, rows)?;
+    reserve_cids(&mut tables.links, rows)?;
+    reserve_cids(&mut tables.gaps, rows)?;
+    reserve_heads(&mut tables.heads, rows)?;
+    reserve_elements(&mut tables.elements, rows)?;
+    reserve_tombs(&mut tables.tombs, rows)?;
+    reserve_values(&mut tables.values, rows)
 }

@@ -77,6 +77,9 @@ pub fn reserve_tombs<S: BuildHasher + Drop>(
     ensures ok { OnOk result ((rows ≤ spare tombs.new.keys) × (rows ≤ spare tombs.new.ids) × (rows ≤ spare tombs.new.pairs)) }
     ensures tombs { (key id : List ℕ) → has_tomb_in tombs.new.keys.keys tombs.new.ids.keys tombs.new.pairs.keys key id
         ≡ has_tomb_in tombs.old.keys.keys tombs.old.ids.keys tombs.old.pairs.keys key id }
+    ensures keys_spare { spare tombs.old.keys ≤ spare tombs.new.keys }
+    ensures ids_spare { spare tombs.old.ids ≤ spare tombs.new.ids }
+    ensures pairs_spare { spare tombs.old.pairs ≤ spare tombs.new.pairs }
 {
     tombs.keys.reserve(rows)?;
     tombs.ids.reserve(rows)?;
@@ -86,6 +89,7 @@ pub fn reserve_tombs<S: BuildHasher + Drop>(
 fn reserve_pairs(pairs: &mut HashSet<(usize, usize)>, rows: usize) -> Result<(), AllocError>
     ensures ok { OnOk result (rows ≤ spare pairs.new) }
     ensures pairs { (pair : ℕ × ℕ) → list_any (same_pair pair) pairs.new.keys ≡ list_any (same_pair pair) pairs.old.keys }
+    ensures spare { spare pairs.old ≤ spare pairs.new }
 {
     pairs.reserve(rows)
 }
