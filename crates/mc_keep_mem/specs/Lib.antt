@@ -6,3 +6,4 @@ pub mod InOrder
 pub mod Plan
 pub mod Tombs
 pub mod Values
+pub mod Faults

@@ -1,6 +1,7 @@
 -- Plans by which nothing fails.
 use Rattle.std.specs.Prelude.{Bool, true, false, ◌&&◌, ℕ, List, [], ◌∷◌}
 use Rattle.std.specs.List.{list_all}
+use Rattle.mc_keep.specs.Plan.{Schedule}
 use Rattle.mc_keep_mem.specs.declared.plan.FaultPlan.{FaultPlan}
 
 abbrev pub is_nothing : {A : Type 0} → List A → Bool
@@ -10,3 +11,7 @@ is_nothing (x ∷ xs) = false
 -- whether no call of a keeper and of its desks is planned to fail
 abbrev pub plans_nothing : FaultPlan → Bool
 plans_nothing plan = is_nothing plan.commits_before && (is_nothing plan.commits_after && (is_nothing plan.reads && list_all is_nothing plan.desks))
+
+-- the plan before the first call
+abbrev pub planned : FaultPlan → Schedule
+planned plan = record { reads = plan.reads; before = plan.commits_before; after = plan.commits_after; reads_made = 0; commits_made = 0 }

@@ -1,8 +1,12 @@
 // Planned faults.
-ghost use Rattle.std.specs.Prelude.{◌≡◌, true, false, min, ◌+◌, ◌-◌, ◌^◌, IsErr, length, []};
-ghost use Rattle.mc_base.specs.Causes.{HasCause};
-ghost use Rattle.mc_keep.specs.Plan.{is_planned, next_number};
-ghost use Rattle.mc_keep_mem.specs.Plan.{plans_nothing};
+ghost use Rattle.std.specs.Prelude.{◌≡◌, ◌≤◌, true, false, Some, None, min, ◌+◌, ◌-◌, ◌^◌, IfOk, IsErr, is_some, length, [], List};
+ghost use Rattle.std.specs.Result.{is_err};
+ghost use Rattle.std.specs.List.{list_all};
+ghost use Rattle.mc_base.specs.Causes.{HasCause, Rose};
+ghost use Rattle.mc_keep.specs.Causes.{StaysQuiet};
+ghost use Rattle.mc_keep.specs.Plan.{is_planned, next_number, ReadsAsPlanned, CommitsAsPlanned};
+ghost use Rattle.mc_keep_mem.specs.Plan.{plans_nothing, is_nothing, planned};
+ghost use Rattle.mc_keep_mem.specs.Faults.{fails_never, schedule_of};
 
 use mc_base::{Counted, Failed, List};
 use std::alloc::Global;
@@ -72,7 +76,7 @@ impl MemDesk {
     pub(crate) fn call(&mut self) -> Result<(), Failed>
         ensures cause { HasCause self.old.faults self.new.faults result }
         ensures plan { self.new.failing ≡ self.old.failing }
-        ensures quiet { self.old.failing ≡ [] → self.new.faults ≡ self.old.faults }
+        ensures quiet { is_nothing self.old.failing ≡ true → self.new.faults ≡ self.old.faults }
     {
         self.calls = next_of(self.calls);
         if is_due(self.failing.as_slice(), self.calls) {
@@ -89,4 +93,102 @@ impl Counted for MemDesk {
     fn faults(&self) -> u64 {
         self.faults
     }
+}
+
+// Which calls of a keeper fail, and how many of each kind there have been.
+#[derive(Drop)]
+pub(crate) struct Faults {
+    before: List<u64>,
+    after: List<u64>,
+    failing: List<u64>,
+    desks: Vec<List<u64>>,
+    reads: u64,
+    commits: u64,
+    faults: u64,
+}
+
+impl Faults {
+    pub(crate) fn new(plan: FaultPlan) -> Faults
+        ensures quiet { plans_nothing plan ≡ true → fails_never result ≡ true }
+        ensures schedule { schedule_of result ≡ planned plan }
+        ensures none { result.faults ≡ 0 }
+    {
+        let FaultPlan {
+            commits_before,
+            commits_after,
+            reads,
+            desks,
+        } = plan;
+        Faults {
+            before: commits_before,
+            after: commits_after,
+            failing: reads,
+            desks: desks.into_vec(),
+            reads: 0,
+            commits: 0,
+            faults: 0,
+        }
+    }
+
+    // Counts a read, and fails where that is planned.
+    pub(crate) fn read(&mut self) -> Result<(), Failed>
+        ensures cause { HasCause self.old.faults self.new.faults result }
+        ensures quiet { StaysQuiet (fails_never self.old) (fails_never self.new) self.old.faults self.new.faults }
+        ensures planned { ReadsAsPlanned (Some (schedule_of self.old)) (Some (schedule_of self.new)) (is_err result) }
+    {
+        self.reads = next_of(self.reads);
+        if is_due(self.failing.as_slice(), self.reads) {
+            self.faults = self.faults.saturating_add(1);
+            return Err(Failed);
+        }
+        Ok(())
+    }
+
+    // Counts a commit, and tells whether it fails, and then whether after its effect.
+    pub(crate) fn commit(&mut self) -> Option<bool>
+        ensures later { self.old.faults ≤ self.new.faults }
+        ensures rose { is_some result ≡ true → Rose self.old.faults self.new.faults }
+        ensures quiet { StaysQuiet (fails_never self.old) (fails_never self.new) self.old.faults self.new.faults }
+        ensures planned { CommitsAsPlanned (Some (schedule_of self.old)) (Some (schedule_of self.new)) (is_some result) None None }
+        ensures before { is_planned self.old.before (next_number self.old.commits) ≡ true → result ≡ Some false }
+    {
+        self.commits = next_of(self.commits);
+        if is_due(self.before.as_slice(), self.commits) {
+            self.faults = self.faults.saturating_add(1);
+            return Some(false);
+        }
+        if is_due(self.after.as_slice(), self.commits) {
+            self.faults = self.faults.saturating_add(1);
+            return Some(true);
+        }
+        None
+    }
+
+    // Counts a read, and takes the plan of the next desk.
+    pub(crate) fn desk(&mut self, alloc: Global) -> Result<MemDesk, Failed>
+        ensures cause { HasCause self.old.faults self.new.faults result }
+        ensures fresh { IfOk result (λ desk. desk.faults ≡ 0) }
+        ensures quiet { StaysQuiet (fails_never self.old) (fails_never self.new) self.old.faults self.new.faults }
+        ensures quiet_desk { fails_never self.old ≡ true → IfOk result (λ desk. is_nothing desk.failing ≡ true) }
+        ensures planned { ReadsAsPlanned (Some (schedule_of self.old)) (Some (schedule_of self.new)) (is_err result) }
+    {
+        self.read()?;
+        Ok(MemDesk::new(next_desk(&mut self.desks, alloc)))
+    }
+
+    pub(crate) fn count(&self) -> u64
+        ensures { result ≡ self.now.faults }
+    {
+        self.faults
+    }
+}
+
+// Takes the first plan out, or one by which nothing fails where there is none.
+fn next_desk(desks: &mut Vec<List<u64>>, alloc: Global) -> List<u64>
+    ensures quiet { list_all is_nothing desks.old.items ≡ true → (is_nothing result ≡ true) × (list_all is_nothing desks.new.items ≡ true) }
+{
+    if desks.is_empty() {
+        return List::new(alloc);
+    }
+    desks.remove(0)
 }
