@@ -1,0 +1,153 @@
+// The keeper in memory.
+ghost use Rattle.std.specs.Prelude.{◌≡◌, true, false, [], Some, None, IfOk};
+ghost use Rattle.mc_model.specs.Kept.{nothing_kept};
+ghost use Rattle.mc_keep_mem.specs.Fits.{kept_in};
+ghost use Rattle.mc_keep_mem.specs.Plan.{plans_nothing, is_nothing, planned};
+ghost use Rattle.mc_keep_mem.specs.Faults.{fails_never, schedule_of};
+
+use crate::plan::{FaultPlan, Faults, MemDesk};
+use crate::store::Store;
+use mc_base::{Bytes, Cid, Counted, Failed, List};
+use mc_keep::{Changes, ElementRow, HeadRow, KeepError, Keeper, Summary, ValueRow};
+use std::alloc::{AllocError, Global};
+use std::hash::{BuildHasher, BuildHasherDefault, FoldHasher};
+use std::sync::Wait;
+
+/// A keeper in memory: nothing outlives it. It fails exactly at the calls that its plan numbers. Its tables of texts use
+/// the hasher `S`: the keys and ids of foreign blocks are chosen by strangers, and a seeded hasher wards off floods of
+/// colliding ones, which the default does not.
+#[derive(Drop)]
+pub struct MemKeeper<S: BuildHasher + Drop + Send + Sync = BuildHasherDefault<FoldHasher>> {
+    store: Store<S>,
+    faults: Faults,
+}
+
+impl<S: BuildHasher + Drop + Send + Sync> Counted for MemKeeper<S> {
+    ghost faults = { λ keeper. keeper.faults.faults };
+
+    fn faults(&self) -> u64 {
+        self.faults.count()
+    }
+}
+
+impl<S: BuildHasher + Drop + Send + Sync> Keeper for MemKeeper<S> {
+    type Desk = MemDesk;
+
+    ghost told = { λ keeper. Some (kept_in keeper.store.tables) };
+
+    ghost spare = { λ keeper. keeper.store.room };
+
+    ghost fuse = { λ keeper. None };
+
+    ghost own = { λ keeper. keeper.faults.faults };
+
+    ghost quiet = { λ keeper. fails_never keeper.faults };
+
+    ghost quiet_desk = { λ desk. is_nothing desk.failing };
+
+    ghost schedule = { λ keeper. Some (schedule_of keeper.faults) };
+
+    ghost sound = { λ keeper. keeper.store.fits.kept };
+
+    fn own_faults(&self) -> u64 {
+        self.faults.count()
+    }
+
+    fn desk(&mut self, alloc: Global) -> Result<MemDesk, KeepError> {
+        Ok(self.faults.desk(alloc)?)
+    }
+
+    fn peer_block<W: Wait + Sync>(
+        &self,
+        alloc: Global,
+        desk: &mut MemDesk,
+        cid: &Cid,
+        _wait: &W,
+    ) -> Result<Option<Bytes>, KeepError> {
+        desk.call()?;
+        Ok(self.store.block(alloc, cid)?)
+    }
+
+    fn summary(&mut self) -> Result<Summary, Failed> {
+        self.faults.read()?;
+        Ok(self.store.summary())
+    }
+
+    fn block(&mut self, alloc: Global, cid: &Cid) -> Result<Option<Bytes>, KeepError> {
+        self.faults.read()?;
+        Ok(self.store.block(alloc, cid)?)
+    }
+
+    fn stored(&mut self, cid: &Cid) -> Result<bool, Failed> {
+        self.faults.read()?;
+        Ok(self.store.stored(cid))
+    }
+
+    fn position(&mut self, cid: &Cid) -> Result<Option<u64>, Failed> {
+        self.faults.read()?;
+        Ok(self.store.position(cid))
+    }
+
+    fn at(&mut self, position: u64) -> Result<Option<Cid>, Failed> {
+        self.faults.read()?;
+        Ok(self.store.at(position))
+    }
+
+    fn linked(&mut self, cid: &Cid) -> Result<bool, Failed> {
+        self.faults.read()?;
+        Ok(self.store.linked(cid))
+    }
+
+    fn heads(&mut self, alloc: Global) -> Result<List<HeadRow>, KeepError> {
+        self.faults.read()?;
+        Ok(self.store.heads(alloc)?)
+    }
+
+    fn elements(&mut self, alloc: Global, key: &str) -> Result<List<ElementRow>, KeepError> {
+        self.faults.read()?;
+        Ok(self.store.elements(alloc, key)?)
+    }
+
+    fn hidden(&mut self, key: &str, id: &str) -> Result<bool, Failed> {
+        self.faults.read()?;
+        Ok(self.store.hidden(key, id))
+    }
+
+    fn value(&mut self, alloc: Global, key: &str) -> Result<Option<ValueRow>, KeepError> {
+        self.faults.read()?;
+        Ok(self.store.value(alloc, key)?)
+    }
+
+    fn has(&mut self, key: &str) -> Result<bool, Failed> {
+        self.faults.read()?;
+        Ok(self.store.has(key))
+    }
+
+    fn value_from(
+        &mut self,
+        alloc: Global,
+        bound: &str,
+        inclusive: bool,
+    ) -> Result<Option<ValueRow>, KeepError> {
+        self.faults.read()?;
+        Ok(self.store.value_from(alloc, bound, inclusive)?)
+    }
+
+    fn reserve(&mut self, rows: u64) -> Result<(), AllocError> {
+        self.store.reserve(rows)
+    }
+
+    fn commit(&mut self, changes: Changes) -> Result<(), Failed> {
+        match self.faults.commit() {
+            None => {
+                self.store.commit(changes);
+                Ok(())
+            }
+            Some(false) => Err(Failed),
+            Some(true) => {
+                self.store.commit(changes);
+                Err(Failed)
+            }
+        }
+    }
+}
