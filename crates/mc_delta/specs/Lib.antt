@@ -1,2 +1,3 @@
+pub mod Deltas
 pub mod Entries
 pub mod Seen

@@ -3,5 +3,7 @@
 
 mod entry;
 mod fault;
+mod read;
 
 pub use fault::{DeltaError, DeltaFault, DeltaFaultKind};
+pub use read::read_delta;
