@@ -1,3 +1,4 @@
 pub mod Deltas
 pub mod Entries
+pub mod Lengths
 pub mod Seen

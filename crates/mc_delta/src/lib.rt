@@ -3,7 +3,13 @@
 
 mod entry;
 mod fault;
+mod laws;
+mod length;
 mod read;
+mod write;
 
 pub use fault::{DeltaError, DeltaFault, DeltaFaultKind};
+pub use laws::faults_are_told;
+pub use length::len_delta;
 pub use read::read_delta;
+pub use write::write_delta;
