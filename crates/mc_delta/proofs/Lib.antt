@@ -3,6 +3,7 @@ pub mod DeltaLaw
 pub mod EntryFacts
 pub mod EntryLaw
 pub mod FrontFields
+pub mod LengthFacts
 pub mod Passing
 pub mod TakeFacts
 pub mod Utf8

@@ -84,7 +84,8 @@ fn push_entry(
     put_part_head(out, number, len)?;
     push_part(out, KEY, key)?;
     push_part(out, ID, id)?;
-    push_part(out, VALUE, value)
+    push_part(out, VALUE, value)?;
+    Ok(())
 }
 
 // Appends a field of bytes unless it is empty.
