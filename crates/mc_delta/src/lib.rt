@@ -13,3 +13,6 @@ pub use laws::{faults_are_told, written_deltas_are_read};
 pub use length::len_delta;
 pub use read::read_delta;
 pub use write::write_delta;
+
+#[cfg(test)]
+mod tests;
