@@ -1,19 +1,18 @@
 -- A delta without a fault is the one that is read.
-use Rattle.std.proofs.Common.{◌≡◌, ℕ, ◌+◌, ◌-◌, ◌≤◌, List, [], ◌∷◌, length, map, drop, Bool, true, false, refl, ap, sym, ◌∙◌, arith, Option, Some, None, ◌==◌, ◌&&◌, ◌||◌, not}
-use Rattle.std.proofs.Math.Dec.{eqb}
-use Rattle.std.proofs.lemmas.Bool.{true≢false, false≢true}
+use Rattle.std.proofs.Common.{◌≡◌, ℕ, ◌+◌, ◌-◌, List, [], ◌∷◌, length, map, Bool, true, false, refl, sym, ◌∙◌, arith, Option, Some, None, ◌==◌, ◌&&◌, ◌||◌, not}
+use Rattle.std.proofs.lemmas.Bool.{false≢true}
 use Rattle.std.specs.Bool.{if◌then◌else◌}
 use Rattle.std.specs.List.{list_all}
 use Rattle.std.specs.Option.{option_and_then, option_map}
-use Rattle.std.specs.Prelude.{is_some, unwrap_or, IsTrue}
-use Rattle.mc_base.specs.Wire.{Field, Fields, Content, Varint, Fixed64, Part, Fixed32}
+use Rattle.std.specs.Prelude.{is_some, unwrap_or}
+use Rattle.mc_base.specs.Wire.{Field, Content, Varint, Fixed64, Part, Fixed32}
 use Rattle.mc_base.specs.WireRead.{Front, NoKey, NoContent, Whole, Placed, fields_in, fields_of, onto_fields, fronts_from}
 use Rattle.mc_model.specs.DeltaText.{DeltaFault, delta_of, delta_of_fields, delta_with, delta_fault, delta_fault_in, entry_of, entry_fault, entry_part_fault, entries_of, all_some, parts_of}
 use Rattle.mc_model.specs.declared.delta.Delta.{Delta}
 use Rattle.mc_wire.proofs.FieldFacts.{fields_are_read, fields_found}
 use Rattle.mc_delta.specs.Deltas.{field_fault}
 use Rattle.mc_delta.proofs.EntryLaw.{are_texts, entry_fields, entry_is_fine}
-use Rattle.mc_delta.proofs.FrontFields.{AllFields, all_fields, none_is_no, some_is_no, neither, nothing_is}
+use Rattle.mc_delta.proofs.FrontFields.{all_fields, none_is_no, some_is_no, neither}
 use Rattle.mc_delta.proofs.Passing.{passes, field_passes, all_pass, pass_more, pass_less}
 
 -- whether bytes are an entry

@@ -1,5 +1,5 @@
 -- An entry that is read field by field.
-use Rattle.std.proofs.Common.{◌≡◌, ℕ, ◌≤◌, List, [], length, drop, refl, sym, ◌∙◌, true, Option, Some, None, arith}
+use Rattle.std.proofs.Common.{◌≡◌, ℕ, ◌≤◌, List, [], length, drop, sym, true, Some, None, arith}
 use Rattle.mc_base.specs.Wire.{Field}
 use Rattle.mc_base.specs.WireRead.{fields_in, fields_of}
 use Rattle.mc_base.specs.NodeRead.{parts_in}
@@ -7,7 +7,7 @@ use Rattle.mc_wire.proofs.FieldFacts.{fields_are_read, fields_found}
 use Rattle.mc_delta.proofs.EntryLaw.{are_texts, entry_fields}
 use Rattle.mc_delta.proofs.FrontFields.{parts_of_fields}
 use Rattle.mc_delta.specs.Entries.{EntryAt}
-use Rattle.mc_model.specs.DeltaText.{entry_fault, entry_of, parts_of, last_or, last_part}
+use Rattle.mc_model.specs.DeltaText.{entry_fault, entry_of, last_or, last_part}
 use Rattle.mc_wire.specs.Seen.{fronts_at}
 use Rattle.mc_delta.specs.declared.entry.Entry.{Entry}
 

@@ -1,16 +1,14 @@
 -- The fields of an entry that have no fault.
-use Rattle.std.proofs.Common.{◌≡◌, ℕ, List, [], ◌∷◌, Bool, true, false, refl, ap, sym, ◌∙◌, Option, Some, None, ◌==◌, ◌&&◌, ◌||◌, not}
-use Rattle.std.proofs.Math.Dec.{eqb}
-use Rattle.std.proofs.lemmas.Bool.{eqb-true, true≢false, false≢true}
+use Rattle.std.proofs.Common.{◌≡◌, ℕ, List, [], ◌∷◌, Bool, true, false, refl, Some, None, ◌==◌, ◌&&◌, ◌||◌, not}
+use Rattle.std.proofs.lemmas.Bool.{false≢true}
 use Rattle.std.specs.Bool.{if◌then◌else◌}
-use Rattle.std.specs.List.{list_all, cons_option}
-use Rattle.std.specs.Prelude.{IsTrue}
+use Rattle.std.specs.List.{list_all}
 use Rattle.std.specs.Str.{is_utf8}
 use Rattle.mc_base.specs.Wire.{Field, Content, Varint, Fixed64, Part, Fixed32}
 use Rattle.mc_base.specs.WireRead.{Front, NoKey, NoContent, Whole, Placed, fields_in, onto_fields}
-use Rattle.mc_model.specs.DeltaText.{DeltaFault, TextFault, entry_fault, entry_front_fault, text_fault, is_text, parts_of, part_of, content_part}
+use Rattle.mc_model.specs.DeltaText.{DeltaFault, TextFault, entry_fault, text_fault, is_text, parts_of}
 use Rattle.mc_delta.proofs.Passing.{passes, field_passes, pass_more, pass_less}
-use Rattle.mc_delta.proofs.FrontFields.{AllFields, all_fields, none_is_no, some_is_no, neither, nothing_is}
+use Rattle.mc_delta.proofs.FrontFields.{all_fields, none_is_no, some_is_no, neither}
 
 -- the keys and the ids of the fields are texts
 abbrev pub are_texts : List Field → Bool

@@ -1,12 +1,10 @@
 -- Fronts that are all fields.
-use Rattle.std.proofs.Common.{◌≡◌, ℕ, List, [], ◌∷◌, Option, Some, None, refl, ap, ◌==◌}
+use Rattle.std.proofs.Common.{◌≡◌, ℕ, List, [], ◌∷◌, Option, Some, None, refl}
 use Rattle.std.specs.Option.{option_map, option_or}
 use Rattle.mc_base.specs.Wire.{Field, Content, Varint, Fixed64, Part, Fixed32}
 use Rattle.mc_base.specs.WireRead.{Front, NoKey, NoContent, Whole, Placed, fields_in, onto_fields}
 use Rattle.mc_base.specs.NodeRead.{parts_in, part_in}
 use Rattle.mc_model.specs.DeltaText.{parts_of, part_of}
-use Rattle.std.specs.Bool.{if◌then◌else◌}
-use Rattle.std.specs.List.{cons_option}
 
 -- fronts that are all fields
 pub record AllFields (field : Field) (rest : List Placed) (fields : List Field) : Type 0 where

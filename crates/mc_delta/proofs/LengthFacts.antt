@@ -4,9 +4,8 @@ use Rattle.std.proofs.Math.Dec.{leb}
 use Rattle.std.proofs.lemmas.Bool.{leb-true, leb-false, ne_eqb}
 use Rattle.std.proofs.lemmas.List.{take_more, append-nil}
 use Rattle.std.proofs.lemmas.List.Concat.{flat_map-append}
-use Rattle.std.specs.Bool.{if◌then◌else◌}
 use Rattle.std.specs.List.{flat_map}
-use Rattle.mc_base.specs.Wire.{varint_bytes, varint_field_bytes, part_head_bytes, part_field_bytes}
+use Rattle.mc_base.specs.Wire.{varint_bytes, part_head_bytes, part_field_bytes}
 use Rattle.mc_model.specs.DeltaText.{some_part, entry_bytes, element_bytes, tomb_bytes, priority_bytes}
 use Rattle.mc_model.specs.declared.delta.Element.{Element}
 use Rattle.mc_model.specs.declared.delta.Tomb.{Tomb}

@@ -1,5 +1,5 @@
 -- A field that holds an element or a tombstone.
-use Rattle.std.proofs.Common.{◌≡◌, ℕ, ◌+◌, ◌-◌, ◌≤◌, List, [], ◌∷◌, ◌++◌, length, take, drop, refl, subst, sym, ◌∙◌, ◌==◌, ◌||◌, true, arith, None, Some, Ok, Err, Result, OnOk, ◌⊎◌, inl, inr}
+use Rattle.std.proofs.Common.{◌≡◌, ℕ, ◌+◌, ◌-◌, ◌≤◌, List, [], ◌∷◌, ◌++◌, length, take, drop, subst, ◌∙◌, arith, None, Ok, Err, Result, OnOk, ◌⊎◌, inl, inr}
 use Rattle.std.proofs.lemmas.List.{length-take-le, length-drop, drop-take}
 use Rattle.mc_model.specs.DeltaText.{entry_fault}
 use Rattle.mc_model.specs.declared.delta.Delta.{Delta}

@@ -1,25 +1,20 @@
 -- What is written for a delta is read as it.
-use Rattle.std.proofs.Common.{◌≡◌, ◌≢◌, ℕ, ◌+◌, ◌*◌, ◌<◌, ◌≤◌, ◌^◌, List, [], ◌∷◌, ◌++◌, length, map, Bool, true, false, refl, ap, sym, ◌∙◌, arith, append_assoc, length-append, Option, Some, ◌&&◌, ◌==◌}
+use Rattle.std.proofs.Common.{◌≡◌, ℕ, ◌<◌, ◌≤◌, ◌^◌, List, [], ◌∷◌, ◌++◌, length, map, Bool, true, false, refl, arith, length-append, ◌&&◌, ◌==◌}
 use Rattle.std.proofs.Math.Dec.{eqb}
-use Rattle.std.proofs.lemmas.Bool.{eqb-true, eqb-false, false≢true}
-use Rattle.std.proofs.lemmas.List.{append-nil}
-use Rattle.std.proofs.lemmas.List.Elements.{filter_map-append}
+use Rattle.std.proofs.lemmas.Bool.{false≢true}
 use Rattle.std.proofs.lemmas.Str.{is_utf8-from_IsUtf8, IsUtf8-nil}
 use Rattle.std.specs.Bool.{if◌then◌else◌}
-use Rattle.std.specs.List.{list_all, filter_map, flat_map}
-use Rattle.std.specs.Prelude.{IsTrue}
+use Rattle.std.specs.List.{flat_map}
 use Rattle.std.specs.Str.{is_utf8}
 use Rattle.mc_base.specs.Wire.{Field, Fields, Varint, Part, part_field_bytes, varint_field_bytes}
-use Rattle.mc_base.specs.WireRead.{fields_of}
-use Rattle.mc_model.specs.DeltaText.{delta_of, delta_of_fields, delta_with, delta_bytes, element_bytes, tomb_bytes, priority_bytes, entry_bytes, entry_of, entries_of, all_some, element_of, tomb_of, parts_of, part_of, varint_of, last_or}
+use Rattle.mc_model.specs.DeltaText.{delta_bytes, element_bytes, tomb_bytes, priority_bytes, entry_bytes}
 use Rattle.mc_model.specs.declared.delta.Delta.{Delta}
 use Rattle.mc_model.specs.declared.delta.Element.{Element}
 use Rattle.mc_model.specs.declared.delta.Tomb.{Tomb}
-use Rattle.mc_wire.proofs.FieldFacts.{fields_are_read}
 use Rattle.mc_wire.proofs.WrittenFacts.{part_field_is_written, varint_field_is_written}
-use Rattle.mc_delta.specs.Written.{IsWritable, element_has_text, tomb_has_text}
+use Rattle.mc_delta.specs.Written.{IsWritable}
 use Rattle.mc_delta.proofs.LengthFacts.{part_field_len}
-use Rattle.mc_delta.proofs.WrittenEntry.{fields_joined, one_field, entry_fields_of, entry_is_read, last_key, last_id, last_value}
+use Rattle.mc_delta.proofs.WrittenEntry.{fields_joined, one_field}
 
 pub both : (one two : Bool) → (one && two) ≡ true → (one ≡ true) × (two ≡ true)
 both true two e = (refl, e)

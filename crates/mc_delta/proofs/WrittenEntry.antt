@@ -1,11 +1,10 @@
 -- What is written for an entry is read as it.
-use Rattle.std.proofs.Common.{◌≡◌, ℕ, ◌+◌, ◌*◌, ◌<◌, ◌≤◌, ◌^◌, List, [], ◌∷◌, ◌++◌, length, Bool, true, false, refl, ap, sym, ◌∙◌, arith, append_assoc, length-append, Option, Some, ◌&&◌}
+use Rattle.std.proofs.Common.{◌≡◌, ℕ, ◌<◌, ◌≤◌, ◌^◌, List, [], ◌∷◌, ◌++◌, length, true, refl, sym, arith, append_assoc, length-append, Some}
 use Rattle.std.proofs.lemmas.List.{append-nil}
-use Rattle.std.specs.List.{list_all}
 use Rattle.std.specs.Str.{is_utf8}
 use Rattle.mc_base.specs.Wire.{Field, Fields, IsPiece, Part, part_field_bytes}
 use Rattle.mc_base.specs.WireRead.{fields_of}
-use Rattle.mc_model.specs.DeltaText.{some_part, entry_bytes, entry_of, parts_of, last_part}
+use Rattle.mc_model.specs.DeltaText.{some_part, entry_bytes, entry_of, last_part}
 use Rattle.mc_wire.proofs.FieldFacts.{fields_are_read}
 use Rattle.mc_wire.proofs.WrittenFacts.{part_field_is_written}
 use Rattle.mc_delta.proofs.EntryLaw.{are_texts}

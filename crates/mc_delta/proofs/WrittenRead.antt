@@ -1,5 +1,5 @@
 -- The fields of a written delta make it again.
-use Rattle.std.proofs.Common.{◌≡◌, ℕ, ◌<◌, ◌^◌, List, [], ◌∷◌, ◌++◌, length, map, Bool, true, false, refl, ap, sym, ◌∙◌, arith, length-append, Option, Some, ◌&&◌, ◌==◌}
+use Rattle.std.proofs.Common.{◌≡◌, ℕ, ◌<◌, ◌^◌, List, [], ◌∷◌, ◌++◌, length, map, true, false, refl, ap, sym, ◌∙◌, arith, length-append, Some}
 use Rattle.std.proofs.Math.Dec.{eqb}
 use Rattle.std.proofs.lemmas.Bool.{eqb-true}
 use Rattle.std.proofs.lemmas.List.{append-nil}
@@ -8,9 +8,8 @@ use Rattle.std.specs.Bool.{if◌then◌else◌}
 use Rattle.std.specs.List.{list_all, filter_map, flat_map}
 use Rattle.std.specs.Prelude.{IsTrue}
 use Rattle.std.specs.Str.{is_utf8}
-use Rattle.mc_base.specs.Wire.{Field, Fields, Varint}
-use Rattle.mc_base.specs.WireRead.{fields_of}
-use Rattle.mc_model.specs.DeltaText.{delta_of, delta_of_fields, delta_bytes, element_bytes, tomb_bytes, priority_bytes, entry_bytes, entry_of, entries_of, all_some, element_of, tomb_of, parts_of, part_of, varint_of, last_or}
+use Rattle.mc_base.specs.Wire.{Field, Varint}
+use Rattle.mc_model.specs.DeltaText.{delta_of, delta_of_fields, delta_bytes, element_bytes, tomb_bytes, priority_bytes, entry_of, all_some, element_of, tomb_of, parts_of, part_of, varint_of, last_or}
 use Rattle.mc_model.specs.declared.delta.Delta.{Delta}
 use Rattle.mc_model.specs.declared.delta.Element.{Element}
 use Rattle.mc_model.specs.declared.delta.Tomb.{Tomb}

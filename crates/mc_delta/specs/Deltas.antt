@@ -1,5 +1,5 @@
 -- What reading a delta gives.
-use Rattle.std.specs.Prelude.{◌≡◌, ℕ, ◌+◌, ◌-◌, List, [], ◌∷◌, ◌++◌, ◌==◌, ◌||◌, if◌then◌else◌, Option, Some, None, ⊤, unwrap_or}
+use Rattle.std.specs.Prelude.{◌≡◌, ℕ, List, [], ◌∷◌, ◌++◌, ◌==◌, ◌||◌, if◌then◌else◌, Option, Some, None, ⊤, unwrap_or}
 use Rattle.mc_base.specs.Wire.{Field}
 use Rattle.mc_model.specs.DeltaText.{DeltaFault, delta_of, delta_fault, element_of, tomb_of, entry_of, entry_fault, entry_part_fault, part_of, varint_of}
 use Rattle.mc_model.specs.declared.delta.Delta.{Delta}

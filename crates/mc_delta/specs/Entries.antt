@@ -1,5 +1,5 @@
 -- What an entry holds.
-use Rattle.std.specs.Prelude.{◌≡◌, ℕ, List, [], drop, Option, Some, None, ◌==◌, if◌then◌else◌, unwrap_or}
+use Rattle.std.specs.Prelude.{◌≡◌, ℕ, List, drop, Some, None, unwrap_or}
 use Rattle.mc_base.specs.Wire.{Field}
 use Rattle.mc_model.specs.DeltaText.{entry_of, entry_fault, text_fault, part_of, last_part}
 use Rattle.mc_wire.specs.Seen.{fronts_at, field_at}

@@ -1,5 +1,5 @@
 -- Deltas that can be written: as every delta in memory.
-use Rattle.std.specs.Prelude.{ℕ, ◌<◌, ◌^◌, List, length, Bool, IsTrue, ◌&&◌}
+use Rattle.std.specs.Prelude.{◌<◌, ◌^◌, length, Bool, IsTrue, ◌&&◌}
 use Rattle.std.specs.List.{list_all}
 use Rattle.std.specs.Str.{is_utf8}
 use Rattle.mc_model.specs.DeltaText.{delta_bytes}

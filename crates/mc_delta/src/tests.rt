@@ -187,7 +187,7 @@ fn a_delta_of_ten_thousand_elements_is_read_back(rt: HostRuntime) -> Result<(), 
     let tail = [
         0x12, 0x09, 0x0a, 0x02, 0x2f, 0x6b, 0x12, 0x03, 0x2f, 0x49, 0x44, 0x18, 0xac, 0x02,
     ];
-    assert_eq!(rt; &written.as_slice()[written.len() - 14..], tail.as_slice());
+    assert_eq!(rt; written.as_slice().ends_with(&tail), true);
     let Ok(read) = read_delta(rt.alloc(), written.as_slice()) else {
         return Err(Fail::new("a written delta is read"));
     };
