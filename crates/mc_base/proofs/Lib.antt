@@ -1,1 +1,4 @@
+pub mod AsciiDigits
+pub mod FiveBits
 pub mod Telling
+pub mod VarintFacts

@@ -1,0 +1,6 @@
+pub mod BitFacts
+pub mod DigitFacts
+pub mod GroupFacts
+pub mod Laws
+pub mod TextFacts
+pub mod WordFacts

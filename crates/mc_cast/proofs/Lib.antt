@@ -1,0 +1,4 @@
+pub mod HeadFacts
+pub mod KeptFacts
+pub mod LawFacts
+pub mod MessageFacts

@@ -1,0 +1,3 @@
+pub mod Cast
+pub mod Reads
+pub mod Steps

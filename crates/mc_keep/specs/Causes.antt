@@ -1,0 +1,42 @@
+-- When a call of a keeper may answer Failed, what a commit that fails leaves, and what a fuse does to it.
+use Rattle.std.specs.Prelude.{◌≡◌, ◌⊎◌, ⊤, ℕ, ◌-◌, ◌≤◌, nat_lt, Bool, true, false, Option, Some, None, Result, Ok, Err, IfSome, IfOk, if◌then◌else◌}
+use Rattle.mc_base.specs.Causes.{Rose}
+use Rattle.mc_model.specs.Kept.{Kept}
+use Rattle.mc_keep.specs.declared.error.KeepError.{KeepError}
+use Rattle.mc_keep.specs.declared.error.KeepError.TheVariants.{Failed, Memory}
+use Rattle.mc_keep.specs.declared.fuse.Fuse.{Fuse}
+
+-- what holds of what is told and of an Ok
+abbrev pub IfTold : {T E : Type 0} → Option Kept → Result T E → (Kept → T → Type 0) → Type 0
+IfTold told result P = IfSome told (λ kept. IfOk result (λ value. P kept value))
+
+-- what holds where a keeper answers Failed
+abbrev pub OnFailed : {T : Type 0} → Result T KeepError → Type 0 → Type 0
+OnFailed (Ok value) P = ⊤
+OnFailed (Err Failed) P = P
+OnFailed (Err Memory) P = ⊤
+
+-- a count never falls, and has risen where the keeper failed
+pub record KeepCause {T : Type 0} (before now : ℕ) (result : Result T KeepError) : Type 0 where
+  pub later : before ≤ now
+  pub failed : OnFailed result (Rose before now)
+
+-- what is quiet stays so, and counts nothing
+abbrev pub StaysQuiet : Bool → Bool → ℕ → ℕ → Type 0
+StaysQuiet quiet_before quiet_now before now = quiet_before ≡ true → (quiet_now ≡ true) × (now ≡ before)
+
+-- a fuse after a commit
+abbrev pub burnt : Option Fuse → Option Fuse
+burnt None = None
+burnt (Some fuse) = if nat_lt 1 fuse.commit then Some (record { commit = fuse.commit - 1; after = fuse.after }) else None
+
+-- whether the next commit fails by the fuse, and then whether after its effect
+abbrev pub fires : Option Fuse → Option Bool
+fires None = None
+fires (Some fuse) = if nat_lt 1 fuse.commit then None else Some fuse.after
+
+-- what a failed commit leaves: by itself it may have happened wholly or not at all; by the fuse it has not, or it has
+abbrev pub CommitFails : Option Bool → Type 0 → Kept → Kept → Kept → Type 0
+CommitFails None rose old whole new = rose × ((new ≡ old) ⊎ (new ≡ whole))
+CommitFails (Some false) rose old whole new = new ≡ old
+CommitFails (Some true) rose old whole new = (new ≡ whole) ⊎ (rose × (new ≡ old))

@@ -1,0 +1,57 @@
+// Who makes the keepers of a run, and takes them back.
+ghost use Rattle.std.specs.Prelude.{◌≡◌, ◌+◌, ◌-◌, ◌^◌, ℕ, Bool, true, None, Option, min, IfOk};
+ghost use Rattle.std.specs.List.{sum_by};
+ghost use Rattle.mc_model.specs.Kept.{Kept};
+ghost use Rattle.mc_keep.specs.Causes.{KeepCause};
+
+use crate::{KeepError, Keeper};
+use mc_base::{Counted, List, Text};
+use std::alloc::Global;
+
+/// What kind of keeper a run uses.
+#[derive(Debug, Drop)]
+pub enum KeeperPlan {
+    /// In memory: nothing outlives the run.
+    Memory,
+    /// A SQLite file for each replica.
+    Sqlite {
+        /// The folder of the files.
+        dir: Text,
+    },
+}
+
+/// Makes keepers, and takes them back. Its count of faults is that of `make` alone.
+pub trait Keepers: Counted {
+    ghost use Rattle.mc_keep.specs.declared.keepers.KeeperPlan.{KeeperPlan};
+
+    /// The keepers that it makes.
+    type K: Keeper;
+
+    /// What the keeper of a plan with this index stands for when it is made, where that is told.
+    ghost starts: { Self → KeeperPlan → ℕ → Option Kept };
+
+    /// Whether no count of a keeper or desk that it makes from this plan ever rises by itself.
+    ghost quiet: { Self → KeeperPlan → Bool };
+
+    /// The sum of the counts of all keepers and desks that were taken back, at most `u64::MAX`.
+    ghost lost: { Self → ℕ };
+
+    /// Makes the keeper of the replica with this index, with the count 0 and no fuse.
+    fn make(&mut self, alloc: Global, plan: &KeeperPlan, index: u64) -> Result<Self::K, KeepError>
+        ensures told { IfOk result (λ keeper. Self.K.told keeper ≡ starts self.old plan.now index) }
+        ensures fresh { IfOk result (λ keeper. (Self.K.faults keeper ≡ 0) × (Self.K.own keeper ≡ 0) × (Self.K.fuse keeper ≡ None)) }
+        ensures quiet { quiet self.old plan.now ≡ true → IfOk result (λ keeper. Self.K.quiet keeper ≡ true) }
+        ensures same { (plan : KeeperPlan) → quiet self.new plan ≡ quiet self.old plan }
+        ensures lost { lost self.new ≡ lost self.old }
+        ensures cause { KeepCause (Self.faults self.old) (Self.faults self.new) result };
+
+    /// Takes a keeper and its desks back. It takes no memory, and does not fail.
+    fn end(&mut self, keeper: Self::K, desks: List<<Self::K as Keeper>::Desk>)
+        ensures lost { lost self.new ≡ min (lost self.old + Self.K.faults keeper + sum_by Self.K.Desk.faults desks) (2 ^ 64 - 1) }
+        ensures same { (plan : KeeperPlan) → quiet self.new plan ≡ quiet self.old plan }
+        ensures count { Self.faults self.new ≡ Self.faults self.old };
+
+    /// The sum of the counts of all keepers and desks that were taken back, at most `u64::MAX`.
+    fn lost(&self) -> u64
+        ensures { result ≡ lost self.now };
+}

@@ -1,0 +1,19 @@
+//! Keepers: where the blocks of a replica and the rows made of them are kept.
+#![tactic(auto)]
+
+mod changes;
+mod error;
+mod fuse;
+mod keeper;
+mod keepers;
+mod laws;
+mod rows;
+
+pub use changes::{Changes, ValueChange};
+pub use error::KeepError;
+pub use fuse::Fuse;
+pub use keeper::Keeper;
+pub use keepers::{KeeperPlan, Keepers};
+pub use laws::commits_are_events;
+pub use mc_model::Stored;
+pub use rows::{ElementRow, HeadRow, Summary, TombRow, ValueRow};

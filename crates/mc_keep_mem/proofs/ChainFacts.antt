@@ -1,0 +1,193 @@
+-- Chains of nodes: what one more node leaves of them.
+use Rattle.std.proofs.Common.{◌≡◌, ℕ, zero, suc, ◌+◌, ◌<◌, ◌≤◌, arith, Bool, true, false, cond, ◌&&◌, List, [], ◌∷◌, ◌++◌, map, length, Option, Some, None, sym, refl, ap, ◌∙◌, subst, length-append, ltb, get_or}
+use Rattle.std.specs.Prelude.{slice_get, nat_lt}
+use Rattle.std.specs.Str.{bytes_eq}
+use Rattle.std.specs.HashMap.{HashMap, get_by_text}
+use Rattle.std.specs.declared.string.String.{String}
+use Rattle.std.proofs.lemmas.Bool.Decides.{nat_tests}
+use Rattle.mc_keep.specs.declared.rows.ElementRow.{ElementRow}
+use Rattle.mc_keep_mem.specs.declared.elements.Node.{Node}
+use Rattle.mc_keep_mem.proofs.ValueFacts.{bytes_same}
+use Rattle.mc_keep_mem.specs.Chains.{is_before, lead_back, chain, row_of_node, rows_in, AreChains}
+
+and_parts : (a b : Bool) → (a && b) ≡ true → (a ≡ true) × (b ≡ true)
+and_parts true b e = (refl, e)
+and_parts false b e = absurd (let f : false ≡ true = e in cc)
+
+both : (a b : Bool) → a ≡ true → b ≡ true → (a && b) ≡ true
+both true b e f = f
+both false b e f = absurd (let g : false ≡ true = e in cc)
+
+before_later : (place later : ℕ) (at : Option ℕ) → place ≤ later → is_before place at ≡ true → is_before later at ≡ true
+before_later place later None l e = refl
+before_later place later (Some at) l e = grind (arith, nat_tests, e, l)
+
+-- a node leads to one before its place
+leads_back : (first place : ℕ) (nodes : List Node) (node : Node) → lead_back first nodes ≡ true → slice_get nodes place ≡ Some node → is_before (first + place) node.before ≡ true
+leads_back first place [] node back got = absurd (let f : None ≡ Some node = got in cc)
+leads_back first zero (n ∷ nodes) node back got =
+    let same : n ≡ node = cc (got) in
+    subst (λ z. is_before z node.before ≡ true) (omega arith) (subst (λ z. is_before first z.before ≡ true) same (and_parts (is_before first n.before) (lead_back (first + 1) nodes) back).0)
+leads_back first (suc place) (n ∷ nodes) node back got =
+    let parts = and_parts (is_before first n.before) (lead_back (first + 1) nodes) back in
+    subst (λ z. is_before z node.before ≡ true) (omega arith) (leads_back (first + 1) place nodes node parts.1 got)
+
+-- one more node leads back too
+pub back_push : (first : ℕ) (nodes : List Node) (node : Node) → lead_back first nodes ≡ true → is_before (first + length nodes) node.before ≡ true → lead_back first (nodes ++ node ∷ []) ≡ true
+back_push first [] node back before = both (is_before first node.before) true (subst (λ z. is_before z node.before ≡ true) (omega arith) before) refl
+back_push first (n ∷ nodes) node back before =
+    let parts = and_parts (is_before first n.before) (lead_back (first + 1) nodes) back in
+    both (is_before first n.before) (lead_back (first + 1) (nodes ++ node ∷ [])) parts.0
+    (back_push (first + 1) nodes node parts.1 (subst (λ z. is_before z node.before ≡ true) (omega arith) before))
+
+get_push : {A : Type 0} (xs : List A) (y : A) (i : ℕ) → i < length xs → slice_get (xs ++ y ∷ []) i ≡ slice_get xs i
+get_push [] y i below = absurd (omega (arith, below))
+get_push (x ∷ xs) y zero below = refl
+get_push (x ∷ xs) y (suc i) below = get_push xs y i (omega (arith, below))
+
+get_last : {A : Type 0} (xs : List A) (y : A) → slice_get (xs ++ y ∷ []) (length xs) ≡ Some y
+get_last [] y = refl
+get_last (x ∷ xs) y = get_last xs y
+
+is_below : (place at : ℕ) → nat_lt at place ≡ true → at < place
+is_below place at e = grind (arith, nat_tests, e)
+
+module _ (nodes : List Node) (back : lead_back 0 nodes ≡ true) where
+  -- the node at a place leads to one before that place
+  node_leads : (place : ℕ) (node : Node) → slice_get nodes place ≡ Some node → is_before place node.before ≡ true
+  node_leads place node got = subst (λ z. is_before z node.before ≡ true) (omega arith) (leads_back 0 place nodes node back got)
+
+  abbrev next : List Node → ℕ → Option Node → List Node
+  next all most found = elim found [ None ↦ [] | Some node ↦ node ∷ chain all most node.before ]
+
+  -- one more node is in none of the old chains
+  pub chain_push : (node : Node) (most : ℕ) (at : Option ℕ) → is_before (length nodes) at ≡ true → chain (nodes ++ node ∷ []) most at ≡ chain nodes most at
+  chain_push node zero at e = refl
+  chain_push node (suc most) None e = refl
+  chain_push node (suc most) (Some at) e =
+      let below = is_below (length nodes) at e in
+      ap (λ found. next (nodes ++ node ∷ []) most found) (get_push nodes node at below)
+      ∙ by (λ at' f. chain_push node most at' f) (slice_get nodes at) refl (omega (arith, below))
+    where
+      by : ((at' : Option ℕ) → is_before (length nodes) at' ≡ true → chain (nodes ++ node ∷ []) most at' ≡ chain nodes most at')
+          → (found : Option Node) → slice_get nodes at ≡ found → at ≤ length nodes → next (nodes ++ node ∷ []) most found ≡ next nodes most found
+      by go None got l = refl
+      by go (Some n) got l = ap (λ rest. n ∷ rest) (go n.before (before_later at (length nodes) n.before l (node_leads at n got)))
+
+  -- a chain ends within as many steps as its place counts
+  pub chain_more : (most more : ℕ) (at : Option ℕ) → is_before most at ≡ true → most ≤ more → chain nodes most at ≡ chain nodes more at
+  chain_more zero zero at e l = refl
+  chain_more zero (suc more) None e l = refl
+  chain_more zero (suc more) (Some at) e l = absurd (let below = is_below 0 at e in omega (arith, below))
+  chain_more (suc most) zero at e l = absurd (omega (arith, l))
+  chain_more (suc most) (suc more) None e l = refl
+  chain_more (suc most) (suc more) (Some at) e l =
+      let below = is_below (suc most) at e in
+      by (λ at' f. chain_more most more at' f (omega (arith, l))) (slice_get nodes at) refl (omega (arith, below))
+    where
+      by : ((at' : Option ℕ) → is_before most at' ≡ true → chain nodes most at' ≡ chain nodes more at')
+          → (found : Option Node) → slice_get nodes at ≡ found → at ≤ most → next nodes most found ≡ next nodes more found
+      by go None got a = refl
+      by go (Some n) got a = ap (λ rest. n ∷ rest) (go n.before (before_later at most n.before a (node_leads at n got)))
+
+-- the table after one more row
+pub record IsRowPut {Y S : Type 0} (nodes new_nodes : List Node) (lasts new_lasts : HashMap (String Y) ℕ S) (row : ElementRow) : Type 0 where
+  pub chains : AreChains new_nodes new_lasts
+  pub rows : (key : List ℕ) → rows_in new_nodes new_lasts key ≡ cond (bytes_eq row.key key) (row ∷ rows_in nodes lasts key) (rows_in nodes lasts key)
+
+module _ {Y S : Type 0} (nodes : List Node) (lasts new_lasts : HashMap (String Y) ℕ S) (key : List ℕ) (node : Node) (chains : AreChains nodes lasts)
+    (leads : node.before ≡ get_by_text lasts key)
+    (updates : (other : List ℕ) → get_by_text new_lasts other ≡ cond (bytes_eq key other) (Some (length nodes)) (get_by_text lasts other)) where
+  longer : length (nodes ++ node ∷ []) ≡ suc (length nodes)
+  longer = length-append nodes (node ∷ []) ∙ omega arith
+
+  before_end : is_before (length nodes) node.before ≡ true
+  before_end = ap (is_before (length nodes)) leads ∙ chains.there key
+
+  still_chains : AreChains (nodes ++ node ∷ []) new_lasts
+  still_chains = record {
+    back = back_push 0 nodes node chains.back (subst (λ z. is_before z node.before ≡ true) (omega arith) before_end);
+    there = λ other. ap (is_before (length (nodes ++ node ∷ []))) (updates other) ∙ ap (λ z. is_before z (cond (bytes_eq key other) (Some (length nodes)) (get_by_text lasts other))) longer ∙ by other (bytes_eq key other);
+  }
+    where
+      by : (other : List ℕ) (b : Bool) → is_before (suc (length nodes)) (cond b (Some (length nodes)) (get_by_text lasts other)) ≡ true
+      by other true = grind (arith, nat_tests)
+      by other false = before_later (length nodes) (suc (length nodes)) (get_by_text lasts other) (omega arith) (chains.there other)
+
+  at_key : (other : List ℕ) → bytes_eq key other ≡ true → map (row_of_node other) (chain (nodes ++ node ∷ []) (suc (length nodes)) (Some (length nodes))) ≡ row_of_node key node ∷ rows_in nodes lasts other
+  at_key other e =
+      let same : key ≡ other = bytes_same key other e in
+      ap (λ found. map (row_of_node other) (next nodes chains.back (nodes ++ node ∷ []) (length nodes) found)) (get_last nodes node)
+      ∙ ap (λ rest. row_of_node other node ∷ map (row_of_node other) rest) (chain_push nodes chains.back node (length nodes) node.before before_end ∙ ap (chain nodes (length nodes)) (leads ∙ ap (get_by_text lasts) same))
+      ∙ ap (λ z. row_of_node z node ∷ rows_in nodes lasts other) (sym same)
+
+  elsewhere : (other : List ℕ) → map (row_of_node other) (chain (nodes ++ node ∷ []) (suc (length nodes)) (get_by_text lasts other)) ≡ rows_in nodes lasts other
+  elsewhere other =
+      ap (map (row_of_node other)) (chain_push nodes chains.back node (suc (length nodes)) (get_by_text lasts other) (chains.there other)
+      ∙ sym (chain_more nodes chains.back (length nodes) (suc (length nodes)) (get_by_text lasts other) (chains.there other) (omega arith)))
+
+  pub row_put : IsRowPut nodes (nodes ++ node ∷ []) lasts new_lasts (row_of_node key node)
+  row_put = record {
+    chains = still_chains;
+    rows = λ other.
+        ap (λ z. map (row_of_node other) (chain (nodes ++ node ∷ []) z (get_by_text new_lasts other))) longer
+        ∙ ap (λ z. map (row_of_node other) (chain (nodes ++ node ∷ []) (suc (length nodes)) z)) (updates other)
+        ∙ by other (bytes_eq key other) refl;
+  }
+    where
+      by : (other : List ℕ) (b : Bool) → bytes_eq key other ≡ b → map (row_of_node other) (chain (nodes ++ node ∷ []) (suc (length nodes)) (cond b (Some (length nodes)) (get_by_text lasts other))) ≡ cond b (row_of_node key node ∷ rows_in nodes lasts other) (rows_in nodes lasts other)
+      by other true e = at_key other e
+      by other false e = elsewhere other
+
+-- how many steps a chain can still go
+abbrev pub steps_left : Option ℕ → ℕ
+steps_left None = 0
+steps_left (Some at) = at + 1
+
+pub fewer_steps : (place : ℕ) (before : Option ℕ) → is_before place before ≡ true → steps_left before < place + 1
+fewer_steps place None e = omega arith
+fewer_steps place (Some at) e = let below = is_below place at e in omega (arith, below)
+
+pub chain_done : (nodes : List Node) (most : ℕ) → chain nodes most None ≡ []
+chain_done nodes zero = refl
+chain_done nodes (suc most) = refl
+
+pub chain_stops : (nodes : List Node) (most place : ℕ) → slice_get nodes place ≡ None → chain nodes most (Some place) ≡ []
+chain_stops nodes zero place got = refl
+chain_stops nodes (suc most) place got = ap (λ found. elim found as (λ _. List Node) [ None ↦ [] | Some node ↦ node ∷ chain nodes most node.before ]) got
+
+-- one step of a walk
+pub chain_step : (nodes : List Node) → lead_back 0 nodes ≡ true → (most place : ℕ) (node : Node) → is_before most (Some place) ≡ true → slice_get nodes place ≡ Some node
+    → (chain nodes most (Some place) ≡ node ∷ chain nodes most node.before) × (is_before most node.before ≡ true) × (steps_left node.before < place + 1)
+chain_step nodes back zero place node there got = absurd (let below = is_below 0 place there in omega (arith, below))
+chain_step nodes back (suc most) place node there got =
+    let below = is_below (suc most) place there in
+    let leads = node_leads nodes back place node got in (
+      ap (λ found. elim found as (λ _. List Node) [ None ↦ [] | Some n ↦ n ∷ chain nodes most n.before ]) got
+          ∙ ap (λ rest. node ∷ rest) (chain_more nodes back most (suc most) node.before (before_later place most node.before (omega (arith, below)) leads) (omega arith)),
+      before_later place (suc most) node.before (omega (arith, below)) leads,
+      fewer_steps place node.before leads,
+    )
+
+-- what `get` of a slice gives
+pub got_at : {A : Type 0} (xs : List A) (i : ℕ) (x : A) → true ≡ ltb i (length xs) → x ≡ get_or xs i x → slice_get xs i ≡ Some x
+got_at [] i x e f = absurd (let below : i < 0 = grind (arith, nat_tests, e) in omega (arith, below))
+got_at (y ∷ xs) zero x e f = ap (λ z. Some z) (sym f)
+got_at (y ∷ xs) (suc i) x e f = got_at xs i x (let below : i < length xs = grind (arith, nat_tests, e) in grind (arith, nat_tests, below)) f
+
+pub is_none : (at : Option ℕ) → ((x : ℕ) → at ≡ Some x → ⊥) → at ≡ None
+is_none None never = refl
+is_none (Some x) never = absurd (never x refl)
+
+-- the same last rows are the same chains
+pub same_chains : {Y S : Type 0} (nodes new_nodes : List Node) (lasts new_lasts : HashMap (String Y) ℕ S) → new_nodes ≡ nodes
+    → ((key : List ℕ) → get_by_text new_lasts key ≡ get_by_text lasts key) → AreChains nodes lasts → AreChains new_nodes new_lasts
+same_chains nodes new_nodes lasts new_lasts e same chains = record {
+  back = ap (lead_back 0) e ∙ chains.back;
+  there = λ key. ap (λ z. is_before (length z) (get_by_text new_lasts key)) e ∙ ap (is_before (length nodes)) (same key) ∙ chains.there key;
+}
+
+pub same_rows : {Y S : Type 0} (nodes new_nodes : List Node) (lasts new_lasts : HashMap (String Y) ℕ S) → new_nodes ≡ nodes
+    → ((key : List ℕ) → get_by_text new_lasts key ≡ get_by_text lasts key) → (key : List ℕ) → rows_in new_nodes new_lasts key ≡ rows_in nodes lasts key
+same_rows nodes new_nodes lasts new_lasts e same key =
+    ap (λ z. map (row_of_node key) (chain z (length z) (get_by_text new_lasts key))) e ∙ ap (λ z. map (row_of_node key) (chain nodes (length nodes) z)) (same key)

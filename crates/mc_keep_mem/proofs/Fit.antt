@@ -1,0 +1,149 @@
+-- The tables stay those of the processed blocks.
+use Rattle.std.proofs.Common.{◌≡◌, ℕ, Bool, true, false, not, cond, List, [], ◌∷◌, ◌++◌, map, Option, Some, None, ◌||◌, ◌&&◌, sym, refl, ap, ◌∙◌, subst, append_assoc}
+use Rattle.std.specs.Prelude.{filter, fold, is_some, unwrap_or, find}
+use Rattle.std.specs.List.{list_any, list_all, flat_map}
+use Rattle.std.specs.Option.{option_map}
+use Rattle.std.specs.Str.{bytes_eq}
+use Rattle.std.specs.HashMap.{get}
+use Rattle.std.specs.declared.hash.BuildHasher as build
+use Rattle.std.specs.declared.hash.Hasher as hash
+use Rattle.std.proofs.lemmas.List.Folds.{list_any-append}
+use Rattle.std.proofs.lemmas.List.Concat.{flat_map-append}
+use Rattle.mc_base.specs.declared.cid.Cid.{Cid}
+use Rattle.mc_model.specs.declared.block.Block.{Block}
+use Rattle.mc_model.specs.declared.block.Stored.{Stored}
+use Rattle.mc_model.specs.SameMembers.{SameMembers}
+use Rattle.mc_model.specs.Front.{same_cid, is_among, is_linked, is_processed, is_gap, head_at}
+use Rattle.mc_model.specs.Live.{has_tomb, value_row}
+use Rattle.mc_model.specs.Kept.{Kept, IsKept, processed, blocks_in, block_in, block_under, bytes_at, is_stored}
+use Rattle.mc_model.proofs.Blocks.{is_processed_has}
+use Rattle.mc_model.proofs.Counts.{cid_is}
+use Rattle.mc_model.proofs.Members.{list_any-filter}
+use Rattle.mc_keep.specs.declared.rows.ElementRow.{ElementRow}
+use Rattle.mc_keep.specs.declared.rows.TombRow.{TombRow}
+use Rattle.mc_keep.specs.declared.changes.Changes.{Changes}
+use Rattle.mc_keep.specs.Changes.{changed, newly_processed, has_tomb_row, is_tomb_row, values_after, head_after}
+use Rattle.mc_keep.specs.Tables.{element_row, element_rows, element_rows_of, RowsFit, FrontFits, StoreFits, MarksFit, ChangesFit}
+use Rattle.mc_keep.proofs.Commits.{commit_sound}
+use Rattle.mc_keep_mem.specs.declared.tables.Tables.{Tables}
+use Rattle.mc_keep_mem.specs.Chains.{with_element, rows_in}
+use Rattle.mc_keep_mem.specs.Front.{closed_by, opened_by}
+use Rattle.mc_keep_mem.specs.Graph.{graph_of}
+use Rattle.mc_keep_mem.specs.Tombs.{with_tomb}
+use Rattle.mc_keep_mem.specs.Values.{row_in}
+use Rattle.mc_keep_mem.specs.Fits.{kept_in, tomb_in, Fits, Applied}
+
+-- blocks that are stored are the same when more are stored
+
+found_still : (graph more : List Stored) (cid : Cid) → is_stored graph cid ≡ true → bytes_at (graph ++ more) cid ≡ bytes_at graph cid
+found_still [] more cid e = absurd (let f : false ≡ true = e in cc)
+found_still (s ∷ graph) more cid e =
+    elim (same_cid cid s.cid) as (λ t. is_some (option_map (λ (stored : Stored). stored.bytes) (cond t (Some s) (find (λ (stored : Stored). same_cid cid stored.cid) graph))) ≡ true
+    → option_map (λ (stored : Stored). stored.bytes) (cond t (Some s) (find (λ (stored : Stored). same_cid cid stored.cid) (graph ++ more))) ≡ option_map (λ (stored : Stored). stored.bytes) (cond t (Some s) (find (λ (stored : Stored). same_cid cid stored.cid) graph))) [
+      | true ↦ λ h. refl
+      | false ↦ λ h. found_still graph more cid h
+    ] e
+
+and_parts : (a b : Bool) → (a && b) ≡ true → (a ≡ true) × (b ≡ true)
+and_parts true b e = (refl, e)
+and_parts false b e = absurd (let f : false ≡ true = e in cc)
+
+pub blocks_still : (graph more : List Stored) (cids : List Cid) → list_all (is_stored graph) cids ≡ true → blocks_in (graph ++ more) cids ≡ blocks_in graph cids
+blocks_still graph more [] e = refl
+blocks_still graph more (cid ∷ cids) e =
+    let parts = and_parts (is_stored graph cid) (list_all (is_stored graph) cids) e in
+    ap (λ bytes. block_under cid bytes ∷ blocks_in (graph ++ more) cids) (found_still graph more cid parts.0) ∙ ap (λ rest. block_in graph cid ∷ rest) (blocks_still graph more cids parts.1)
+
+map-both : {A B : Type 0} (f : A → B) (xs ys : List A) → map f (xs ++ ys) ≡ map f xs ++ map f ys
+map-both f [] ys = refl
+map-both f (x ∷ xs) ys = ap (λ z. f x ∷ z) (map-both f xs ys)
+
+pub processed_after : (kept : Kept) (changes : Changes) → IsKept kept → processed (changed kept changes) ≡ processed kept ++ newly_processed kept changes
+processed_after kept changes sound =
+    map-both (block_in (kept.graph ++ changes.store)) kept.order changes.marks
+    ∙ ap (λ z. z ++ newly_processed kept changes) (blocks_still kept.graph changes.store kept.order sound.stored)
+
+-- rows that are put in turn
+
+or_shift : (a b c : Bool) → (a || (b || c)) ≡ (b || (a || c))
+or_shift true true c = refl
+or_shift true false c = refl
+or_shift false true c = refl
+or_shift false false c = refl
+
+pub elements_put : (test : ElementRow → Bool) (key : List ℕ) (rows new : List ElementRow)
+    → list_any test (fold (with_element key) rows new) ≡ (list_any test rows || list_any (λ row. bytes_eq row.key key && test row) new)
+elements_put test key rows [] = or_no (list_any test rows)
+  where
+    or_no : (a : Bool) → a ≡ (a || false)
+    or_no true = refl
+    or_no false = refl
+elements_put test key rows (row ∷ new) =
+    elements_put test key (with_element key rows row) new
+    ∙ ap (λ t. t || list_any (λ r. bytes_eq r.key key && test r) new) (one (bytes_eq row.key key))
+    ∙ last (bytes_eq row.key key && test row) (list_any test rows) (list_any (λ r. bytes_eq r.key key && test r) new)
+  where
+    one : (b : Bool) → list_any test (cond b (row ∷ rows) rows) ≡ ((b && test row) || list_any test rows)
+    one true = refl
+    one false = refl
+
+    last : (a b c : Bool) → ((a || b) || c) ≡ (b || (a || c))
+    last true true c = refl
+    last true false c = refl
+    last false true c = refl
+    last false false c = refl
+
+pub tombs_put : (key id : List ℕ) (there : Bool) (rows : List TombRow) → fold (with_tomb key id) there rows ≡ (there || has_tomb_row rows key id)
+tombs_put key id there [] = or_no there
+  where
+    or_no : (a : Bool) → a ≡ (a || false)
+    or_no true = refl
+    or_no false = refl
+tombs_put key id there (row ∷ rows) = tombs_put key id (is_tomb_row key id row || there) rows ∙ swap (is_tomb_row key id row) there (has_tomb_row rows key id)
+  where
+    swap : (a b c : Bool) → ((a || b) || c) ≡ (b || (a || c))
+    swap true true c = refl
+    swap true false c = refl
+    swap false true c = refl
+    swap false false c = refl
+
+-- links and gaps that are put in turn
+
+pub closed_all : (cid : Cid) (there : Bool) (marks : List Cid) → fold (closed_by cid) there marks ≡ (there && not (is_among marks cid))
+closed_all cid there [] = and_yes there
+  where
+    and_yes : (a : Bool) → a ≡ (a && true)
+    and_yes true = refl
+    and_yes false = refl
+closed_all cid there (mark ∷ marks) = closed_all cid (not (same_cid cid mark) && there) marks ∙ swap (same_cid cid mark) there (is_among marks cid)
+  where
+    swap : (a b c : Bool) → ((not a && b) && not c) ≡ (b && not (a || c))
+    swap true true c = refl
+    swap true false c = refl
+    swap false true c = refl
+    swap false false c = refl
+
+pub opened_all : (order : List Cid) (cid : Cid) (there : Bool) (links : List Cid) → fold (opened_by order cid) there links ≡ (there || (is_among links cid && not (is_among order cid)))
+opened_all order cid there [] = or_no there
+  where
+    or_no : (a : Bool) → a ≡ (a || false)
+    or_no true = refl
+    or_no false = refl
+opened_all order cid there (link ∷ links) =
+    opened_all order cid ((same_cid cid link && not (is_among order link)) || there) links
+    ∙ ap (λ t. (t || there) || (is_among links cid && not (is_among order cid))) (at_link (same_cid cid link) refl)
+    ∙ swap (same_cid cid link) (not (is_among order cid)) there (is_among links cid)
+  where
+    at_link : (b : Bool) → same_cid cid link ≡ b → (same_cid cid link && not (is_among order link)) ≡ (same_cid cid link && not (is_among order cid))
+    at_link true e = ap (λ (z : Cid). same_cid cid link && not (is_among order z)) (sym (cid_is cid link e))
+    at_link false e = ap (λ t. t && not (is_among order link)) e ∙ ap (λ t. t && not (is_among order cid)) (sym e)
+
+    swap : (a n b c : Bool) → (((a && n) || b) || (c && n)) ≡ (b || ((a || c) && n))
+    swap true true true c = refl
+    swap true true false c = refl
+    swap true false true true = refl
+    swap true false true false = refl
+    swap true false false true = refl
+    swap true false false false = refl
+    swap false n true c = refl
+    swap false n false c = refl

@@ -1,0 +1,108 @@
+-- What a commit leaves fits.
+use Rattle.std.proofs.Common.{◌≡◌, ℕ, Bool, true, false, not, List, [], ◌∷◌, ◌++◌, map, ◌||◌, ◌&&◌, sym, refl, ap, ◌∙◌, subst}
+use Rattle.std.specs.Prelude.{filter, fold, unwrap_or}
+use Rattle.std.specs.List.{list_any, flat_map}
+use Rattle.std.specs.Str.{bytes_eq}
+use Rattle.std.specs.declared.hash.BuildHasher as build
+use Rattle.std.specs.declared.hash.Hasher as hash
+use Rattle.std.proofs.lemmas.List.Folds.{list_any-append}
+use Rattle.std.proofs.lemmas.List.Concat.{flat_map-append}
+use Rattle.mc_base.specs.declared.cid.Cid.{Cid}
+use Rattle.mc_model.specs.declared.block.Block.{Block}
+use Rattle.mc_model.specs.declared.block.Stored.{Stored}
+use Rattle.mc_model.specs.SameMembers.{SameMembers}
+use Rattle.mc_model.specs.Front.{same_cid, is_among, is_linked, is_processed, is_gap, head_at}
+use Rattle.mc_model.specs.Live.{has_tomb, value_row}
+use Rattle.mc_model.specs.Kept.{Kept, IsKept, processed, blocks_in}
+use Rattle.mc_model.proofs.Blocks.{is_processed_has}
+use Rattle.mc_model.proofs.Members.{list_any-filter}
+use Rattle.mc_keep.specs.declared.rows.ElementRow.{ElementRow}
+use Rattle.mc_keep.specs.declared.changes.Changes.{Changes}
+use Rattle.mc_keep.specs.Changes.{changed, newly_processed, has_tomb_row, values_after, head_after}
+use Rattle.mc_keep.specs.Tables.{element_row, element_rows, element_rows_of, ChangesFit}
+use Rattle.mc_keep.proofs.Commits.{commit_sound}
+use Rattle.mc_keep_mem.specs.declared.tables.Tables.{Tables}
+use Rattle.mc_keep_mem.specs.Chains.{rows_in}
+use Rattle.mc_keep_mem.specs.Front.{closed_by, opened_by}
+use Rattle.mc_keep_mem.specs.Fits.{kept_in, tomb_in, Fits, Applied}
+use Rattle.mc_keep_mem.proofs.Fit.{processed_after, elements_put, tombs_put, closed_all, opened_all}
+
+-- the rows of a key over further blocks
+pub rows_of-append : (test : ElementRow → Bool) (key : List ℕ) (blocks more : List Block)
+    → list_any test (element_rows_of (blocks ++ more) key) ≡ (list_any test (element_rows_of blocks key) || list_any (λ (row : ElementRow). bytes_eq row.key key && test row) (element_rows more))
+rows_of-append test key blocks more =
+    list_any-filter test (λ (row : ElementRow). bytes_eq row.key key) (element_rows (blocks ++ more))
+    ∙ ap (list_any (λ (row : ElementRow). bytes_eq row.key key && test row)) (flat_map-append (λ (block : Block). map (element_row block) block.delta.elements) blocks more)
+    ∙ list_any-append (λ (row : ElementRow). bytes_eq row.key key && test row) (element_rows blocks) (element_rows more)
+    ∙ ap (λ t. t || list_any (λ (row : ElementRow). bytes_eq row.key key && test row) (element_rows more)) (sym (list_any-filter test (λ (row : ElementRow). bytes_eq row.key key) (element_rows blocks)))
+
+-- what is processed over further blocks
+pub processed_has : (kept : Kept) (changes : Changes) (cid : Cid) → is_processed (processed kept ++ newly_processed kept changes) cid ≡ (is_among kept.order cid || is_among changes.marks cid)
+processed_has kept changes cid =
+    list_any-append (λ (block : Block). same_cid cid block.cid) (processed kept) (newly_processed kept changes)
+    ∙ ap (λ t. t || is_processed (newly_processed kept changes) cid) (is_processed_has kept.graph kept.order cid)
+    ∙ ap (λ t. is_among kept.order cid || t) (is_processed_has (kept.graph ++ changes.store) changes.marks cid)
+
+-- a gap over further blocks
+gap_more : (linked order marks links : Bool) → (((linked && not order) && not marks) || (links && not (order || marks))) ≡ ((linked || links) && not (order || marks))
+gap_more true true marks true = refl
+gap_more true true marks false = refl
+gap_more true false true true = refl
+gap_more true false true false = refl
+gap_more true false false links = refl
+gap_more false order marks true = refl
+gap_more false order marks false = refl
+
+module _ {S X : Type 0} {g : build.Ghosts S X} {h : hash.Ghosts X} (old new : Tables S X g h) (changes : Changes) (fits : Fits old) (applied : Applied old new changes) (meet : ChangesFit (kept_in old) changes) where
+  told_after : kept_in new ≡ changed (kept_in old) changes
+  told_after = λ i. record { graph = applied.graph i; order = applied.order i; mark = applied.mark i }
+
+  blocks_after : processed (kept_in new) ≡ processed (kept_in old) ++ newly_processed (kept_in old) changes
+  blocks_after = ap processed told_after ∙ processed_after (kept_in old) changes fits.kept
+
+  elements_after : (key : List ℕ) → SameMembers (rows_in new.elements.nodes.items new.elements.lasts key) (element_rows_of (processed (kept_in new)) key)
+  elements_after key = record {
+    same = λ test.
+        ap (list_any test) (applied.elements key)
+        ∙ elements_put test key (rows_in old.elements.nodes.items old.elements.lasts key) changes.elements
+        ∙ ap (λ t. t || list_any (λ (row : ElementRow). bytes_eq row.key key && test row) changes.elements) ((fits.elements key).same test)
+        ∙ ap (λ t. list_any test (element_rows_of (processed (kept_in old)) key) || t) (meet.rows.elements.same (λ (row : ElementRow). bytes_eq row.key key && test row))
+        ∙ sym (rows_of-append test key (processed (kept_in old)) (newly_processed (kept_in old) changes))
+        ∙ ap (λ z. list_any test (element_rows_of z key)) (sym blocks_after);
+  }
+
+  gaps_after : (cid : Cid) → is_among new.gaps.keys cid ≡ is_gap (processed (kept_in new)) cid
+  gaps_after cid =
+      applied.gaps cid
+      ∙ opened_all new.order.keys cid (fold (closed_by cid) (is_among old.gaps.keys cid) changes.marks) changes.links
+      ∙ ap (λ t. t || (is_among changes.links cid && not (is_among new.order.keys cid))) (closed_all cid (is_among old.gaps.keys cid) changes.marks)
+      ∙ ap (λ t. (t && not (is_among changes.marks cid)) || (is_among changes.links cid && not (is_among new.order.keys cid))) (fits.gaps cid ∙ ap (λ t. is_linked (processed (kept_in old)) cid && not t) (is_processed_has (kept_in old).graph (kept_in old).order cid))
+      ∙ ap (λ t. ((is_linked (processed (kept_in old)) cid && not (is_among old.order.keys cid)) && not (is_among changes.marks cid)) || (is_among changes.links cid && not t)) (ap (λ z. is_among z cid) applied.order ∙ list_any-append (same_cid cid) old.order.keys changes.marks)
+      ∙ gap_more (is_linked (processed (kept_in old)) cid) (is_among old.order.keys cid) (is_among changes.marks cid) (is_among changes.links cid)
+      ∙ ap (λ t. t && not (is_among old.order.keys cid || is_among changes.marks cid)) (sym (meet.front.links cid))
+      ∙ ap (λ t. is_linked (processed (kept_in old) ++ newly_processed (kept_in old) changes) cid && not t) (sym (processed_has (kept_in old) changes cid))
+      ∙ ap (λ z. is_gap z cid) (sym blocks_after)
+
+  links_after : (cid : Cid) → is_among new.links.keys cid ≡ is_linked (processed (kept_in new)) cid
+  links_after cid =
+      applied.links cid ∙ opened_all [] cid (is_among old.links.keys cid) changes.links
+      ∙ ap (λ t. t || (is_among changes.links cid && true)) (fits.links cid) ∙ ap (λ t. is_linked (processed (kept_in old)) cid || t) (and_yes (is_among changes.links cid))
+      ∙ sym (meet.front.links cid) ∙ ap (λ z. is_linked z cid) (sym blocks_after)
+    where
+      and_yes : (a : Bool) → (a && true) ≡ a
+      and_yes true = refl
+      and_yes false = refl
+
+  pub fits_after : Fits new
+  fits_after = record {
+    kept = subst IsKept (sym told_after) (commit_sound (kept_in old) changes fits.kept meet.store meet.marks);
+    elements = elements_after;
+    tombs = λ key id.
+        applied.tombs key id ∙ tombs_put key id (tomb_in old key id) changes.tombs ∙ ap (λ t. t || has_tomb_row changes.tombs key id) (fits.tombs key id)
+        ∙ sym (meet.rows.tombs key id) ∙ ap (λ z. has_tomb z key id) (sym blocks_after);
+    values = λ key. applied.values key ∙ ap (λ z. values_after key z changes.values) (fits.values key) ∙ sym (meet.rows.values key) ∙ ap (λ z. value_row z key) (sym blocks_after);
+    covered = applied.covered;
+    links = links_after;
+    gaps = gaps_after;
+    heads = λ cid. applied.heads cid ∙ ap (λ z. head_after cid z changes.heads_out changes.heads_in) (fits.heads cid) ∙ sym (meet.front.heads cid) ∙ ap (λ z. head_at z cid) (sym blocks_after);
+  }

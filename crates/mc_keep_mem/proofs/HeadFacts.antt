@@ -1,0 +1,56 @@
+-- Rows of heads in order.
+use Rattle.std.proofs.Common.{◌≡◌, ℕ, Bool, true, false, ◌||◌, List, [], ◌∷◌, map, sym, refl, ap, ◌∙◌, subst}
+use Rattle.std.specs.List.{list_any, dedup, AllByRecursion}
+use Rattle.std.specs.List.Retain.{IsFiltered, DiffersFromLast}
+use Rattle.std.specs.List.Sorted.{IsSorted, IsPermutation, IsStrictlySortedBy}
+use Rattle.std.specs.Cmp.{IsTotalOrder}
+use Rattle.std.specs.Cmp.Lexicographic.{slice_cmp}
+use Rattle.std.specs.Ordering.{eq_by_cmp, on, nat_cmp, then_cmp, ordering_then}
+use Rattle.std.specs.declared.cmp.Ordering.{Ordering}
+use Rattle.std.specs.declared.cmp.Ordering.TheVariants.{Less, Equal, Greater}
+use Rattle.std.specs.FinMap.{nat_cmp-IsAntisymmetric, slice_cmp-IsAntisymmetric}
+use Rattle.std.proofs.lemmas.List.Filters.{dedup_is}
+use Rattle.mc_base.specs.declared.cid.Cid.{Cid}
+use Rattle.mc_model.specs.SameMembers.{SameMembers}
+use Rattle.mc_model.specs.Ascending.{Ascends}
+use Rattle.mc_model.specs.Front.{Head, head_cmp}
+use Rattle.mc_model.proofs.Members.{list_any-map}
+use Rattle.mc_keep.specs.declared.rows.HeadRow.{HeadRow}
+use Rattle.mc_keep.specs.HeadOrder.{head_row_cmp, head_row_total}
+use Rattle.mc_keep.specs.Changes.{head_in_row, heads_in_rows}
+use Rattle.mc_keep_mem.proofs.SortFacts.{sorted_once}
+
+then_equal : (a b : Ordering) → ordering_then a b ≡ Equal → (a ≡ Equal) × (b ≡ Equal)
+then_equal Less b e = absurd (cc)
+then_equal Equal b e = (refl, e)
+then_equal Greater b e = absurd (cc)
+
+pub head_tied : (x y : Head) → head_cmp x y ≡ Equal → x ≡ y
+head_tied x y e =
+    let parts = then_equal (slice_cmp nat_cmp x.0.0 y.0.0) (nat_cmp x.1 y.1) e in
+    let digest : x.0.0 ≡ y.0.0 = slice_cmp-IsAntisymmetric nat_cmp-IsAntisymmetric x.0.0 y.0.0 parts.0 in
+    let height : x.1 ≡ y.1 = nat_cmp-IsAntisymmetric x.1 y.1 parts.1 in
+    λ i. (record { 0 = digest i }, height i)
+
+row_tied : (x y : HeadRow) → head_row_cmp x y ≡ Equal → x ≡ y
+row_tied x y e =
+    let same = head_tied (head_in_row x) (head_in_row y) e in
+    λ i. record { cid = (same i).0; height = (same i).1 }
+
+below_map : (x : HeadRow) (ys : List HeadRow) → AllByRecursion (λ y. head_row_cmp x y ≡ Less) ys → AllByRecursion (λ y. head_cmp (head_in_row x) y ≡ Less) (heads_in_rows ys)
+below_map x [] b = b
+below_map x (y ∷ ys) b = (b.0, below_map x ys b.1)
+
+sorted_map : (rows : List HeadRow) → IsStrictlySortedBy head_row_cmp rows → IsStrictlySortedBy head_cmp (heads_in_rows rows)
+unfolding IsStrictlySortedBy
+sorted_map [] s = s
+sorted_map (x ∷ rows) s = (below_map x rows s.0, sorted_map rows s.1)
+
+pub heads_once : (rows sorted once : List HeadRow) → IsPermutation rows sorted → IsSorted head_row_cmp sorted → IsFiltered (DiffersFromLast (eq_by_cmp head_row_cmp)) [] sorted once
+    → Ascends head_cmp (heads_in_rows once) (heads_in_rows rows)
+heads_once rows sorted once moved order filtered =
+    let ascends = sorted_once head_row_cmp head_row_total row_tied rows sorted moved order in
+    subst (λ (z : List HeadRow). Ascends head_cmp (heads_in_rows z) (heads_in_rows rows)) (sym (dedup_is (eq_by_cmp head_row_cmp) sorted once filtered)) (record {
+      sorted = sorted_map (dedup (eq_by_cmp head_row_cmp) sorted) ascends.sorted;
+      members = record { same = λ test. list_any-map test head_in_row (dedup (eq_by_cmp head_row_cmp) sorted) ∙ ascends.members.same (λ row. test (head_in_row row)) ∙ sym (list_any-map test head_in_row rows) };
+    })

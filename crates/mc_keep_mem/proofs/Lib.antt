@@ -1,0 +1,16 @@
+pub mod OnOk
+pub mod CidFacts
+pub mod FreshFacts
+pub mod GraphFacts
+pub mod ValueFacts
+pub mod TombFacts
+pub mod ChainFacts
+pub mod SortFacts
+pub mod HeadFacts
+pub mod Reordered
+pub mod Fit
+pub mod FitAfter
+pub mod FrontMembers
+pub mod GapCount
+pub mod IfOk
+pub mod NextFacts

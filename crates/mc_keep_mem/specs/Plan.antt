@@ -1,0 +1,12 @@
+-- Plans by which nothing fails.
+use Rattle.std.specs.Prelude.{Bool, true, false, ◌&&◌, ℕ, List, [], ◌∷◌}
+use Rattle.std.specs.List.{list_all}
+use Rattle.mc_keep_mem.specs.declared.plan.FaultPlan.{FaultPlan}
+
+abbrev pub is_nothing : {A : Type 0} → List A → Bool
+is_nothing [] = true
+is_nothing (x ∷ xs) = false
+
+-- whether no call of a keeper and of its desks is planned to fail
+abbrev pub plans_nothing : FaultPlan → Bool
+plans_nothing plan = is_nothing plan.commits_before && (is_nothing plan.commits_after && (is_nothing plan.reads && list_all is_nothing plan.desks))

@@ -1,0 +1,162 @@
+// The table of element rows, with room for the next commits: the rows of a key are a chain from its last row to its first.
+ghost use Rattle.std.specs.Prelude.{◌≡◌, ℕ, ◌<◌, ◌≤◌, ◌+◌, ◌++◌, ◌∷◌, [], length, map, fold, vec_len, vec_capacity, slice_get, IfOk, OnOk, cond, true, Option, Some, None};
+ghost use Rattle.std.specs.Prelude as prelude;
+ghost use Rattle.std.specs.HashMap.{spare, get_by_text};
+ghost use Rattle.std.specs.Str.{bytes_eq};
+ghost use Rattle.mc_model.specs.Ascending.{Ascends};
+ghost use Rattle.mc_keep.specs.ElementOrder.{element_cmp};
+ghost use Rattle.mc_keep_mem.specs.Chains.{AreChains, rows_in, row_of_node, chain, is_before, with_element};
+
+use mc_base::{Bytes, Cid, List, Text};
+use mc_keep::ElementRow;
+use std::alloc::{AllocError, Global};
+use std::collections::HashMap;
+use std::hash::BuildHasher;
+
+/// An element row without its key, and the place of the row before it of the same key.
+#[derive(Debug, Drop)]
+pub struct Node {
+    pub cid: Cid,
+    pub priority: u64,
+    pub value: Bytes,
+    pub before: Option<usize>,
+}
+
+/// The element rows.
+#[derive(Drop)]
+pub struct Elements<S: BuildHasher + Drop> {
+    pub nodes: Vec<Node>,
+    pub lasts: HashMap<String, usize, S>,
+    ghost chains: { AreChains nodes.items lasts },
+}
+
+/// Puts a row in. It takes no memory.
+pub fn put_element<S: BuildHasher + Drop>(elements: &mut Elements<S>, row: ElementRow)
+    requires nodes_room { vec_len elements.old.nodes < vec_capacity elements.old.nodes }
+    requires lasts_room { 0 < spare elements.old.lasts }
+    ensures rows { (key : prelude.List ℕ) → rows_in elements.new.nodes.items elements.new.lasts key
+        ≡ cond (bytes_eq row.key key) (row ∷ rows_in elements.old.nodes.items elements.old.lasts key) (rows_in elements.old.nodes.items elements.old.lasts key) }
+    ensures nodes_spare { vec_len elements.new.nodes ≡ vec_len elements.old.nodes + 1 }
+    ensures nodes_capacity { vec_capacity elements.old.nodes ≤ vec_capacity elements.new.nodes }
+    ensures lasts_spare { spare elements.old.lasts ≤ spare elements.new.lasts + 1 }
+{
+    let ElementRow {
+        key,
+        cid,
+        priority,
+        value,
+    } = row;
+    let place = count_of(&elements.nodes);
+    let before = set_last(&mut elements.lasts, key, place);
+    elements.nodes.push_reserved(Node {
+        cid,
+        priority,
+        value,
+        before,
+    });
+}
+
+fn count_of(nodes: &Vec<Node>) -> usize
+    ensures { result ≡ length nodes.now.items }
+{
+    nodes.as_slice().len()
+}
+
+// Makes a place the last of a key, and gives the one that was.
+fn set_last<S: BuildHasher>(
+    lasts: &mut HashMap<String, usize, S>,
+    key: Text,
+    place: usize,
+) -> Option<usize>
+    requires room { 0 < spare lasts.old }
+    ensures before { result ≡ get_by_text lasts.old key }
+    ensures lasts { (other : prelude.List ℕ) → get_by_text lasts.new other ≡ cond (bytes_eq key other) (Some place) (get_by_text lasts.old other) }
+    ensures spare { spare lasts.old ≤ spare lasts.new + 1 }
+{
+    match lasts.insert(key.into_string(), place) {
+        Ok(before) => before,
+        Err(_) => unreachable!(),
+    }
+}
+
+/// The rows of a key, ascending.
+pub fn elements_of<S: BuildHasher + Drop>(
+    alloc: Global,
+    elements: &Elements<S>,
+    key: &str,
+) -> Result<List<ElementRow>, AllocError>
+    ensures { IfOk result (λ rows. Ascends element_cmp rows (rows_in elements.now.nodes.items elements.now.lasts key.now)) }
+{
+    let mut rows = walk(alloc, elements, key)?;
+    rows.sort_unstable();
+    rows.dedup();
+    Ok(List::from_vec(rows))
+}
+
+// The rows of a key, from the last to the first.
+fn walk<S: BuildHasher + Drop>(
+    alloc: Global,
+    elements: &Elements<S>,
+    key: &str,
+) -> Result<Vec<ElementRow>, AllocError>
+    ensures { IfOk result (λ rows. rows.items ≡ rows_in elements.now.nodes.items elements.now.lasts key.now) }
+{
+    let mut rows = Vec::new(alloc);
+    let mut at = elements.lasts.get(key).copied();
+    while let Some(place) = at {
+        let Some(node) = elements.nodes.get(place) else {
+            return Ok(rows);
+        };
+        rows.push(row_of(alloc, key, node)?)?;
+        at = node.before;
+    }
+    Ok(rows)
+}
+
+fn row_of(alloc: Global, key: &str, node: &Node) -> Result<ElementRow, AllocError>
+    ensures { IfOk result (λ row. row ≡ row_of_node key.now node.now) }
+{
+    Ok(ElementRow {
+        key: Text::from_text(alloc, key)?,
+        cid: node.cid,
+        priority: node.priority,
+        value: node.value.try_clone(alloc)?,
+    })
+}
+
+/// Makes room for so many rows.
+pub fn reserve_elements<S: BuildHasher + Drop>(
+    elements: &mut Elements<S>,
+    rows: usize,
+) -> Result<(), AllocError>
+    ensures ok { OnOk result ((vec_len elements.new.nodes + rows ≤ vec_capacity elements.new.nodes) × (rows ≤ spare elements.new.lasts)) }
+    ensures rows { (key : prelude.List ℕ) → rows_in elements.new.nodes.items elements.new.lasts key ≡ rows_in elements.old.nodes.items elements.old.lasts key }
+{
+    elements.nodes.reserve(rows)?;
+    reserve_lasts(&mut elements.lasts, rows)
+}
+
+fn reserve_lasts<S: BuildHasher>(
+    lasts: &mut HashMap<String, usize, S>,
+    rows: usize,
+) -> Result<(), AllocError>
+    ensures ok { OnOk result (rows ≤ spare lasts.new) }
+    ensures lasts { (key : prelude.List ℕ) → get_by_text lasts.new key ≡ get_by_text lasts.old key }
+{
+    lasts.reserve(rows)
+}
+
+/// Puts rows in. It takes no memory.
+pub fn put_elements<S: BuildHasher + Drop>(elements: &mut Elements<S>, rows: Vec<ElementRow>)
+    requires nodes_room { vec_len elements.old.nodes + length rows.items ≤ vec_capacity elements.old.nodes }
+    requires lasts_room { length rows.items ≤ spare elements.old.lasts }
+    ensures rows { (key : prelude.List ℕ) → rows_in elements.new.nodes.items elements.new.lasts key
+        ≡ fold (with_element key) (rows_in elements.old.nodes.items elements.old.lasts key) rows.items }
+    ensures nodes_spare { vec_len elements.new.nodes ≤ vec_len elements.old.nodes + length rows.items }
+    ensures nodes_capacity { vec_capacity elements.old.nodes ≤ vec_capacity elements.new.nodes }
+    ensures lasts_spare { spare elements.old.lasts ≤ spare elements.new.lasts + length rows.items }
+{
+    for row in rows {
+        put_element(elements, row);
+    }
+}

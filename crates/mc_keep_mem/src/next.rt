@@ -1,0 +1,147 @@
+// The keys that wait are put into order, and the next key with a value is found there.
+ghost use Rattle.std.specs.Prelude.{◌≡◌, ℕ, ◌<◌, ◌≤◌, ◌+◌, [], true, false, vec_len, vec_capacity, IfOk, OnOk, OnErr, IfErr, cond, None};
+ghost use Rattle.std.specs.Prelude as prelude;
+ghost use Rattle.std.specs.Str.{bytes_eq};
+ghost use Rattle.std.specs.String.{string_bytes};
+ghost use Rattle.std.specs.BTreeSet.{contains_text, btree_set_len};
+ghost use Rattle.mc_keep.specs.Next.{IsNextOf};
+ghost use Rattle.mc_keep_mem.specs.InOrder.{IsFirst};
+ghost use Rattle.mc_keep_mem.specs.Values.{row_in, IsCovered};
+
+use crate::values::{Values, row_of_key};
+use mc_base::Text;
+use mc_keep::ValueRow;
+use std::alloc::{AllocError, Global};
+use std::collections::BTreeSet;
+use std::hash::BuildHasher;
+use std::ops::Bound;
+
+/// Puts the keys that wait into order. After want of memory some have been, and the others still wait.
+pub fn settle<S: BuildHasher + Drop>(values: &mut Values<S>) -> Result<(), AllocError>
+    requires { IsCovered values.old.rows values.old.ordered values.old.pending.items }
+    ensures rows { values.new.rows ≡ values.old.rows }
+    ensures covered { IsCovered values.new.rows values.new.ordered values.new.pending.items }
+    ensures settled { OnOk result (values.new.pending.items ≡ []) }
+    ensures len { vec_len values.new.pending ≤ vec_len values.old.pending }
+    ensures capacity { vec_capacity values.old.pending ≤ vec_capacity values.new.pending }
+{
+    while let Some(key) = values.pending.pop() {
+        if let Err(key) = put_in_order(&mut values.ordered, key) {
+            values.pending.push_reserved(key);
+            return Err(AllocError);
+        }
+    }
+    Ok(())
+}
+
+// Puts a key into order, or hands it back.
+fn put_in_order(ordered: &mut BTreeSet<String>, key: String) -> Result<(), String>
+    ensures ok { OnOk result ((other : prelude.List ℕ) → contains_text ordered.new other ≡ cond (bytes_eq (string_bytes key) other) true (contains_text ordered.old other)) }
+    ensures err { OnErr result ((other : prelude.List ℕ) → contains_text ordered.new other ≡ contains_text ordered.old other) }
+    ensures returned { IfErr result (λ back. back ≡ key) }
+{
+    match ordered.insert(key) {
+        Ok(_) => Ok(()),
+        Err(failed) => Err(failed.value),
+    }
+}
+
+/// The row of the least key past a bound, or at it where `inclusive` says so, that has a value. Keys without a value that
+/// are met on the way are kept in order no longer.
+pub fn next_row<S: BuildHasher + Drop>(
+    alloc: Global,
+    values: &mut Values<S>,
+    bound: &str,
+    inclusive: bool,
+) -> Result<Option<ValueRow>, AllocError>
+    requires { IsCovered values.old.rows values.old.ordered values.old.pending.items }
+    ensures ok { IfOk result (λ row. IsNextOf (row_in values.old.rows) bound.now inclusive row) }
+    ensures rows { values.new.rows ≡ values.old.rows }
+    ensures covered { IsCovered values.new.rows values.new.ordered values.new.pending.items }
+    ensures len { vec_len values.new.pending ≤ vec_len values.old.pending }
+    ensures capacity { vec_capacity values.old.pending ≤ vec_capacity values.new.pending }
+{
+    settle(values)?;
+    let from = String::from_str(alloc, bound)?;
+    next_in_order(alloc, values, &from, inclusive)
+}
+
+// The same where no key waits.
+fn next_in_order<S: BuildHasher + Drop>(
+    alloc: Global,
+    values: &mut Values<S>,
+    from: &String,
+    inclusive: bool,
+) -> Result<Option<ValueRow>, AllocError>
+    requires covered { IsCovered values.old.rows values.old.ordered values.old.pending.items }
+    requires settled { values.old.pending.items ≡ [] }
+    ensures ok { IfOk result (λ row. IsNextOf (row_in values.old.rows) (string_bytes from.now) inclusive row) }
+    ensures rows { values.new.rows ≡ values.old.rows }
+    ensures pending { values.new.pending ≡ values.old.pending }
+    ensures covered { IsCovered values.new.rows values.new.ordered values.new.pending.items }
+{
+    while let Some(key) = first_key(alloc, &values.ordered, from, inclusive)? {
+        if let Some(held) = values.rows.get(key.as_str()) {
+            return Ok(Some(row_of_key(alloc, key, held)?));
+        }
+        drop_key(&mut values.ordered, key.as_str());
+    }
+    Ok(None)
+}
+
+// The least key past a bound.
+fn first_key(
+    alloc: Global,
+    ordered: &BTreeSet<String>,
+    from: &String,
+    inclusive: bool,
+) -> Result<Option<Text>, AllocError>
+    ensures { IfOk result (λ first. IsFirst ordered.now (string_bytes from.now) inclusive first) }
+{
+    if inclusive {
+        first_from(alloc, ordered, from)
+    } else {
+        first_after(alloc, ordered, from)
+    }
+}
+
+fn first_from(
+    alloc: Global,
+    ordered: &BTreeSet<String>,
+    from: &String,
+) -> Result<Option<Text>, AllocError>
+    ensures { IfOk result (λ first. IsFirst ordered.now (string_bytes from.now) true first) }
+{
+    match ordered
+        .range((Bound::Included(from), Bound::Unbounded))
+        .next()
+    {
+        Some(key) => Ok(Some(Text::from_text(alloc, key.as_str())?)),
+        None => Ok(None),
+    }
+}
+
+fn first_after(
+    alloc: Global,
+    ordered: &BTreeSet<String>,
+    from: &String,
+) -> Result<Option<Text>, AllocError>
+    ensures { IfOk result (λ first. IsFirst ordered.now (string_bytes from.now) false first) }
+{
+    match ordered
+        .range((Bound::Excluded(from), Bound::Unbounded))
+        .next()
+    {
+        Some(key) => Ok(Some(Text::from_text(alloc, key.as_str())?)),
+        None => Ok(None),
+    }
+}
+
+// Takes a key out.
+fn drop_key(ordered: &mut BTreeSet<String>, key: &str)
+    requires { contains_text ordered.old key.now ≡ true }
+    ensures keys { (other : prelude.List ℕ) → contains_text ordered.new other ≡ cond (bytes_eq key.now other) false (contains_text ordered.old other) }
+    ensures len { btree_set_len ordered.new < btree_set_len ordered.old }
+{
+    ordered.remove(key);
+}

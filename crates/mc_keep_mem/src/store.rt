@@ -1,0 +1,105 @@
+// The tables with the fact that they are those of the processed blocks, and with the room that they have.
+ghost use Rattle.std.specs.Prelude.{◌≡◌, ◌≤◌, ◌-◌, IfOk, OnOk, is_some, slice_get};
+ghost use Rattle.std.specs.List.{position};
+ghost use Rattle.mc_model.specs.Ascending.{Ascends};
+ghost use Rattle.mc_model.specs.Front.{same_cid, is_linked, heads};
+ghost use Rattle.mc_model.specs.Live.{has_tomb, value_row};
+ghost use Rattle.mc_model.specs.Kept.{processed, bytes_at, is_stored, nothing_kept};
+ghost use Rattle.mc_keep.specs.Changes.{row_count, changed, heads_in_rows};
+ghost use Rattle.mc_keep.specs.ElementOrder.{element_cmp};
+ghost use Rattle.mc_keep.specs.Tables.{ChangesFit, IsSummary, IsSmall, IsValueRow, element_rows_of};
+ghost use Rattle.mc_keep_mem.specs.Fits.{Fits, RoomFor, kept_in};
+
+use crate::cids::{cid_at, has_cid, position_of};
+use crate::elements::elements_of;
+use crate::graph::{block_bytes, has_block};
+use crate::heads::head_rows;
+use crate::tables::{Tables, commit_tables};
+use crate::tombs::has_tomb as has_tomb_row;
+use mc_base::{Bytes, Cid, List};
+use mc_keep::{Changes, ElementRow, HeadRow, Summary};
+use std::alloc::{AllocError, Global};
+use std::hash::BuildHasher;
+
+// The tables of a keeper.
+#[derive(Drop)]
+pub struct Store<S: BuildHasher + Drop> {
+    pub tables: Tables<S>,
+    pub room: u64,
+    ghost fits: { Fits tables },
+    ghost roomy: { RoomFor tables room },
+}
+
+impl<S: BuildHasher + Drop> Store<S> {
+    pub fn commit(&mut self, changes: Changes)
+        requires rows { row_count changes ≤ self.old.room }
+        requires fit { ChangesFit (kept_in self.old.tables) changes }
+        ensures kept { kept_in self.new.tables ≡ changed (kept_in self.old.tables) changes }
+        ensures room { self.new.room ≡ self.old.room - row_count changes }
+    {
+        self.room = commit_tables(&mut self.tables, changes, self.room);
+    }
+
+    pub fn block(&self, alloc: Global, cid: &Cid) -> Result<Option<Bytes>, AllocError>
+        ensures { IfOk result (λ bytes. bytes ≡ bytes_at (kept_in self.now.tables).graph cid.now) }
+    {
+        block_bytes(alloc, &self.tables.blocks, cid)
+    }
+
+    pub fn stored(&self, cid: &Cid) -> bool
+        ensures { result ≡ is_stored (kept_in self.now.tables).graph cid.now }
+    {
+        has_block(&self.tables.blocks, cid)
+    }
+
+    pub fn position(&self, cid: &Cid) -> Option<u64>
+        ensures { result ≡ position (same_cid cid.now) (kept_in self.now.tables).order }
+    {
+        match position_of(&self.tables.order, cid) {
+            Some(place) => Some(place as u64),
+            None => None,
+        }
+    }
+
+    pub fn at(&self, position: u64) -> Option<Cid>
+        ensures { result ≡ slice_get (kept_in self.now.tables).order position }
+    {
+        cid_at(&self.tables.order, position as usize)
+    }
+
+    pub fn linked(&self, cid: &Cid) -> bool
+        ensures { result ≡ is_linked (processed (kept_in self.now.tables)) cid.now }
+    {
+        has_cid(&self.tables.links, cid)
+    }
+
+    pub fn heads(&self, alloc: Global) -> Result<List<HeadRow>, AllocError>
+        ensures { IfOk result (λ rows. heads_in_rows rows ≡ heads (processed (kept_in self.now.tables))) }
+    {
+        head_rows(alloc, &self.tables.heads)
+    }
+
+    pub fn elements(&self, alloc: Global, key: &str) -> Result<List<ElementRow>, AllocError>
+        ensures { IfOk result (λ rows. Ascends element_cmp rows (element_rows_of (processed (kept_in self.now.tables)) key.now)) }
+    {
+        elements_of(alloc, &self.tables.elements, key)
+    }
+
+    pub fn hidden(&self, key: &str, id: &str) -> bool
+        ensures { result ≡ has_tomb (processed (kept_in self.now.tables)) key.now id.now }
+    {
+        has_tomb_row(&self.tables.tombs, key, id)
+    }
+
+    pub fn summary(&self) -> Summary
+        ensures summary { IsSummary (kept_in self.now.tables) result }
+        ensures small { IsSmall result }
+    {
+        Summary {
+            processed: self.tables.order.as_slice().len() as u64,
+            stored: self.tables.blocks.keys().as_slice().len() as u64,
+            gaps: self.tables.gaps.as_slice().len() as u64,
+            mark: self.tables.mark,
+        }
+    }
+}

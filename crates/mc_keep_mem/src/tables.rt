@@ -1,0 +1,84 @@
+// All tables of a keeper, and a commit on them that takes no memory.
+ghost use Rattle.std.specs.Prelude.{◌≡◌, ◌≤◌, ◌+◌, ◌-◌, IfSome, OnOk};
+ghost use Rattle.mc_keep.specs.Changes.{row_count};
+ghost use Rattle.mc_keep_mem.specs.Fits.{RoomFor, Applied, ChangesMeet};
+
+use crate::elements::{Elements, put_elements};
+use crate::front::{put_links, put_marks};
+use crate::graph::put_blocks;
+use crate::heads::{drop_heads, put_heads};
+use crate::tombs::{Tombs, put_tombs};
+use crate::values::{Values, put_values};
+use indexmap::{IndexMap, IndexSet};
+use mc_base::{Bytes, Cid};
+use mc_keep::Changes;
+use std::hash::BuildHasher;
+
+/// The tables: the stored blocks, the order of the processed ones, their links, gaps and heads, and the rows that they
+/// make.
+#[derive(Drop)]
+pub struct Tables<S: BuildHasher + Drop> {
+    pub blocks: IndexMap<Cid, Bytes>,
+    pub order: IndexSet<Cid>,
+    pub mark: bool,
+    pub links: IndexSet<Cid>,
+    pub gaps: IndexSet<Cid>,
+    pub heads: IndexMap<Cid, u64>,
+    pub elements: Elements<S>,
+    pub tombs: Tombs<S>,
+    pub values: Values<S>,
+}
+
+/// Makes the changes, for which there is room, and gives the room that is left. It takes no memory.
+pub fn commit_tables<S: BuildHasher + Drop>(
+    tables: &mut Tables<S>,
+    changes: Changes,
+    room: u64,
+) -> u64
+    requires rows { row_count changes ≤ room }
+    requires room { RoomFor tables.old room }
+    requires meet { ChangesMeet tables.old changes }
+    ensures applied { Applied tables.old tables.new changes }
+    ensures left { result ≡ room - row_count changes }
+    ensures room { RoomFor tables.new result }
+{
+    let rows = changes.rows();
+    apply(tables, changes, room);
+    room - rows
+}
+
+fn apply<S: BuildHasher + Drop>(tables: &mut Tables<S>, changes: Changes, room: u64)
+    requires rows { row_count changes ≤ room }
+    requires room { RoomFor tables.old room }
+    requires meet { ChangesMeet tables.old changes }
+    ensures applied { Applied tables.old tables.new changes }
+    ensures left { RoomFor tables.new (room - row_count changes) }
+{
+    let Changes {
+        store,
+        marks,
+        links,
+        elements,
+        tombs,
+        values,
+        heads_in,
+        heads_out,
+        mark,
+    } = changes;
+    put_blocks(&mut tables.blocks, store.into_vec());
+    put_marks(&mut tables.order, &mut tables.gaps, marks.as_slice());
+    put_links(
+        &mut tables.links,
+        &mut tables.gaps,
+        &tables.order,
+        links.as_slice(),
+    );
+    drop_heads(&mut tables.heads, heads_out.as_slice());
+    put_heads(&mut tables.heads, heads_in.as_slice());
+    put_elements(&mut tables.elements, elements.into_vec());
+    put_tombs(&mut tables.tombs, tombs.into_vec());
+    put_values(&mut tables.values, values.into_vec());
+    if let Some(mark) = mark {
+        tables.mark = mark;
+    }
+}

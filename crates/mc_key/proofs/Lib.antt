@@ -1,0 +1,3 @@
+pub mod PrefixFacts
+pub mod RuleFacts
+pub mod SegmentFacts

@@ -1,0 +1,57 @@
+// What a keeper tells, as the durable state of a replica.
+ghost use Rattle.std.specs.Prelude.{◌≡◌, ◌↔◌, ◌==◌, Bool, true, not, List, ◌++◌, map, length, is_some};
+ghost use Rattle.std.specs.List.{list_all};
+ghost use Rattle.mc_base.specs.declared.cid.Cid.{Cid};
+ghost use Rattle.mc_model.specs.declared.block.Stored.{Stored};
+ghost use Rattle.mc_model.specs.Ascending.{once};
+ghost use Rattle.mc_model.specs.Events.{processed_mark, ended_mark, with_blocks, with_processed, with_walk_ended};
+ghost use Rattle.mc_model.specs.Found.{Good, PeerOffers, offers_from, found_in};
+ghost use Rattle.mc_model.specs.Front.{Head, same_cid, is_processed, is_linked, is_gap, links, gaps, heads, head_at};
+ghost use Rattle.mc_model.specs.Graph.{has, in_graph, links_in, all_links, no_gaps, gaps_in, heads_in, HasNoCycle, IsReached};
+ghost use Rattle.mc_model.specs.Kept.{Kept, IsKept, bytes_at, is_stored, block_in, blocks_in, processed};
+ghost use Rattle.mc_model.specs.State.{DurableHolds, durable_of, vertices};
+
+/// What a keeper tells has, as a replica's durable state, the same links, gaps and heads; and it is sound as the one
+/// where it is sound as the other.
+pub fn kept_is_durable()
+    ensures stored { (kept : Kept) (cid : Cid) → in_graph (durable_of kept).graph cid ≡ is_stored kept.graph cid }
+    ensures processed { (kept : Kept) (cid : Cid) → has cid kept.order ≡ is_processed (processed kept) cid }
+    ensures links { (kept : Kept) → IsKept kept → links (processed kept) ≡ all_links (durable_of kept).graph kept.order }
+    ensures block_links { (kept : Kept) (cid : Cid) → is_stored kept.graph cid ≡ true → links_in (durable_of kept).graph cid ≡ (block_in kept.graph cid).links }
+    ensures some_links { (kept : Kept) (cids : List Cid) → list_all (is_stored kept.graph) cids ≡ true →
+        all_links (durable_of kept).graph cids ≡ links (blocks_in kept.graph cids) }
+    ensures linked { (kept : Kept) → IsKept kept → (cid : Cid) → is_linked (processed kept) cid ≡ has cid (all_links (durable_of kept).graph kept.order) }
+    ensures gap { (kept : Kept) → IsKept kept → (cid : Cid) → is_gap (processed kept) cid ≡ has cid (gaps_in (durable_of kept).graph kept.order) }
+    ensures gaps { (kept : Kept) → IsKept kept → gaps (processed kept) ≡ once same_cid (gaps_in (durable_of kept).graph kept.order) }
+    ensures no_gaps { (kept : Kept) → IsKept kept → no_gaps (durable_of kept).graph kept.order ≡ (length (gaps (processed kept)) == 0) }
+    ensures head { (kept : Kept) → IsKept kept → (cid : Cid) → is_some (head_at (processed kept) cid) ≡ has cid (heads_in (durable_of kept).graph kept.order) }
+    ensures heads { (kept : Kept) → IsKept kept → (cid : Cid) →
+        has cid (map (λ (head : Head). head.0) (heads (processed kept))) ≡ has cid (heads_in (durable_of kept).graph kept.order) }
+    ensures holds { (kept : Kept) → IsKept kept → DurableHolds (durable_of kept) }
+    ensures kept { (kept : Kept) → DurableHolds (durable_of kept) → IsKept kept }
+{}
+
+/// What is stored, processed, or marked at a walk's end in what a keeper tells is so in the replica's durable state.
+pub fn kept_changes_are_events()
+    ensures store { (kept : Kept) (blocks : List Stored) →
+        durable_of (record { graph = kept.graph ++ blocks; order = kept.order; mark = kept.mark }) ≡ with_blocks (durable_of kept) (vertices blocks) }
+    ensures process { (kept : Kept) (whole mark : Bool) (cids : List Cid) → mark ≡ processed_mark whole (durable_of kept) (kept.order ++ cids) →
+        durable_of (record { graph = kept.graph; order = kept.order ++ cids; mark = mark }) ≡ with_processed whole (durable_of kept) cids }
+    ensures mark { (kept : Kept) (cids : List Cid) → IsKept (record { graph = kept.graph; order = kept.order ++ cids; mark = kept.mark }) →
+        processed_mark true (durable_of kept) (kept.order ++ cids) ≡ not (length (gaps (blocks_in kept.graph (kept.order ++ cids))) == 0) }
+    ensures walk_end { (kept : Kept) (mark : Bool) → mark ≡ ended_mark (durable_of kept) →
+        durable_of (record { graph = kept.graph; order = kept.order; mark = mark }) ≡ with_walk_ended (durable_of kept) }
+{}
+
+/// Where a keeper's processed blocks have no gap and no block leads back to itself, they are just what the heads reach.
+pub fn kept_without_gaps_is_reach()
+    ensures { (kept : Kept) → IsKept kept → length (gaps (processed kept)) ≡ 0 → HasNoCycle (durable_of kept).graph →
+        (cid : Cid) → has cid kept.order ≡ true ↔ IsReached (durable_of kept).graph (map (λ (head : Head). head.0) (heads (processed kept))) cid }
+{}
+
+/// A stored block is what its own replica's offers come to, whatever the others offer, with the links that it has in the
+/// graph.
+pub fn own_block_decides()
+    ensures { (kept : Kept) → IsKept kept → (cid : Cid) (peers : List PeerOffers) → is_stored kept.graph cid ≡ true →
+        found_in (offers_from (bytes_at kept.graph cid) peers) cid ≡ Good (links_in (durable_of kept).graph cid) }
+{}

@@ -1,0 +1,36 @@
+// What holds of every value, by the definitions.
+ghost use Rattle.std.specs.Prelude.{◌≡◌, ℕ, List, length, is_some};
+ghost use Rattle.mc_base.specs.declared.cid.Cid.{Cid};
+ghost use Rattle.mc_model.specs.declared.block.Block.{Block};
+ghost use Rattle.mc_model.specs.declared.delta.Delta.{Delta};
+ghost use Rattle.mc_model.specs.Front.{is_processed, is_linked, is_gap, gaps, heads, head_at};
+ghost use Rattle.mc_model.specs.Live.{has_tomb, value_row};
+ghost use Rattle.mc_model.specs.Rank.{Ranked, greatest, IsGreatestOf};
+ghost use Rattle.mc_model.specs.SameMembers.{SameMembers};
+ghost use Rattle.mc_model.specs.Value.{value};
+
+/// The greatest of values with priorities is one of them, and none of them is above it; there is none only where there
+/// are no values; and it depends on the members alone, not on their order or number.
+pub fn greatest_is_greatest()
+    ensures greatest { (ranked : List Ranked) → IsGreatestOf ranked (greatest ranked) }
+    ensures same { (xs ys : List Ranked) → SameMembers xs ys → greatest xs ≡ greatest ys }
+{}
+
+/// The same deltas in any order give a key the same value.
+pub fn same_deltas_same_value()
+    ensures { (xs ys : List Delta) (key : List ℕ) → SameMembers xs ys → value xs key ≡ value ys key }
+{}
+
+/// The same blocks, in any order, number or groups, give the same answers: the same value to every key, the same heads,
+/// and the same gaps.
+pub fn same_blocks_same_answers()
+    ensures value { (xs ys : List Block) → SameMembers xs ys → (key : List ℕ) → value_row xs key ≡ value_row ys key }
+    ensures hidden { (xs ys : List Block) → SameMembers xs ys → (key id : List ℕ) → has_tomb xs key id ≡ has_tomb ys key id }
+    ensures processed { (xs ys : List Block) → SameMembers xs ys → (cid : Cid) → is_processed xs cid ≡ is_processed ys cid }
+    ensures linked { (xs ys : List Block) → SameMembers xs ys → (cid : Cid) → is_linked xs cid ≡ is_linked ys cid }
+    ensures gap { (xs ys : List Block) → SameMembers xs ys → (cid : Cid) → is_gap xs cid ≡ is_gap ys cid }
+    ensures gaps { (xs ys : List Block) → SameMembers xs ys → SameMembers (gaps xs) (gaps ys) }
+    ensures gap_count { (xs ys : List Block) → SameMembers xs ys → length (gaps xs) ≡ length (gaps ys) }
+    ensures heads { (xs ys : List Block) → SameMembers xs ys → heads xs ≡ heads ys }
+    ensures head { (xs ys : List Block) → SameMembers xs ys → (cid : Cid) → is_some (head_at xs cid) ≡ is_some (head_at ys cid) }
+{}

@@ -1,0 +1,13 @@
+//! A turn lock whose seats know the history: what a seat has seen begins the list of each later value.
+#![tactic(auto)]
+
+mod rule;
+mod story;
+#[cfg(test)]
+mod tests;
+mod turn;
+mod view;
+
+pub use story::Story;
+pub use turn::{Busy, Held, Refused, Seat, Turn};
+pub use view::View;
