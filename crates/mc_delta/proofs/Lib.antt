@@ -1,0 +1,12 @@
+pub mod DeltaFacts
+pub mod DeltaLaw
+pub mod EntryFacts
+pub mod EntryLaw
+pub mod FrontFields
+pub mod LengthFacts
+pub mod Passing
+pub mod TakeFacts
+pub mod Utf8
+pub mod WrittenDelta
+pub mod WrittenEntry
+pub mod WrittenRead

@@ -1,0 +1,5 @@
+pub mod Deltas
+pub mod Entries
+pub mod Lengths
+pub mod Seen
+pub mod Written

@@ -1,0 +1,18 @@
+//! Deltas as Protocol Buffers messages: read, written, and their length told.
+#![tactic(auto)]
+
+mod entry;
+mod fault;
+mod laws;
+mod length;
+mod read;
+mod write;
+
+pub use fault::{DeltaError, DeltaFault, DeltaFaultKind};
+pub use laws::{faults_are_told, written_deltas_are_read};
+pub use length::len_delta;
+pub use read::read_delta;
+pub use write::write_delta;
+
+#[cfg(test)]
+mod tests;
