@@ -15,3 +15,5 @@ pub mod GapCount
 pub mod IfOk
 pub mod NextFacts
 pub mod Reserves
+pub mod Empty
+pub mod DeskCounts

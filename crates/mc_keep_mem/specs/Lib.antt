@@ -7,3 +7,4 @@ pub mod Plan
 pub mod Tombs
 pub mod Values
 pub mod Faults
+pub mod Desks

@@ -15,3 +15,6 @@ plans_nothing plan = is_nothing plan.commits_before && (is_nothing plan.commits_
 -- the plan before the first call
 abbrev pub planned : FaultPlan → Schedule
 planned plan = record { reads = plan.reads; before = plan.commits_before; after = plan.commits_after; reads_made = 0; commits_made = 0 }
+
+abbrev pub nothing_planned : FaultPlan
+nothing_planned = record { commits_before = []; commits_after = []; reads = []; desks = [] }

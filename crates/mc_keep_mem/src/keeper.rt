@@ -17,12 +17,43 @@ use std::sync::Wait;
 /// the hasher `S`: the keys and ids of foreign blocks are chosen by strangers, and a seeded hasher wards off floods of
 /// colliding ones, which the default does not.
 #[derive(Drop)]
-pub struct MemKeeper<S: BuildHasher + Drop + Send + Sync = BuildHasherDefault<FoldHasher>> {
+pub struct MemKeeper<S: BuildHasher + Drop = BuildHasherDefault<FoldHasher>> {
     store: Store<S>,
     faults: Faults,
 }
 
-impl<S: BuildHasher + Drop + Send + Sync> Counted for MemKeeper<S> {
+impl MemKeeper {
+    /// An empty keeper with the mark clear, and the default hasher.
+    pub fn new(alloc: Global, plan: FaultPlan) -> Result<MemKeeper, AllocError>
+        ensures told { IfOk result (λ keeper. kept_in keeper.store.tables ≡ nothing_kept) }
+        ensures count { IfOk result (λ keeper. keeper.faults.faults ≡ 0) }
+        ensures quiet { plans_nothing plan ≡ true → IfOk result (λ keeper. fails_never keeper.faults ≡ true) }
+        ensures schedule { IfOk result (λ keeper. schedule_of keeper.faults ≡ planned plan) }
+    {
+        Ok(MemKeeper::with_hasher(
+            alloc,
+            plan,
+            BuildHasherDefault::new(),
+        ))
+    }
+}
+
+impl<S: BuildHasher + Copy + Drop> MemKeeper<S> {
+    /// An empty keeper with the mark clear, and this hasher for its tables of texts. Takes no memory.
+    pub fn with_hasher(alloc: Global, plan: FaultPlan, hasher: S) -> MemKeeper<S>
+        ensures told { kept_in result.store.tables ≡ nothing_kept }
+        ensures count { result.faults.faults ≡ 0 }
+        ensures quiet { plans_nothing plan ≡ true → fails_never result.faults ≡ true }
+        ensures schedule { schedule_of result.faults ≡ planned plan }
+    {
+        MemKeeper {
+            store: Store::new(alloc, hasher),
+            faults: Faults::new(plan),
+        }
+    }
+}
+
+impl<S: BuildHasher + Drop> Counted for MemKeeper<S> {
     ghost faults = { λ keeper. keeper.faults.faults };
 
     fn faults(&self) -> u64 {

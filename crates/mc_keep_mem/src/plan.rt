@@ -5,7 +5,7 @@ ghost use Rattle.std.specs.List.{list_all};
 ghost use Rattle.mc_base.specs.Causes.{HasCause, Rose};
 ghost use Rattle.mc_keep.specs.Causes.{StaysQuiet};
 ghost use Rattle.mc_keep.specs.Plan.{is_planned, next_number, ReadsAsPlanned, CommitsAsPlanned};
-ghost use Rattle.mc_keep_mem.specs.Plan.{plans_nothing, is_nothing, planned};
+ghost use Rattle.mc_keep_mem.specs.Plan.{plans_nothing, is_nothing, nothing_planned, planned};
 ghost use Rattle.mc_keep_mem.specs.Faults.{fails_never, schedule_of};
 
 use mc_base::{Counted, Failed, List};
@@ -28,7 +28,8 @@ pub struct FaultPlan {
 impl FaultPlan {
     /// A plan by which nothing fails. Takes no memory.
     pub fn nothing(alloc: Global) -> FaultPlan
-        ensures { plans_nothing result ≡ true }
+        ensures quiet { plans_nothing result ≡ true }
+        ensures nothing { result ≡ nothing_planned }
     {
         FaultPlan {
             commits_before: List::new(alloc),
@@ -93,6 +94,24 @@ impl Counted for MemDesk {
     fn faults(&self) -> u64 {
         self.faults
     }
+}
+
+impl FaultPlan {
+    // Whether no call is planned to fail.
+    pub(crate) fn is_nothing(&self) -> bool
+        ensures { result ≡ plans_nothing self.now }
+    {
+        self.commits_before.as_slice().is_empty()
+            && self.commits_after.as_slice().is_empty()
+            && self.reads.as_slice().is_empty()
+            && are_nothing(self.desks.as_slice())
+    }
+}
+
+fn are_nothing(desks: &[List<u64>]) -> bool
+    ensures { result ≡ list_all is_nothing desks.now }
+{
+    desks.iter().all(|desk| desk.as_slice().is_empty())
 }
 
 // Which calls of a keeper fail, and how many of each kind there have been.

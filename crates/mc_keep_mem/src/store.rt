@@ -12,16 +12,18 @@ ghost use Rattle.mc_keep.specs.Tables.{ChangesFit, IsSummary, IsSmall, IsValueRo
 ghost use Rattle.mc_keep_mem.specs.Fits.{Fits, RoomFor, kept_in};
 
 use crate::cids::{cid_at, has_cid, position_of};
-use crate::elements::elements_of;
+use crate::elements::{Elements, elements_of};
 use crate::graph::{block_bytes, has_block};
 use crate::heads::head_rows;
 use crate::next::next_row;
 use crate::tables::{Tables, commit_tables, reserve_tables};
-use crate::tombs::has_tomb as has_tomb_row;
-use crate::values::{has_value, value_of};
+use crate::tombs::{Tombs, has_tomb as has_tomb_row};
+use crate::values::{Values, has_value, value_of};
+use indexmap::{IndexMap, IndexSet};
 use mc_base::{Bytes, Cid, List};
 use mc_keep::{Changes, ElementRow, HeadRow, Summary, ValueRow};
 use std::alloc::{AllocError, Global};
+use std::collections::{BTreeSet, HashMap, HashSet};
 use std::hash::BuildHasher;
 
 // The tables of a keeper.
@@ -31,6 +33,40 @@ pub struct Store<S: BuildHasher + Drop> {
     pub room: u64,
     ghost fits: { Fits tables },
     ghost roomy: { RoomFor tables room },
+}
+
+impl<S: BuildHasher + Copy + Drop> Store<S> {
+    // Empty tables, with the mark clear.
+    pub fn new(alloc: Global, hasher: S) -> Store<S>
+        ensures kept { kept_in result.tables ≡ nothing_kept }
+        ensures room { result.room ≡ 0 }
+    {
+        Store {
+            tables: Tables {
+                blocks: IndexMap::new(alloc),
+                order: IndexSet::new(alloc),
+                mark: false,
+                links: IndexSet::new(alloc),
+                gaps: IndexSet::new(alloc),
+                heads: IndexMap::new(alloc),
+                elements: Elements {
+                    nodes: Vec::new(alloc),
+                    lasts: HashMap::with_hasher(alloc, hasher),
+                },
+                tombs: Tombs {
+                    keys: IndexSet::with_hasher(alloc, hasher),
+                    ids: IndexSet::with_hasher(alloc, hasher),
+                    pairs: HashSet::new(alloc),
+                },
+                values: Values {
+                    rows: HashMap::with_hasher(alloc, hasher),
+                    ordered: BTreeSet::new(alloc),
+                    pending: Vec::new(alloc),
+                },
+            },
+            room: 0,
+        }
+    }
 }
 
 impl<S: BuildHasher + Drop> Store<S> {
