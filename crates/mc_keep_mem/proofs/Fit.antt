@@ -1,37 +1,21 @@
 -- The tables stay those of the processed blocks.
-use Rattle.std.proofs.Common.{◌≡◌, ℕ, Bool, true, false, not, cond, List, [], ◌∷◌, ◌++◌, map, Option, Some, None, ◌||◌, ◌&&◌, sym, refl, ap, ◌∙◌, subst, append_assoc}
-use Rattle.std.specs.Prelude.{filter, fold, is_some, unwrap_or, find}
-use Rattle.std.specs.List.{list_any, list_all, flat_map}
+use Rattle.std.proofs.Common.{◌≡◌, ℕ, Bool, true, false, not, cond, List, [], ◌∷◌, ◌++◌, map, Some, ◌||◌, ◌&&◌, sym, refl, ap, ◌∙◌}
+use Rattle.std.specs.Prelude.{fold, is_some, find}
+use Rattle.std.specs.List.{list_any, list_all}
 use Rattle.std.specs.Option.{option_map}
 use Rattle.std.specs.Str.{bytes_eq}
-use Rattle.std.specs.HashMap.{get}
-use Rattle.std.specs.declared.hash.BuildHasher as build
-use Rattle.std.specs.declared.hash.Hasher as hash
-use Rattle.std.proofs.lemmas.List.Folds.{list_any-append}
-use Rattle.std.proofs.lemmas.List.Concat.{flat_map-append}
 use Rattle.mc_base.specs.declared.cid.Cid.{Cid}
-use Rattle.mc_model.specs.declared.block.Block.{Block}
 use Rattle.mc_model.specs.declared.block.Stored.{Stored}
-use Rattle.mc_model.specs.SameMembers.{SameMembers}
-use Rattle.mc_model.specs.Front.{same_cid, is_among, is_linked, is_processed, is_gap, head_at}
-use Rattle.mc_model.specs.Live.{has_tomb, value_row}
+use Rattle.mc_model.specs.Front.{same_cid, is_among}
 use Rattle.mc_model.specs.Kept.{Kept, IsKept, processed, blocks_in, block_in, block_under, bytes_at, is_stored}
-use Rattle.mc_model.proofs.Blocks.{is_processed_has}
 use Rattle.mc_model.proofs.Counts.{cid_is}
-use Rattle.mc_model.proofs.Members.{list_any-filter}
 use Rattle.mc_keep.specs.declared.rows.ElementRow.{ElementRow}
 use Rattle.mc_keep.specs.declared.rows.TombRow.{TombRow}
 use Rattle.mc_keep.specs.declared.changes.Changes.{Changes}
-use Rattle.mc_keep.specs.Changes.{changed, newly_processed, has_tomb_row, is_tomb_row, values_after, head_after}
-use Rattle.mc_keep.specs.Tables.{element_row, element_rows, element_rows_of, RowsFit, FrontFits, StoreFits, MarksFit, ChangesFit}
-use Rattle.mc_keep.proofs.Commits.{commit_sound}
-use Rattle.mc_keep_mem.specs.declared.tables.Tables.{Tables}
-use Rattle.mc_keep_mem.specs.Chains.{with_element, rows_in}
+use Rattle.mc_keep.specs.Changes.{changed, newly_processed, has_tomb_row, is_tomb_row}
+use Rattle.mc_keep_mem.specs.Chains.{with_element}
 use Rattle.mc_keep_mem.specs.Front.{closed_by, opened_by}
-use Rattle.mc_keep_mem.specs.Graph.{graph_of}
 use Rattle.mc_keep_mem.specs.Tombs.{with_tomb}
-use Rattle.mc_keep_mem.specs.Values.{row_in}
-use Rattle.mc_keep_mem.specs.Fits.{kept_in, tomb_in, Fits, Applied}
 
 -- blocks that are stored are the same when more are stored
 

@@ -1,7 +1,7 @@
 -- What a commit leaves fits.
-use Rattle.std.proofs.Common.{◌≡◌, ℕ, Bool, true, false, not, List, [], ◌∷◌, ◌++◌, map, ◌||◌, ◌&&◌, sym, refl, ap, ◌∙◌, subst}
-use Rattle.std.specs.Prelude.{filter, fold, unwrap_or}
-use Rattle.std.specs.List.{list_any, flat_map}
+use Rattle.std.proofs.Common.{◌≡◌, ℕ, Bool, true, false, not, List, [], ◌++◌, map, ◌||◌, ◌&&◌, sym, refl, ap, ◌∙◌, subst}
+use Rattle.std.specs.Prelude.{fold}
+use Rattle.std.specs.List.{list_any}
 use Rattle.std.specs.Str.{bytes_eq}
 use Rattle.std.specs.declared.hash.BuildHasher as build
 use Rattle.std.specs.declared.hash.Hasher as hash
@@ -9,11 +9,10 @@ use Rattle.std.proofs.lemmas.List.Folds.{list_any-append}
 use Rattle.std.proofs.lemmas.List.Concat.{flat_map-append}
 use Rattle.mc_base.specs.declared.cid.Cid.{Cid}
 use Rattle.mc_model.specs.declared.block.Block.{Block}
-use Rattle.mc_model.specs.declared.block.Stored.{Stored}
 use Rattle.mc_model.specs.SameMembers.{SameMembers}
 use Rattle.mc_model.specs.Front.{same_cid, is_among, is_linked, is_processed, is_gap, head_at}
 use Rattle.mc_model.specs.Live.{has_tomb, value_row}
-use Rattle.mc_model.specs.Kept.{Kept, IsKept, processed, blocks_in}
+use Rattle.mc_model.specs.Kept.{Kept, IsKept, processed}
 use Rattle.mc_model.proofs.Blocks.{is_processed_has}
 use Rattle.mc_model.proofs.Members.{list_any-filter}
 use Rattle.mc_keep.specs.declared.rows.ElementRow.{ElementRow}
@@ -23,7 +22,7 @@ use Rattle.mc_keep.specs.Tables.{element_row, element_rows, element_rows_of, Cha
 use Rattle.mc_keep.proofs.Commits.{commit_sound}
 use Rattle.mc_keep_mem.specs.declared.tables.Tables.{Tables}
 use Rattle.mc_keep_mem.specs.Chains.{rows_in}
-use Rattle.mc_keep_mem.specs.Front.{closed_by, opened_by}
+use Rattle.mc_keep_mem.specs.Front.{closed_by}
 use Rattle.mc_keep_mem.specs.Fits.{kept_in, tomb_in, Fits, Applied}
 use Rattle.mc_keep_mem.proofs.Fit.{processed_after, elements_put, tombs_put, closed_all, opened_all}
 

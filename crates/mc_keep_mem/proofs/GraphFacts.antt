@@ -7,7 +7,6 @@ use Rattle.std.specs.HashMap.{HashMap, get}
 use Rattle.std.specs.Prelude.{fold}
 use Rattle.std.specs.List.{list_any}
 use Rattle.std.proofs.lemmas.List.{append-nil}
-use Rattle.indexmap.specs.IndexMap.{insert_entry}
 use Rattle.indexmap.proofs.MapLemmas.{absent_from_lookup, insert_entry-absent}
 use Rattle.mc_model.specs.Ascending.{is_once}
 use Rattle.mc_keep_mem.proofs.CidFacts.{same_cid-symm}

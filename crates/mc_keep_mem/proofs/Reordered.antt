@@ -1,5 +1,5 @@
 -- A map with the same look-ups at each text has them at all bytes.
-use Rattle.std.proofs.Common.{◌≡◌, ℕ, Bool, true, false, cond, List, [], ◌∷◌, Option, Some, None, ◌⊎◌, inl, inr, sym, refl, ap, ◌∙◌, subst}
+use Rattle.std.proofs.Common.{◌≡◌, ℕ, true, false, cond, List, [], ◌∷◌, Some, None, ◌⊎◌, inl, inr, sym, refl, ◌∙◌, subst}
 use Rattle.std.specs.HashMap.{HashMap, get, get_by_text}
 use Rattle.std.specs.Map.{lookup}
 use Rattle.std.specs.declared.string.String.{String}

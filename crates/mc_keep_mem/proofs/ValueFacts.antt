@@ -1,7 +1,6 @@
 -- What a change of one key does to the table of value rows, and to its keys in order.
 use Rattle.std.proofs.Common.{◌≡◌, ℕ, Bool, true, false, cond, not, ◌||◌, List, [], ◌∷◌, ◌++◌, Option, Some, None, sym, refl, ap, ◌∙◌, subst}
 use Rattle.std.specs.Prelude.{is_some}
-use Rattle.std.specs.List.{list_any}
 use Rattle.std.specs.Str.{bytes_eq}
 use Rattle.std.specs.HashMap.{HashMap, get_by_text}
 use Rattle.std.specs.BTreeSet.{BTreeSet, contains_text}
@@ -11,9 +10,6 @@ use Rattle.std.proofs.lemmas.List.Folds.{list_any-append}
 use Rattle.std.proofs.lemmas.Cmp.{nat_list_eq_equiv}
 use lib.Pointwise.{bytes_decides}
 use Rattle.mc_model.specs.Rank.{Ranked}
-use Rattle.mc_keep.specs.Changes.{ranked_row, value_after}
-use Rattle.mc_keep.specs.declared.rows.ValueRow.{ValueRow}
-use Rattle.mc_keep.specs.declared.changes.ValueChange.{ValueChange}
 use Rattle.mc_keep_mem.specs.declared.values.Held.{Held}
 use Rattle.mc_keep_mem.specs.Values.{ranked_held, row_in, has_text, IsCovered}
 

@@ -1,5 +1,5 @@
 -- The tables are those of the processed blocks; room in them; and what a commit makes of them.
-use Rattle.std.specs.Prelude.{◌≡◌, ◌≤◌, ◌+◌, ℕ, Bool, true, false, List, [], ◌++◌, fold, unwrap_or, vec_len, vec_capacity, length, ◌&&◌, not}
+use Rattle.std.specs.Prelude.{◌≡◌, ◌≤◌, ◌+◌, ℕ, Bool, true, false, List, [], ◌++◌, fold, unwrap_or, vec_len, vec_capacity}
 use Rattle.std.specs.List.{list_any, list_all}
 use Rattle.std.specs.HashMap.{spare as map_spare, get}
 use Rattle.std.specs.HashSet.{spare as set_spare}

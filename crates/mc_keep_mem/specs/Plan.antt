@@ -1,5 +1,5 @@
 -- Plans by which nothing fails.
-use Rattle.std.specs.Prelude.{Bool, true, false, ◌&&◌, ℕ, List, [], ◌∷◌}
+use Rattle.std.specs.Prelude.{Bool, true, false, ◌&&◌, List, [], ◌∷◌}
 use Rattle.std.specs.List.{list_all}
 use Rattle.mc_keep.specs.Plan.{Schedule}
 use Rattle.mc_keep_mem.specs.declared.plan.FaultPlan.{FaultPlan}

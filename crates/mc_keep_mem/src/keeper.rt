@@ -30,11 +30,7 @@ impl MemKeeper {
         ensures quiet { plans_nothing plan ≡ true → IfOk result (λ keeper. fails_never keeper.faults ≡ true) }
         ensures schedule { IfOk result (λ keeper. schedule_of keeper.faults ≡ planned plan) }
     {
-        Ok(MemKeeper::with_hasher(
-            alloc,
-            plan,
-            BuildHasherDefault::new(),
-        ))
+        Ok(MemKeeper::with_hasher(alloc, plan, BuildHasherDefault::new()))
     }
 }
 

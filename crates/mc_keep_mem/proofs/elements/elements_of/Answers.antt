@@ -1,11 +1,10 @@
-use Rattle.std.proofs.Common.{◌≡◌, ◌∙◌, ap, sym, subst, List}
+use Rattle.std.proofs.Common.{◌≡◌, ◌∙◌, sym, subst, List}
 use Rattle.std.specs.Ordering.{eq_by_cmp}
 use Rattle.std.proofs.lemmas.List.Filters.{dedup_is}
 use Rattle.mc_model.specs.Ascending.{Ascends}
 use Rattle.mc_keep.specs.declared.rows.ElementRow.{ElementRow}
 use Rattle.mc_keep.specs.ElementOrder.{element_cmp, element_total}
 use Rattle.mc_keep.proofs.ElementTies.{element_tied}
-use Rattle.mc_keep_mem.specs.Chains.{rows_in}
 use Rattle.mc_keep_mem.proofs.SortFacts.{sorted_once}
 use Rattle.mc_keep_mem.proofs.elements.elements_of.Goals as goal
 

@@ -1,4 +1,4 @@
-use Rattle.std.proofs.Common.{Some, ◌∙◌, ap, cond, Result, Ok, Err, IsOk, OnOk}
+use Rattle.std.proofs.Common.{Some, ◌∙◌, ap, cond}
 use Rattle.std.specs.String.{string_bytes}
 use Rattle.std.specs.Str.{bytes_eq}
 use Rattle.std.specs.HashMap.{get_by_text}

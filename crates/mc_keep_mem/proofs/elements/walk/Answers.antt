@@ -1,10 +1,10 @@
-use Rattle.std.proofs.Common.{◌≡◌, ◌<◌, ◌∙◌, ap, sym, ◌++◌, ◌∷◌, [], map, length, append_assoc, subst, true, List, Option, Some, ℕ, refl}
+use Rattle.std.proofs.Common.{◌≡◌, ◌<◌, ◌∙◌, ap, sym, ◌++◌, ◌∷◌, [], map, length, append_assoc, subst, true, List, Option, Some, ℕ}
 use Rattle.std.specs.Prelude.{slice_get}
 use Rattle.mc_keep_mem.specs.declared.elements.Node.{Node}
 use Rattle.std.proofs.lemmas.List.{append-nil}
 use Rattle.std.specs.HashMap.{get_by_text}
 use Rattle.mc_keep.specs.declared.rows.ElementRow.{ElementRow}
-use Rattle.mc_keep_mem.specs.Chains.{chain, row_of_node, rows_in, is_before}
+use Rattle.mc_keep_mem.specs.Chains.{chain, row_of_node, is_before}
 use Rattle.mc_keep_mem.proofs.ChainFacts.{steps_left, chain_step, chain_done, got_at, is_none}
 use Rattle.mc_keep_mem.proofs.elements.walk.Goals as goal
 

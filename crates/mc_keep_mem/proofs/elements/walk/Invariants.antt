@@ -1,5 +1,4 @@
-use Rattle.std.proofs.Common.{◌≡◌, ◌+◌, ◌++◌, map, length, true}
-use Rattle.std.specs.HashMap.{get_by_text}
+use Rattle.std.proofs.Common.{◌≡◌, ◌++◌, map, length, true}
 use Rattle.mc_keep_mem.specs.Chains.{chain, row_of_node, rows_in, is_before}
 use Rattle.mc_keep_mem.proofs.ChainFacts.{steps_left}
 use Rattle.mc_keep_mem.proofs.elements.walk.Given as goal

@@ -1,6 +1,4 @@
-use Rattle.std.proofs.Common.{◌≡◌, ◌∙◌, ap, sym, subst, List}
-use Rattle.std.specs.Ordering.{eq_by_cmp}
-use Rattle.std.proofs.lemmas.List.Filters.{dedup_is}
+use Rattle.std.proofs.Common.{sym, subst, List}
 use Rattle.mc_model.specs.Ascending.{Ascends}
 use Rattle.mc_model.specs.Front.{Head, head_cmp}
 use Rattle.mc_keep.specs.declared.rows.HeadRow.{HeadRow}

@@ -1,5 +1,4 @@
-use Rattle.std.proofs.Common.{◌≡◌, rules, subst, ap, ◌∙◌, sym, ◌≤◌, arith}
-use Rattle.mc_keep_mem.specs.Values.{IsCovered}
+use Rattle.std.proofs.Common.{rules}
 use Rattle.mc_keep_mem.proofs.ValueFacts.{covered_moved}
 use Rattle.mc_keep_mem.proofs.next.settle.Goals as goal
 

@@ -1,4 +1,4 @@
-use Rattle.std.proofs.Common.{◌≡◌, ◌≤◌, ℕ}
+use Rattle.std.proofs.Common.{◌≡◌, ◌≤◌}
 use Rattle.std.specs.Prelude.{vec_len, vec_capacity}
 use Rattle.mc_keep_mem.specs.Values.{IsCovered}
 use Rattle.mc_keep_mem.proofs.next.settle.Given as goal

@@ -1,4 +1,3 @@
-use Rattle.std.proofs.Common.{◌≡◌, Result, Ok, Err, IsOk, OnOk}
 use Rattle.mc_keep_mem.proofs.OnOk.{on_ok}
 use Rattle.mc_keep_mem.proofs.TombFacts.{tomb_put_at}
 use Rattle.mc_keep_mem.proofs.tombs.put_tomb.Goals as goal

@@ -1,4 +1,4 @@
-use Rattle.std.proofs.Common.{rules, ◌≡◌, ◌∙◌, ◌+◌, ◌-◌, ◌^◌, ap, ℕ, List}
+use Rattle.std.proofs.Common.{◌∙◌, ◌+◌, ◌-◌, ◌^◌, ap, ℕ, List}
 use Rattle.std.specs.Prelude.{fold, min}
 use Rattle.mc_keep_mem.specs.declared.plan.MemDesk.{MemDesk}
 use Rattle.mc_keep_mem.specs.Desks.{counted_with}

@@ -1,4 +1,4 @@
-use Rattle.std.proofs.Common.{rules, ◌≡◌, List}
+use Rattle.std.proofs.Common.{◌≡◌, List}
 use Rattle.std.specs.List.{IsDistinct}
 use Rattle.indexmap.specs.IndexMap.{keys}
 use Rattle.mc_model.specs.Ascending.{Ascends}

@@ -1,4 +1,3 @@
-use Rattle.std.proofs.Common.{rules}
 use Rattle.mc_keep_mem.proofs.Empty.{fits_empty}
 use Rattle.mc_keep_mem.proofs.store.Store.new.Goals as goal
 

@@ -1,5 +1,3 @@
-use Rattle.std.proofs.Common.{rules}
-use Rattle.mc_keep_mem.proofs.OnOk.{on_ok}
 use Rattle.mc_keep_mem.proofs.Reserves.{fits_reserved, room_reserved}
 use Rattle.mc_keep_mem.proofs.store.Store.reserve.Goals as goal
 
@@ -7,12 +5,12 @@ pub invariant_of-self : goal.invariant_of-self
 invariant_of-self g c =
     record {
       fits = fits_reserved c.args.self.now.tables c.reserve_tables.new.tables c.reserve_tables.ensures.reserved c.args.self.now.fits;
-      roomy = room_reserved c.args.self.now.tables c.reserve_tables.new.tables c.reserve_tables.ensures.reserved c.args.self.now.room c.args.self.now.roomy
+      roomy = room_reserved c.args.self.now.tables c.reserve_tables.new.tables c.reserve_tables.ensures.reserved c.args.self.now.room c.args.self.now.roomy;
     }
 
 pub invariant_of-self-2 : goal.invariant_of-self-2
 invariant_of-self-2 g c =
     record {
       fits = fits_reserved c.args.self.now.tables c.reserve_tables.new.tables c.reserve_tables.ensures.reserved c.args.self.now.fits;
-      roomy = c.in_ok-reserve_tables.ensures.ok
+      roomy = c.in_ok-reserve_tables.ensures.ok;
     }
