@@ -1,0 +1,1 @@
+int assume_that_changes_fit(void) { return 0; }
