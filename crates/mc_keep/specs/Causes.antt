@@ -36,7 +36,7 @@ fires None = None
 fires (Some fuse) = if nat_lt 1 fuse.commit then None else Some fuse.after
 
 -- what a failed commit leaves: by itself it may have happened wholly or not at all; by the fuse it has not, or it has
-abbrev pub CommitFails : Option Bool → Type 0 → Kept → Kept → Kept → Type 0
+abbrev pub CommitFails : {X : Type 0} → Option Bool → Type 0 → X → X → X → Type 0
 CommitFails None rose old whole new = rose × ((new ≡ old) ⊎ (new ≡ whole))
 CommitFails (Some false) rose old whole new = new ≡ old
 CommitFails (Some true) rose old whole new = (new ≡ whole) ⊎ (rose × (new ≡ old))

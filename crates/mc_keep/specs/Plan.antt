@@ -1,17 +1,35 @@
--- Planned faults: which calls of a keeper fail, where that is known.
-use Rattle.std.specs.Prelude.{◌≡◌, ⊤, ℕ, ◌+◌, ◌-◌, ◌^◌, min, nat_eq, Bool, true, false, ◌||◌, List, Option, Some, None, Result, Ok, Err}
+-- Planned faults: which calls of a keeper, of its desks and of who makes keepers fail, where that is known.
+use Rattle.std.specs.Prelude.{◌≡◌, ⊤, ℕ, ◌+◌, ◌-◌, ◌^◌, min, nat_eq, Bool, true, false, ◌||◌, List, [], ◌∷◌, drop, slice_get, Option, Some, None, unwrap_or, Result, Ok, Err, IfOk, if◌then◌else◌}
+use Rattle.std.specs.Result.{is_ok}
 use Rattle.std.specs.List.{list_any}
 use Rattle.mc_model.specs.Kept.{Kept}
 use Rattle.mc_keep.specs.declared.error.KeepError.{KeepError}
 use Rattle.mc_keep.specs.declared.error.KeepError.TheVariants.{Failed, Memory}
 
--- the numbers of the calls that fail, counted from 1, and how many calls there were; a commit fails before its effect or after it
+-- the numbers of the calls that fail, counted from 1, and how many calls there were; a commit fails before its effect or
+-- after it; the plans of the desks that are still to be made, in order
 pub record Schedule : Type 0 where
   pub reads : List ℕ
   pub before : List ℕ
   pub after : List ℕ
   pub reads_made : ℕ
   pub commits_made : ℕ
+  pub desks : List (List ℕ)
+
+-- the numbers of a desk's reads that fail, counted from 1, and how many there were
+pub record DeskSchedule : Type 0 where
+  pub reads : List ℕ
+  pub reads_made : ℕ
+
+-- the numbers of the makes that fail, counted from 1, how many there were, and what is planned for each keeper, by its index
+pub record MakeSchedule : Type 0 where
+  pub makes : List ℕ
+  pub makes_made : ℕ
+  pub keepers : List Schedule
+
+-- nothing fails
+abbrev pub no_schedule : Schedule
+no_schedule = record { reads = []; before = []; after = []; reads_made = 0; commits_made = 0; desks = [] }
 
 -- the number of the call after so many; numbers stop at their type's end
 abbrev pub next_number : ℕ → ℕ
@@ -32,10 +50,47 @@ ReadsAsPlanned None new failed = ⊤
 ReadsAsPlanned (Some old) new failed =
     (new ≡ Some (record old { reads_made = next_number old.reads_made })) × (failed ≡ is_planned old.reads (next_number old.reads_made))
 
--- the same of a commit: one that fails before its effect leaves what was told, and one that fails after it the changes
-abbrev pub CommitsAsPlanned : Option Schedule → Option Schedule → Bool → Option Kept → Option Kept → Type 0
-CommitsAsPlanned None new failed told told_after = ⊤
-CommitsAsPlanned (Some old) new failed told told_after =
+-- the plan of the next desk: nothing where none is left
+abbrev pub first_plan : List (List ℕ) → List ℕ
+first_plan [] = []
+first_plan (plan ∷ plans) = plan
+
+-- what is planned once a desk was asked for: it counts as one read, and a desk that is made takes the first plan
+abbrev pub with_desk : Bool → Schedule → Schedule
+with_desk made old = record old { reads_made = next_number old.reads_made; desks = if made then drop 1 old.desks else old.desks }
+
+-- the same of a call that makes a desk, which has the first of the plans left
+abbrev pub DeskAsPlanned : {D : Type 0} → (D → Option DeskSchedule) → Option Schedule → Option Schedule → Result D KeepError → Type 0
+DeskAsPlanned desk_schedule None new result = ⊤
+DeskAsPlanned desk_schedule (Some old) new result =
+    (new ≡ Some (with_desk (is_ok result) old))
+    × (is_fault result ≡ is_planned old.reads (next_number old.reads_made))
+    × IfOk result (λ desk. desk_schedule desk ≡ Some (record { reads = first_plan old.desks; reads_made = 0 }))
+
+-- the same of a read through a desk
+abbrev pub DeskReadsAsPlanned : Option DeskSchedule → Option DeskSchedule → Bool → Type 0
+DeskReadsAsPlanned None new failed = ⊤
+DeskReadsAsPlanned (Some old) new failed =
+    (new ≡ Some (record old { reads_made = next_number old.reads_made })) × (failed ≡ is_planned old.reads (next_number old.reads_made))
+
+-- the same of a commit: one that fails before its effect leaves what was told, and one that fails after it what the
+-- changes make of that
+abbrev pub CommitsAsPlanned : Option Schedule → Option Schedule → Bool → Option Kept → Option Kept → Option Kept → Type 0
+CommitsAsPlanned None new failed told told_after whole = ⊤
+CommitsAsPlanned (Some old) new failed told told_after whole =
     (new ≡ Some (record old { commits_made = next_number old.commits_made }))
     × (failed ≡ (is_planned old.before (next_number old.commits_made) || is_planned old.after (next_number old.commits_made)))
     × (is_planned old.before (next_number old.commits_made) ≡ true → told_after ≡ told)
+    × (is_planned old.before (next_number old.commits_made) ≡ false → is_planned old.after (next_number old.commits_made) ≡ true → told_after ≡ whole)
+
+-- what is planned for the keeper with this index: nothing where there is no plan
+abbrev pub keeper_plan : List Schedule → ℕ → Schedule
+keeper_plan plans index = unwrap_or (slice_get plans index) no_schedule
+
+-- the same of a call that makes the keeper with this index
+abbrev pub MakesAsPlanned : {K : Type 0} → (K → Option Schedule) → Option MakeSchedule → Option MakeSchedule → ℕ → Result K KeepError → Type 0
+MakesAsPlanned schedule None new index result = ⊤
+MakesAsPlanned schedule (Some old) new index result =
+    (new ≡ Some (record old { makes_made = next_number old.makes_made }))
+    × (is_fault result ≡ is_planned old.makes (next_number old.makes_made))
+    × IfOk result (λ keeper. schedule keeper ≡ Some (keeper_plan old.keepers index))

@@ -1,6 +1,7 @@
 // Where the blocks of a replica and their rows are kept.
 ghost use Rattle.std.specs.Prelude.{◌≡◌, ◌≤◌, ◌+◌, ℕ, Bool, Option, None, true, IfSome, IfOk, OnOk, OnErr, is_some, slice_get};
 ghost use Rattle.std.specs.Result.{is_err};
+ghost use Rattle.std.specs.Option.{option_map};
 ghost use Rattle.std.specs.List.{position};
 ghost use Rattle.mc_base.specs.Causes.{Rose, HasCause};
 ghost use Rattle.mc_base.specs.Told.{Told};
@@ -12,7 +13,7 @@ ghost use Rattle.mc_keep.specs.Causes.{IfTold, KeepCause, StaysQuiet, burnt, fir
 ghost use Rattle.mc_keep.specs.Changes.{row_count, changed, heads_in_rows};
 ghost use Rattle.mc_keep.specs.Next.{IsNext};
 ghost use Rattle.mc_keep.specs.ElementOrder.{element_cmp};
-ghost use Rattle.mc_keep.specs.Plan.{Schedule, ReadsAsPlanned, CommitsAsPlanned, is_fault};
+ghost use Rattle.mc_keep.specs.Plan.{Schedule, DeskSchedule, ReadsAsPlanned, DeskAsPlanned, DeskReadsAsPlanned, CommitsAsPlanned, is_fault};
 ghost use Rattle.mc_keep.specs.Tables.{ChangesFit, IsSummary, IsSmall, IsValueRow, element_rows_of};
 
 use crate::{Changes, ElementRow, HeadRow, KeepError, Summary, ValueRow};
@@ -52,6 +53,9 @@ pub trait Keeper: Counted + Send + Sync {
     /// Which calls are planned to fail, where that is known.
     ghost schedule: { Self → Option Schedule };
 
+    /// Which reads through a desk are planned to fail, where that is known.
+    ghost desk_schedule: { Self.Desk → Option DeskSchedule };
+
     /// How often the keeper has failed without its fuse, at most `u64::MAX`.
     fn own_faults(&self) -> u64
         ensures { result ≡ own self.now };
@@ -65,7 +69,7 @@ pub trait Keeper: Counted + Send + Sync {
         ensures spare { spare self.old ≤ spare self.new }
         ensures own { KeepCause (own self.old) (own self.new) result }
         ensures quiet { StaysQuiet (quiet self.old) (quiet self.new) (own self.old) (own self.new) }
-        ensures planned { ReadsAsPlanned (schedule self.old) (schedule self.new) (is_fault result) }
+        ensures planned { DeskAsPlanned desk_schedule (schedule self.old) (schedule self.new) result }
         ensures cause { KeepCause (Self.faults self.old) (Self.faults self.new) result };
 
     /// The bytes of a stored block, or none where it is not stored, read by another thread beside the owner's calls.
@@ -78,6 +82,7 @@ pub trait Keeper: Counted + Send + Sync {
         wait: &W,
     ) -> Result<Option<Bytes>, KeepError>
         ensures row { IfTold (told self.now) result (λ kept bytes. bytes ≡ bytes_at kept.graph cid.now) }
+        ensures planned { DeskReadsAsPlanned (desk_schedule desk.old) (desk_schedule desk.new) (is_fault result) }
         ensures quiet { quiet self.now ≡ true → StaysQuiet (quiet_desk desk.old) (quiet_desk desk.new) (Self.Desk.faults desk.old) (Self.Desk.faults desk.new) }
         ensures cause { KeepCause (Self.Desk.faults desk.old) (Self.Desk.faults desk.new) result };
 
@@ -244,7 +249,7 @@ pub trait Keeper: Counted + Send + Sync {
         ensures spare { spare self.old ≤ spare self.new + row_count changes }
         ensures own { own self.old ≤ own self.new }
         ensures quiet { StaysQuiet (quiet self.old) (quiet self.new) (own self.old) (own self.new) }
-        ensures planned { CommitsAsPlanned (schedule self.old) (schedule self.new) (is_err result) (told self.old) (told self.new) }
+        ensures planned { CommitsAsPlanned (schedule self.old) (schedule self.new) (is_err result) (told self.old) (told self.new) (option_map (λ kept. changed kept changes) (told self.old)) }
         ensures cause { HasCause (Self.faults self.old) (Self.faults self.new) result };
 
     /// What is told is sound: no block is stored or processed twice, each stored block is good, and each processed block

@@ -3,6 +3,7 @@ ghost use Rattle.std.specs.Prelude.{◌≡◌, ◌+◌, ◌-◌, ◌^◌, ℕ, B
 ghost use Rattle.std.specs.List.{sum_by};
 ghost use Rattle.mc_model.specs.Kept.{Kept};
 ghost use Rattle.mc_keep.specs.Causes.{KeepCause};
+ghost use Rattle.mc_keep.specs.Plan.{MakeSchedule, MakesAsPlanned};
 
 use crate::{KeepError, Keeper};
 use mc_base::{Counted, List, Text};
@@ -33,6 +34,9 @@ pub trait Keepers: Counted {
     /// Whether no count of a keeper or desk that it makes from this plan ever rises by itself.
     ghost quiet: { Self → KeeperPlan → Bool };
 
+    /// Which calls of `make` are planned to fail, and what is planned for the keepers, where that is known.
+    ghost schedule: { Self → Option MakeSchedule };
+
     /// The sum of the counts of all keepers and desks that were taken back, at most `u64::MAX`.
     ghost lost: { Self → ℕ };
 
@@ -43,12 +47,14 @@ pub trait Keepers: Counted {
         ensures quiet { quiet self.old plan.now ≡ true → IfOk result (λ keeper. Self.K.quiet keeper ≡ true) }
         ensures same { (plan : KeeperPlan) → quiet self.new plan ≡ quiet self.old plan }
         ensures lost { lost self.new ≡ lost self.old }
+        ensures planned { MakesAsPlanned Self.K.schedule (schedule self.old) (schedule self.new) index result }
         ensures cause { KeepCause (Self.faults self.old) (Self.faults self.new) result };
 
     /// Takes a keeper and its desks back. It takes no memory, and does not fail.
     fn end(&mut self, keeper: Self::K, desks: List<<Self::K as Keeper>::Desk>)
         ensures lost { lost self.new ≡ min (lost self.old + Self.K.faults keeper + sum_by Self.K.Desk.faults desks) (2 ^ 64 - 1) }
         ensures same { (plan : KeeperPlan) → quiet self.new plan ≡ quiet self.old plan }
+        ensures planned { schedule self.new ≡ schedule self.old }
         ensures count { Self.faults self.new ≡ Self.faults self.old };
 
     /// The sum of the counts of all keepers and desks that were taken back, at most `u64::MAX`.

@@ -11,7 +11,7 @@ use mc_base::{Cid, List};
 use std::alloc::AllocError;
 
 // Adds an identifier at the end, unless it is there.
-pub fn push_cid(cids: &mut IndexSet<Cid>, cid: Cid)
+pub(crate) fn push_cid(cids: &mut IndexSet<Cid>, cid: Cid)
     requires room { 0 < spare cids.old }
     ensures keys { cids.new.keys ≡ insert_key same_cid cids.old.keys cid }
     ensures spare { spare cids.old ≤ spare cids.new + 1 }
@@ -19,25 +19,25 @@ pub fn push_cid(cids: &mut IndexSet<Cid>, cid: Cid)
     let _added = cids.insert(cid);
 }
 
-pub fn has_cid(cids: &IndexSet<Cid>, cid: &Cid) -> bool
+pub(crate) fn has_cid(cids: &IndexSet<Cid>, cid: &Cid) -> bool
     ensures { result ≡ is_among cids.now.keys cid.now }
 {
     cids.contains(cid)
 }
 
-pub fn position_of(cids: &IndexSet<Cid>, cid: &Cid) -> Option<usize>
+pub(crate) fn position_of(cids: &IndexSet<Cid>, cid: &Cid) -> Option<usize>
     ensures { result ≡ position (same_cid cid.now) cids.now.keys }
 {
     cids.get_index_of(cid)
 }
 
-pub fn cid_at(cids: &IndexSet<Cid>, index: usize) -> Option<Cid>
+pub(crate) fn cid_at(cids: &IndexSet<Cid>, index: usize) -> Option<Cid>
     ensures { result ≡ slice_get cids.now.keys index }
 {
     cids.get_index(index).copied()
 }
 
-pub fn reserve_cids(cids: &mut IndexSet<Cid>, rows: usize) -> Result<(), AllocError>
+pub(crate) fn reserve_cids(cids: &mut IndexSet<Cid>, rows: usize) -> Result<(), AllocError>
     ensures ok { OnOk result (rows ≤ spare cids.new) }
     ensures keys { cids.new.keys ≡ cids.old.keys }
     ensures spare { spare cids.old ≤ spare cids.new }
@@ -46,7 +46,7 @@ pub fn reserve_cids(cids: &mut IndexSet<Cid>, rows: usize) -> Result<(), AllocEr
 }
 
 // Adds an identifier, also where it is there.
-pub fn put_cid(cids: &mut IndexSet<Cid>, cid: Cid)
+pub(crate) fn put_cid(cids: &mut IndexSet<Cid>, cid: Cid)
     requires room { 0 < spare cids.old }
     ensures among { (other : Cid) → is_among cids.new.keys other ≡ (same_cid other cid || is_among cids.old.keys other) }
     ensures spare { spare cids.old ≤ spare cids.new + 1 }
@@ -54,7 +54,7 @@ pub fn put_cid(cids: &mut IndexSet<Cid>, cid: Cid)
     let _added = cids.insert(cid);
 }
 
-pub fn drop_cid(cids: &mut IndexSet<Cid>, cid: &Cid)
+pub(crate) fn drop_cid(cids: &mut IndexSet<Cid>, cid: &Cid)
     ensures among { (other : Cid) → is_among cids.new.keys other ≡ (not (same_cid other cid.now) && is_among cids.old.keys other) }
     ensures spare { spare cids.old ≤ spare cids.new }
 {

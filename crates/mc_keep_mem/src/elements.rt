@@ -15,23 +15,23 @@ use std::hash::BuildHasher;
 
 /// An element row without its key, and the place of the row before it of the same key.
 #[derive(Debug, Drop)]
-pub struct Node {
-    pub cid: Cid,
-    pub priority: u64,
-    pub value: Bytes,
-    pub before: Option<usize>,
+pub(crate) struct Node {
+    pub(crate) cid: Cid,
+    pub(crate) priority: u64,
+    pub(crate) value: Bytes,
+    pub(crate) before: Option<usize>,
 }
 
 /// The element rows.
 #[derive(Drop)]
-pub struct Elements<S: BuildHasher + Drop> {
-    pub nodes: Vec<Node>,
-    pub lasts: HashMap<String, usize, S>,
+pub(crate) struct Elements<S: BuildHasher + Drop> {
+    pub(crate) nodes: Vec<Node>,
+    pub(crate) lasts: HashMap<String, usize, S>,
     ghost chains: { AreChains nodes.items lasts },
 }
 
 /// Puts a row in. It takes no memory.
-pub fn put_element<S: BuildHasher + Drop>(elements: &mut Elements<S>, row: ElementRow)
+pub(crate) fn put_element<S: BuildHasher + Drop>(elements: &mut Elements<S>, row: ElementRow)
     requires nodes_room { vec_len elements.old.nodes < vec_capacity elements.old.nodes }
     requires lasts_room { 0 < spare elements.old.lasts }
     ensures rows { (key : prelude.List ℕ) → rows_in elements.new.nodes.items elements.new.lasts key
@@ -80,7 +80,7 @@ fn set_last<S: BuildHasher>(
 }
 
 /// The rows of a key, ascending.
-pub fn elements_of<S: BuildHasher + Drop>(
+pub(crate) fn elements_of<S: BuildHasher + Drop>(
     alloc: Global,
     elements: &Elements<S>,
     key: &str,
@@ -125,7 +125,7 @@ fn row_of(alloc: Global, key: &str, node: &Node) -> Result<ElementRow, AllocErro
 }
 
 /// Makes room for so many rows.
-pub fn reserve_elements<S: BuildHasher + Drop>(
+pub(crate) fn reserve_elements<S: BuildHasher + Drop>(
     elements: &mut Elements<S>,
     rows: usize,
 ) -> Result<(), AllocError>
@@ -151,7 +151,7 @@ fn reserve_lasts<S: BuildHasher>(
 }
 
 /// Puts rows in. It takes no memory.
-pub fn put_elements<S: BuildHasher + Drop>(elements: &mut Elements<S>, rows: Vec<ElementRow>)
+pub(crate) fn put_elements<S: BuildHasher + Drop>(elements: &mut Elements<S>, rows: Vec<ElementRow>)
     requires nodes_room { vec_len elements.old.nodes + length rows.items ≤ vec_capacity elements.old.nodes }
     requires lasts_room { length rows.items ≤ spare elements.old.lasts }
     ensures rows { (key : prelude.List ℕ) → rows_in elements.new.nodes.items elements.new.lasts key

@@ -10,7 +10,7 @@ use indexmap::IndexSet;
 use mc_base::Cid;
 
 // Adds the processed blocks to the order, and takes them out of the gaps.
-pub fn put_marks(order: &mut IndexSet<Cid>, gaps: &mut IndexSet<Cid>, marks: &[Cid])
+pub(crate) fn put_marks(order: &mut IndexSet<Cid>, gaps: &mut IndexSet<Cid>, marks: &[Cid])
     requires room { length marks.now ≤ spare order.old }
     requires fresh { are_fresh order.old.keys marks.now ≡ true }
     ensures order { order.new.keys ≡ order.old.keys ++ marks.now }
@@ -42,7 +42,7 @@ fn drop_cids(gaps: &mut IndexSet<Cid>, cids: &[Cid])
 }
 
 // Adds new links, and those of them that are not processed to the gaps.
-pub fn put_links(
+pub(crate) fn put_links(
     links: &mut IndexSet<Cid>,
     gaps: &mut IndexSet<Cid>,
     order: &IndexSet<Cid>,

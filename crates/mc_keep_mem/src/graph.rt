@@ -14,7 +14,7 @@ use mc_keep::Stored;
 use std::alloc::{AllocError, Global};
 
 /// Adds blocks that are not stored. It takes no memory.
-pub fn put_blocks(blocks: &mut IndexMap<Cid, Bytes>, store: Vec<Stored>)
+pub(crate) fn put_blocks(blocks: &mut IndexMap<Cid, Bytes>, store: Vec<Stored>)
     requires room { length store.items ≤ spare blocks.old }
     requires new { list_any (λ stored. is_stored (graph_of blocks.old) stored.cid) store.items ≡ false }
     requires once { is_once same_cid (cids_of store.items) ≡ true }
@@ -44,13 +44,13 @@ fn push_block(blocks: &mut IndexMap<Cid, Bytes>, stored: Stored)
     let _old = blocks.insert(cid, bytes);
 }
 
-pub fn has_block(blocks: &IndexMap<Cid, Bytes>, cid: &Cid) -> bool
+pub(crate) fn has_block(blocks: &IndexMap<Cid, Bytes>, cid: &Cid) -> bool
     ensures { result ≡ is_stored (graph_of blocks.now) cid.now }
 {
     blocks.contains_key(cid)
 }
 
-pub fn block_bytes(
+pub(crate) fn block_bytes(
     alloc: Global,
     blocks: &IndexMap<Cid, Bytes>,
     cid: &Cid,
@@ -63,7 +63,10 @@ pub fn block_bytes(
     }
 }
 
-pub fn reserve_blocks(blocks: &mut IndexMap<Cid, Bytes>, rows: usize) -> Result<(), AllocError>
+pub(crate) fn reserve_blocks(
+    blocks: &mut IndexMap<Cid, Bytes>,
+    rows: usize,
+) -> Result<(), AllocError>
     ensures ok { OnOk result (rows ≤ spare blocks.new) }
     ensures graph { graph_of blocks.new ≡ graph_of blocks.old }
     ensures spare { spare blocks.old ≤ spare blocks.new }

@@ -13,7 +13,7 @@ use mc_keep::HeadRow;
 use std::alloc::{AllocError, Global};
 
 // Takes heads out.
-pub fn drop_heads(heads: &mut IndexMap<Cid, u64>, out: &[Cid])
+pub(crate) fn drop_heads(heads: &mut IndexMap<Cid, u64>, out: &[Cid])
     ensures heads { (cid : Cid) → get same_cid heads.new cid ≡ fold (head_without cid) (get same_cid heads.old cid) out.now }
     ensures spare { spare heads.old ≤ spare heads.new }
 {
@@ -30,7 +30,7 @@ fn drop_head(heads: &mut IndexMap<Cid, u64>, out: &Cid)
 }
 
 // Puts heads in.
-pub fn put_heads(heads: &mut IndexMap<Cid, u64>, rows: &[HeadRow])
+pub(crate) fn put_heads(heads: &mut IndexMap<Cid, u64>, rows: &[HeadRow])
     requires room { length rows.now ≤ spare heads.old }
     ensures heads { (cid : Cid) → get same_cid heads.new cid ≡ fold (head_with cid) (get same_cid heads.old cid) rows.now }
     ensures spare { spare heads.old ≤ spare heads.new + length rows.now }
@@ -48,7 +48,7 @@ fn put_head(heads: &mut IndexMap<Cid, u64>, row: HeadRow)
     let _height = heads.insert(row.cid, row.height);
 }
 
-pub fn reserve_heads(heads: &mut IndexMap<Cid, u64>, rows: usize) -> Result<(), AllocError>
+pub(crate) fn reserve_heads(heads: &mut IndexMap<Cid, u64>, rows: usize) -> Result<(), AllocError>
     ensures ok { OnOk result (rows ≤ spare heads.new) }
     ensures entries { heads.new.entries ≡ heads.old.entries }
     ensures spare { spare heads.old ≤ spare heads.new }
@@ -57,7 +57,10 @@ pub fn reserve_heads(heads: &mut IndexMap<Cid, u64>, rows: usize) -> Result<(), 
 }
 
 /// The heads, ascending.
-pub fn head_rows(alloc: Global, heads: &IndexMap<Cid, u64>) -> Result<List<HeadRow>, AllocError>
+pub(crate) fn head_rows(
+    alloc: Global,
+    heads: &IndexMap<Cid, u64>,
+) -> Result<List<HeadRow>, AllocError>
     ensures rows { IfOk result (λ rows. Ascends head_cmp (heads_in_rows rows) heads.now.entries) }
     ensures distinct { OnOk result (IsDistinct same_cid (keys heads.now)) }
 {

@@ -2,7 +2,7 @@
 ghost use Rattle.std.specs.Prelude.{◌≡◌, true, false, [], Some, None, IfOk};
 ghost use Rattle.mc_model.specs.Kept.{nothing_kept};
 ghost use Rattle.mc_keep_mem.specs.Fits.{kept_in};
-ghost use Rattle.mc_keep_mem.specs.Plan.{plans_nothing, is_nothing, planned};
+ghost use Rattle.mc_keep_mem.specs.Plan.{plans_nothing, is_nothing, planned, desk_schedule_of};
 ghost use Rattle.mc_keep_mem.specs.Faults.{fails_never, schedule_of};
 
 use crate::plan::{FaultPlan, Faults, MemDesk};
@@ -73,6 +73,8 @@ impl<S: BuildHasher + Drop + Send + Sync> Keeper for MemKeeper<S> {
     ghost quiet_desk = { λ desk. is_nothing desk.failing };
 
     ghost schedule = { λ keeper. Some (schedule_of keeper.faults) };
+
+    ghost desk_schedule = { λ desk. Some (desk_schedule_of desk) };
 
     ghost sound = { λ keeper. keeper.store.fits.kept };
 

@@ -1,28 +1,27 @@
 // Who makes the keepers in memory, and takes them back.
-ghost use Rattle.std.specs.Prelude.{◌≡◌, ◌+◌, ◌-◌, ◌^◌, true, false, Some, min, fold, unwrap_or, slice_get};
+ghost use Rattle.std.specs.Prelude.{◌≡◌, ◌+◌, ◌-◌, ◌^◌, true, Some, min, fold, map, IfOk};
 ghost use Rattle.std.specs.List.{list_all, sum_by};
 ghost use Rattle.mc_model.specs.Kept.{nothing_kept};
 ghost use Rattle.mc_keep.specs.declared.keepers.KeeperPlan.{KeeperPlan};
+ghost use Rattle.mc_keep.specs.Plan.{keeper_plan};
 ghost use Rattle.mc_keep_mem.specs.declared.plan.MemDesk.{MemDesk};
 ghost use Rattle.mc_keep_mem.specs.Desks.{counted_with};
-ghost use Rattle.mc_keep_mem.specs.Plan.{plans_nothing, nothing_planned};
+ghost use Rattle.mc_keep_mem.specs.Plan.{plans_nothing, planned, makes_of};
 
 use crate::keeper::MemKeeper;
 use crate::plan::{FaultPlan, MemDesk, is_due, next_of};
 use mc_base::{Counted, Failed, List};
 use mc_keep::{KeepError, Keeper, KeeperPlan, Keepers};
-use std::alloc::Global;
+use std::alloc::{AllocError, Global};
 use std::hash::{BuildHasher, BuildHasherDefault, FoldHasher};
-use std::mem;
 
-/// Makes keepers in memory, whatever the plan of the keeper, and takes them back. The keeper with the index i takes the
-/// fault plan at place i, and one by which nothing fails where there is none left.
+/// Makes keepers in memory, whatever the plan of the keeper, and takes them back. The keeper with the index i takes a copy of
+/// the fault plan at place i, and one by which nothing fails where there is none.
 #[derive(Drop)]
 pub struct MemKeepers<S: BuildHasher + Copy + Drop = BuildHasherDefault<FoldHasher>> {
-    plans: Vec<FaultPlan>,
+    plans: List<FaultPlan>,
     failing: List<u64>,
     hasher: S,
-    never: bool,
     made: u64,
     faults: u64,
     lost: u64,
@@ -30,9 +29,10 @@ pub struct MemKeepers<S: BuildHasher + Copy + Drop = BuildHasherDefault<FoldHash
 
 impl MemKeepers {
     /// Keepers with these fault plans and the default hasher. The calls of `make` with these numbers, counted from 1,
-    /// fail.
+    /// fail. Takes no memory.
     pub fn new(plans: List<FaultPlan>, makes: List<u64>) -> MemKeepers
-        ensures quiet { result.never ≡ list_all plans_nothing plans }
+        ensures plans { result.plans ≡ plans }
+        ensures schedule { makes_of result.failing result.made result.plans ≡ record { makes = makes; makes_made = 0; keepers = map planned plans } }
         ensures count { (result.faults ≡ 0) × (result.lost ≡ 0) }
     {
         MemKeepers::with_hasher(plans, makes, BuildHasherDefault::new())
@@ -41,14 +41,14 @@ impl MemKeepers {
 
 impl<S: BuildHasher + Copy + Drop> MemKeepers<S> {
     /// Keepers with these fault plans, whose tables of texts have this hasher. The calls of `make` with these numbers,
-    /// counted from 1, fail.
+    /// counted from 1, fail. Takes no memory.
     pub fn with_hasher(plans: List<FaultPlan>, makes: List<u64>, hasher: S) -> MemKeepers<S>
-        ensures quiet { result.never ≡ list_all plans_nothing plans }
+        ensures plans { result.plans ≡ plans }
+        ensures schedule { makes_of result.failing result.made result.plans ≡ record { makes = makes; makes_made = 0; keepers = map planned plans } }
         ensures count { (result.faults ≡ 0) × (result.lost ≡ 0) }
     {
         MemKeepers {
-            never: plan_nothing(plans.as_slice()),
-            plans: plans.into_vec(),
+            plans,
             failing: makes,
             hasher,
             made: 0,
@@ -58,30 +58,14 @@ impl<S: BuildHasher + Copy + Drop> MemKeepers<S> {
     }
 }
 
-fn plan_nothing(plans: &[FaultPlan]) -> bool
-    ensures { result ≡ list_all plans_nothing plans.now }
+// A copy of the plan at a place, or one by which nothing fails.
+fn plan_at(alloc: Global, plans: &[FaultPlan], place: usize) -> Result<FaultPlan, AllocError>
+    ensures schedule { IfOk result (λ plan. planned plan ≡ keeper_plan (map planned plans.now) place) }
+    ensures quiet { list_all plans_nothing plans.now ≡ true → IfOk result (λ plan. plans_nothing plan ≡ true) }
 {
-    plans.iter().all(|plan| plan.is_nothing())
-}
-
-// The fault plan of the keeper with this index, where it is told whether all are empty.
-fn plan_of(plans: &mut Vec<FaultPlan>, alloc: Global, never: bool, index: usize) -> FaultPlan
-    ensures quiet { never ≡ true → plans_nothing result ≡ true }
-    ensures plan { never ≡ false → result ≡ unwrap_or (slice_get plans.old.items index) nothing_planned }
-{
-    if never {
-        return FaultPlan::nothing(alloc);
-    }
-    take_plan(plans, alloc, index)
-}
-
-// The plan at a place, where one by which nothing fails is left.
-fn take_plan(plans: &mut Vec<FaultPlan>, alloc: Global, index: usize) -> FaultPlan
-    ensures { result ≡ unwrap_or (slice_get plans.old.items index) nothing_planned }
-{
-    match plans.get_mut(index) {
-        Some(plan) => mem::replace(plan, FaultPlan::nothing(alloc)),
-        None => FaultPlan::nothing(alloc),
+    match plans.get(place) {
+        Some(plan) => plan.try_clone(alloc),
+        None => Ok(FaultPlan::nothing(alloc)),
     }
 }
 
@@ -98,7 +82,9 @@ impl<S: BuildHasher + Copy + Drop + Send + Sync> Keepers for MemKeepers<S> {
 
     ghost starts = { λ keepers plan index. Some nothing_kept };
 
-    ghost quiet = { λ keepers plan. keepers.never };
+    ghost quiet = { λ keepers plan. list_all plans_nothing keepers.plans };
+
+    ghost schedule = { λ keepers. Some (makes_of keepers.failing keepers.made keepers.plans) };
 
     ghost lost = { λ keepers. keepers.lost };
 
@@ -113,13 +99,14 @@ impl<S: BuildHasher + Copy + Drop + Send + Sync> Keepers for MemKeepers<S> {
             self.faults = self.faults.saturating_add(1);
             return Err(KeepError::Failed);
         }
-        let plan = plan_of(&mut self.plans, alloc, self.never, index as usize);
+        let plan = plan_at(alloc, self.plans.as_slice(), index as usize)?;
         Ok(MemKeeper::with_hasher(alloc, plan, self.hasher))
     }
 
     fn end(&mut self, keeper: MemKeeper<S>, desks: List<MemDesk>)
         ensures lost { self.new.lost ≡ min (self.old.lost + keeper.faults.faults + sum_by (λ (desk : MemDesk). desk.faults) desks) (2 ^ 64 - 1) }
-        ensures same { (plan : KeeperPlan) → self.new.never ≡ self.old.never }
+        ensures same { (plan : KeeperPlan) → list_all plans_nothing self.new.plans ≡ list_all plans_nothing self.old.plans }
+        ensures planned { Some (makes_of self.new.failing self.new.made self.new.plans) ≡ Some (makes_of self.old.failing self.old.made self.old.plans) }
         ensures count { self.new.faults ≡ self.old.faults }
     {
         let lost = self.lost.saturating_add(keeper.faults());

@@ -17,7 +17,7 @@ use std::hash::BuildHasher;
 use std::ops::Bound;
 
 /// Puts the keys that wait into order. After want of memory some have been, and the others still wait.
-pub fn settle<S: BuildHasher + Drop>(values: &mut Values<S>) -> Result<(), AllocError>
+pub(crate) fn settle<S: BuildHasher + Drop>(values: &mut Values<S>) -> Result<(), AllocError>
     requires { IsCovered values.old.rows values.old.ordered values.old.pending.items }
     ensures rows { values.new.rows ≡ values.old.rows }
     ensures covered { IsCovered values.new.rows values.new.ordered values.new.pending.items }
@@ -48,7 +48,7 @@ fn put_in_order(ordered: &mut BTreeSet<String>, key: String) -> Result<(), Strin
 
 /// The row of the least key past a bound, or at it where `inclusive` says so, that has a value. Keys without a value that
 /// are met on the way are kept in order no longer.
-pub fn next_row<S: BuildHasher + Drop>(
+pub(crate) fn next_row<S: BuildHasher + Drop>(
     alloc: Global,
     values: &mut Values<S>,
     bound: &str,

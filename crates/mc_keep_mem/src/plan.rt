@@ -1,15 +1,15 @@
 // Planned faults.
-ghost use Rattle.std.specs.Prelude.{◌≡◌, ◌≤◌, true, false, Some, None, min, ◌+◌, ◌-◌, ◌^◌, IfOk, IsErr, is_some, length, [], List};
-ghost use Rattle.std.specs.Result.{is_err};
+ghost use Rattle.std.specs.Prelude.{◌≡◌, ◌≤◌, true, false, Some, None, min, ◌+◌, ◌-◌, ◌^◌, ◌++◌, ◌∷◌, IfOk, OnOk, is_some, length, drop, [], List};
+ghost use Rattle.std.specs.Result.{is_ok, is_err};
 ghost use Rattle.std.specs.List.{list_all};
 ghost use Rattle.mc_base.specs.Causes.{HasCause, Rose};
 ghost use Rattle.mc_keep.specs.Causes.{StaysQuiet};
-ghost use Rattle.mc_keep.specs.Plan.{is_planned, next_number, ReadsAsPlanned, CommitsAsPlanned};
-ghost use Rattle.mc_keep_mem.specs.Plan.{plans_nothing, is_nothing, nothing_planned, planned};
+ghost use Rattle.mc_keep.specs.Plan.{is_planned, next_number, first_plan, with_desk, ReadsAsPlanned, DeskReadsAsPlanned, CommitsAsPlanned};
+ghost use Rattle.mc_keep_mem.specs.Plan.{plans_nothing, is_nothing, nothing_planned, planned, desk_schedule_of};
 ghost use Rattle.mc_keep_mem.specs.Faults.{fails_never, schedule_of};
 
 use mc_base::{Counted, Failed, List};
-use std::alloc::Global;
+use std::alloc::{AllocError, Global};
 
 /// The numbers of the calls that are to fail, counted from 1. A commit fails before its effect or after it; `reads` number
 /// every other call of a keeper that can fail; the n-th desk that is made takes the n-th list of `desks`.
@@ -40,6 +40,43 @@ impl FaultPlan {
     }
 }
 
+impl FaultPlan {
+    /// A copy.
+    pub fn try_clone(&self, alloc: Global) -> Result<FaultPlan, AllocError>
+        ensures { IfOk result (λ copy. copy ≡ self.now) }
+    {
+        Ok(FaultPlan {
+            commits_before: copy_of(alloc, self.commits_before.as_slice())?,
+            commits_after: copy_of(alloc, self.commits_after.as_slice())?,
+            reads: copy_of(alloc, self.reads.as_slice())?,
+            desks: copies_of(alloc, self.desks.as_slice())?,
+        })
+    }
+}
+
+fn copy_of(alloc: Global, numbers: &[u64]) -> Result<List<u64>, AllocError>
+    ensures { IfOk result (λ copy. copy ≡ numbers.now) }
+{
+    Ok(List::from_vec(numbers.to_vec(alloc)?))
+}
+
+fn copies_of(alloc: Global, plans: &[List<u64>]) -> Result<List<List<u64>>, AllocError>
+    ensures { IfOk result (λ copies. copies ≡ plans.now) }
+{
+    let mut copies = List::with_capacity(alloc, plans.len())?;
+    for plan in plans {
+        push_plan(&mut copies, copy_of(alloc, plan.as_slice())?)?;
+    }
+    Ok(copies)
+}
+
+fn push_plan(copies: &mut List<List<u64>>, plan: List<u64>) -> Result<(), AllocError>
+    ensures { OnOk result (copies.new ≡ copies.old ++ plan ∷ []) }
+{
+    copies.push(plan)?;
+    Ok(())
+}
+
 // The number after this one.
 pub(crate) fn next_of(number: u64) -> u64
     ensures { result ≡ next_number number }
@@ -64,7 +101,9 @@ pub struct MemDesk {
 impl MemDesk {
     // A desk that fails at these calls.
     pub(crate) fn new(failing: List<u64>) -> MemDesk
-        ensures { (result.failing ≡ failing) × (result.faults ≡ 0) }
+        ensures count { result.faults ≡ 0 }
+        ensures plan { result.failing ≡ failing }
+        ensures schedule { desk_schedule_of result ≡ record { reads = failing; reads_made = 0 } }
     {
         MemDesk {
             failing,
@@ -77,6 +116,7 @@ impl MemDesk {
     pub(crate) fn call(&mut self) -> Result<(), Failed>
         ensures cause { HasCause self.old.faults self.new.faults result }
         ensures plan { self.new.failing ≡ self.old.failing }
+        ensures planned { DeskReadsAsPlanned (Some (desk_schedule_of self.old)) (Some (desk_schedule_of self.new)) (is_err result) }
         ensures quiet { is_nothing self.old.failing ≡ true → self.new.faults ≡ self.old.faults }
     {
         self.calls = next_of(self.calls);
@@ -168,8 +208,9 @@ impl Faults {
         ensures later { self.old.faults ≤ self.new.faults }
         ensures rose { is_some result ≡ true → Rose self.old.faults self.new.faults }
         ensures quiet { StaysQuiet (fails_never self.old) (fails_never self.new) self.old.faults self.new.faults }
-        ensures planned { CommitsAsPlanned (Some (schedule_of self.old)) (Some (schedule_of self.new)) (is_some result) None None }
+        ensures planned { CommitsAsPlanned (Some (schedule_of self.old)) (Some (schedule_of self.new)) (is_some result) None None None }
         ensures before { is_planned self.old.before (next_number self.old.commits) ≡ true → result ≡ Some false }
+        ensures after { is_planned self.old.before (next_number self.old.commits) ≡ false → is_planned self.old.after (next_number self.old.commits) ≡ true → result ≡ Some true }
     {
         self.commits = next_of(self.commits);
         if is_due(self.before.as_slice(), self.commits) {
@@ -189,7 +230,9 @@ impl Faults {
         ensures fresh { IfOk result (λ desk. desk.faults ≡ 0) }
         ensures quiet { StaysQuiet (fails_never self.old) (fails_never self.new) self.old.faults self.new.faults }
         ensures quiet_desk { fails_never self.old ≡ true → IfOk result (λ desk. is_nothing desk.failing ≡ true) }
-        ensures planned { ReadsAsPlanned (Some (schedule_of self.old)) (Some (schedule_of self.new)) (is_err result) }
+        ensures schedule { schedule_of self.new ≡ with_desk (is_ok result) (schedule_of self.old) }
+        ensures failed { is_err result ≡ is_planned self.old.failing (next_number self.old.reads) }
+        ensures takes { IfOk result (λ desk. desk_schedule_of desk ≡ record { reads = first_plan self.old.desks.items; reads_made = 0 }) }
     {
         self.read()?;
         Ok(MemDesk::new(next_desk(&mut self.desks, alloc)))
@@ -205,6 +248,8 @@ impl Faults {
 // Takes the first plan out, or one by which nothing fails where there is none.
 fn next_desk(desks: &mut Vec<List<u64>>, alloc: Global) -> List<u64>
     ensures quiet { list_all is_nothing desks.old.items ≡ true → (is_nothing result ≡ true) × (list_all is_nothing desks.new.items ≡ true) }
+    ensures first { result ≡ first_plan desks.old.items }
+    ensures rest { desks.new.items ≡ drop 1 desks.old.items }
 {
     if desks.is_empty() {
         return List::new(alloc);

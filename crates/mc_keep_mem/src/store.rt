@@ -28,16 +28,16 @@ use std::hash::BuildHasher;
 
 // The tables of a keeper.
 #[derive(Drop)]
-pub struct Store<S: BuildHasher + Drop> {
-    pub tables: Tables<S>,
-    pub room: u64,
+pub(crate) struct Store<S: BuildHasher + Drop> {
+    pub(crate) tables: Tables<S>,
+    pub(crate) room: u64,
     ghost fits: { Fits tables },
     ghost roomy: { RoomFor tables room },
 }
 
 impl<S: BuildHasher + Copy + Drop> Store<S> {
     // Empty tables, with the mark clear.
-    pub fn new(alloc: Global, hasher: S) -> Store<S>
+    pub(crate) fn new(alloc: Global, hasher: S) -> Store<S>
         ensures kept { kept_in result.tables ≡ nothing_kept }
         ensures room { result.room ≡ 0 }
     {
@@ -70,7 +70,7 @@ impl<S: BuildHasher + Copy + Drop> Store<S> {
 }
 
 impl<S: BuildHasher + Drop> Store<S> {
-    pub fn commit(&mut self, changes: Changes)
+    pub(crate) fn commit(&mut self, changes: Changes)
         requires rows { row_count changes ≤ self.old.room }
         requires fit { ChangesFit (kept_in self.old.tables) changes }
         ensures kept { kept_in self.new.tables ≡ changed (kept_in self.old.tables) changes }
@@ -79,19 +79,19 @@ impl<S: BuildHasher + Drop> Store<S> {
         self.room = commit_tables(&mut self.tables, changes, self.room);
     }
 
-    pub fn block(&self, alloc: Global, cid: &Cid) -> Result<Option<Bytes>, AllocError>
+    pub(crate) fn block(&self, alloc: Global, cid: &Cid) -> Result<Option<Bytes>, AllocError>
         ensures { IfOk result (λ bytes. bytes ≡ bytes_at (kept_in self.now.tables).graph cid.now) }
     {
         block_bytes(alloc, &self.tables.blocks, cid)
     }
 
-    pub fn stored(&self, cid: &Cid) -> bool
+    pub(crate) fn stored(&self, cid: &Cid) -> bool
         ensures { result ≡ is_stored (kept_in self.now.tables).graph cid.now }
     {
         has_block(&self.tables.blocks, cid)
     }
 
-    pub fn position(&self, cid: &Cid) -> Option<u64>
+    pub(crate) fn position(&self, cid: &Cid) -> Option<u64>
         ensures { result ≡ position (same_cid cid.now) (kept_in self.now.tables).order }
     {
         match position_of(&self.tables.order, cid) {
@@ -100,37 +100,37 @@ impl<S: BuildHasher + Drop> Store<S> {
         }
     }
 
-    pub fn at(&self, position: u64) -> Option<Cid>
+    pub(crate) fn at(&self, position: u64) -> Option<Cid>
         ensures { result ≡ slice_get (kept_in self.now.tables).order position }
     {
         cid_at(&self.tables.order, position as usize)
     }
 
-    pub fn linked(&self, cid: &Cid) -> bool
+    pub(crate) fn linked(&self, cid: &Cid) -> bool
         ensures { result ≡ is_linked (processed (kept_in self.now.tables)) cid.now }
     {
         has_cid(&self.tables.links, cid)
     }
 
-    pub fn heads(&self, alloc: Global) -> Result<List<HeadRow>, AllocError>
+    pub(crate) fn heads(&self, alloc: Global) -> Result<List<HeadRow>, AllocError>
         ensures { IfOk result (λ rows. heads_in_rows rows ≡ heads (processed (kept_in self.now.tables))) }
     {
         head_rows(alloc, &self.tables.heads)
     }
 
-    pub fn elements(&self, alloc: Global, key: &str) -> Result<List<ElementRow>, AllocError>
+    pub(crate) fn elements(&self, alloc: Global, key: &str) -> Result<List<ElementRow>, AllocError>
         ensures { IfOk result (λ rows. Ascends element_cmp rows (element_rows_of (processed (kept_in self.now.tables)) key.now)) }
     {
         elements_of(alloc, &self.tables.elements, key)
     }
 
-    pub fn hidden(&self, key: &str, id: &str) -> bool
+    pub(crate) fn hidden(&self, key: &str, id: &str) -> bool
         ensures { result ≡ has_tomb (processed (kept_in self.now.tables)) key.now id.now }
     {
         has_tomb_row(&self.tables.tombs, key, id)
     }
 
-    pub fn summary(&self) -> Summary
+    pub(crate) fn summary(&self) -> Summary
         ensures summary { IsSummary (kept_in self.now.tables) result }
         ensures small { IsSmall result }
     {
@@ -142,20 +142,20 @@ impl<S: BuildHasher + Drop> Store<S> {
         }
     }
 
-    pub fn value(&self, alloc: Global, key: &str) -> Result<Option<ValueRow>, AllocError>
+    pub(crate) fn value(&self, alloc: Global, key: &str) -> Result<Option<ValueRow>, AllocError>
         ensures { IfOk result (λ row. IsValueRow (processed (kept_in self.now.tables)) key.now row) }
     {
         value_of(alloc, &self.tables.values.rows, key)
     }
 
-    pub fn has(&self, key: &str) -> bool
+    pub(crate) fn has(&self, key: &str) -> bool
         ensures { result ≡ is_some (value_row (processed (kept_in self.now.tables)) key.now) }
     {
         has_value(&self.tables.values.rows, key)
     }
 
     // Puts the keys that wait into order, so the tables change, and nothing that they tell.
-    pub fn value_from(
+    pub(crate) fn value_from(
         &mut self,
         alloc: Global,
         bound: &str,
@@ -169,7 +169,7 @@ impl<S: BuildHasher + Drop> Store<S> {
     }
 
     // Makes room for so many rows.
-    pub fn reserve(&mut self, rows: u64) -> Result<(), AllocError>
+    pub(crate) fn reserve(&mut self, rows: u64) -> Result<(), AllocError>
         ensures ok { OnOk result (rows ≤ self.new.room) }
         ensures kept { kept_in self.new.tables ≡ kept_in self.old.tables }
         ensures room { self.old.room ≤ self.new.room }

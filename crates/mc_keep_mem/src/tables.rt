@@ -20,20 +20,20 @@ use std::hash::BuildHasher;
 /// The tables: the stored blocks, the order of the processed ones, their links, gaps and heads, and the rows that they
 /// make.
 #[derive(Drop)]
-pub struct Tables<S: BuildHasher + Drop> {
-    pub blocks: IndexMap<Cid, Bytes>,
-    pub order: IndexSet<Cid>,
-    pub mark: bool,
-    pub links: IndexSet<Cid>,
-    pub gaps: IndexSet<Cid>,
-    pub heads: IndexMap<Cid, u64>,
-    pub elements: Elements<S>,
-    pub tombs: Tombs<S>,
-    pub values: Values<S>,
+pub(crate) struct Tables<S: BuildHasher + Drop> {
+    pub(crate) blocks: IndexMap<Cid, Bytes>,
+    pub(crate) order: IndexSet<Cid>,
+    pub(crate) mark: bool,
+    pub(crate) links: IndexSet<Cid>,
+    pub(crate) gaps: IndexSet<Cid>,
+    pub(crate) heads: IndexMap<Cid, u64>,
+    pub(crate) elements: Elements<S>,
+    pub(crate) tombs: Tombs<S>,
+    pub(crate) values: Values<S>,
 }
 
 /// Makes the changes, for which there is room, and gives the room that is left. It takes no memory.
-pub fn commit_tables<S: BuildHasher + Drop>(
+pub(crate) fn commit_tables<S: BuildHasher + Drop>(
     tables: &mut Tables<S>,
     changes: Changes,
     room: u64,
@@ -87,7 +87,7 @@ fn apply<S: BuildHasher + Drop>(tables: &mut Tables<S>, changes: Changes, room: 
 }
 
 /// Makes room for so many rows in each table.
-pub fn reserve_tables<S: BuildHasher + Drop>(
+pub(crate) fn reserve_tables<S: BuildHasher + Drop>(
     tables: &mut Tables<S>,
     rows: usize,
 ) -> Result<(), AllocError>

@@ -19,15 +19,15 @@ use std::hash::BuildHasher;
 
 /// The tombstones.
 #[derive(Drop)]
-pub struct Tombs<S: BuildHasher + Drop> {
-    pub keys: IndexSet<String, S>,
-    pub ids: IndexSet<String, S>,
-    pub pairs: HashSet<(usize, usize)>,
+pub(crate) struct Tombs<S: BuildHasher + Drop> {
+    pub(crate) keys: IndexSet<String, S>,
+    pub(crate) ids: IndexSet<String, S>,
+    pub(crate) pairs: HashSet<(usize, usize)>,
     ghost numbers: { AreNumbers keys.keys ids.keys pairs.keys },
 }
 
 /// Whether the tombstone is there. It takes no memory.
-pub fn has_tomb<S: BuildHasher + Drop>(tombs: &Tombs<S>, key: &str, id: &str) -> bool
+pub(crate) fn has_tomb<S: BuildHasher + Drop>(tombs: &Tombs<S>, key: &str, id: &str) -> bool
     ensures { result ≡ has_tomb_in tombs.now.keys.keys tombs.now.ids.keys tombs.now.pairs.keys key.now id.now }
 {
     let Some(key) = tombs.keys.get_index_of(key) else {
@@ -53,7 +53,7 @@ fn number<S: BuildHasher + Drop>(texts: &mut IndexSet<String, S>, text: Text) ->
 }
 
 /// Puts a tombstone in. It takes no memory.
-pub fn put_tomb<S: BuildHasher + Drop>(tombs: &mut Tombs<S>, row: TombRow)
+pub(crate) fn put_tomb<S: BuildHasher + Drop>(tombs: &mut Tombs<S>, row: TombRow)
     requires keys_room { 0 < spare tombs.old.keys }
     requires ids_room { 0 < spare tombs.old.ids }
     requires pairs_room { 0 < spare tombs.old.pairs }
@@ -70,7 +70,7 @@ pub fn put_tomb<S: BuildHasher + Drop>(tombs: &mut Tombs<S>, row: TombRow)
 }
 
 /// Makes room for so many tombstones.
-pub fn reserve_tombs<S: BuildHasher + Drop>(
+pub(crate) fn reserve_tombs<S: BuildHasher + Drop>(
     tombs: &mut Tombs<S>,
     rows: usize,
 ) -> Result<(), AllocError>
@@ -95,7 +95,7 @@ fn reserve_pairs(pairs: &mut HashSet<(usize, usize)>, rows: usize) -> Result<(),
 }
 
 /// Puts tombstones in. It takes no memory.
-pub fn put_tombs<S: BuildHasher + Drop>(tombs: &mut Tombs<S>, rows: Vec<TombRow>)
+pub(crate) fn put_tombs<S: BuildHasher + Drop>(tombs: &mut Tombs<S>, rows: Vec<TombRow>)
     requires keys_room { length rows.items ≤ spare tombs.old.keys }
     requires ids_room { length rows.items ≤ spare tombs.old.ids }
     requires pairs_room { length rows.items ≤ spare tombs.old.pairs }

@@ -17,21 +17,21 @@ use std::hash::BuildHasher;
 
 /// A value with its priority. Its key is that of the table.
 #[derive(Debug, Drop)]
-pub struct Held {
-    pub priority: u64,
-    pub value: Bytes,
+pub(crate) struct Held {
+    pub(crate) priority: u64,
+    pub(crate) value: Bytes,
 }
 
 /// The value rows, and their keys in order.
 #[derive(Drop)]
-pub struct Values<S: BuildHasher + Drop> {
-    pub rows: HashMap<String, Held, S>,
-    pub ordered: BTreeSet<String>,
-    pub pending: Vec<String>,
+pub(crate) struct Values<S: BuildHasher + Drop> {
+    pub(crate) rows: HashMap<String, Held, S>,
+    pub(crate) ordered: BTreeSet<String>,
+    pub(crate) pending: Vec<String>,
 }
 
 // Makes a change. It takes no memory.
-pub fn put_value<S: BuildHasher + Drop>(values: &mut Values<S>, change: ValueChange)
+pub(crate) fn put_value<S: BuildHasher + Drop>(values: &mut Values<S>, change: ValueChange)
     requires rows_room { 0 < spare values.old.rows }
     requires pending_room { vec_len values.old.pending < vec_capacity values.old.pending }
     requires named { is_named change ≡ true }
@@ -93,7 +93,7 @@ fn remove_row<S: BuildHasher>(rows: &mut HashMap<String, Held, S>, key: &str)
 }
 
 /// Makes the changes in their order. It takes no memory.
-pub fn put_values<S: BuildHasher + Drop>(values: &mut Values<S>, changes: Vec<ValueChange>)
+pub(crate) fn put_values<S: BuildHasher + Drop>(values: &mut Values<S>, changes: Vec<ValueChange>)
     requires rows_room { length changes.items ≤ spare values.old.rows }
     requires pending_room { vec_len values.old.pending + length changes.items ≤ vec_capacity values.old.pending }
     requires named { list_all is_named changes.items ≡ true }
@@ -110,7 +110,7 @@ pub fn put_values<S: BuildHasher + Drop>(values: &mut Values<S>, changes: Vec<Va
 }
 
 /// The value of a key, with its priority, or none.
-pub fn value_of<S: BuildHasher>(
+pub(crate) fn value_of<S: BuildHasher>(
     alloc: Global,
     rows: &HashMap<String, Held, S>,
     key: &str,
@@ -125,7 +125,7 @@ pub fn value_of<S: BuildHasher>(
 }
 
 // The row of a key, which is moved into it.
-pub fn row_of_key(alloc: Global, key: Text, held: &Held) -> Result<ValueRow, AllocError>
+pub(crate) fn row_of_key(alloc: Global, key: Text, held: &Held) -> Result<ValueRow, AllocError>
     ensures { IfOk result (λ row. (row.key ≡ key) × (row.priority ≡ held.now.priority) × (row.value ≡ held.now.value)) }
 {
     Ok(ValueRow {
@@ -136,14 +136,14 @@ pub fn row_of_key(alloc: Global, key: Text, held: &Held) -> Result<ValueRow, All
 }
 
 /// Whether a key has a value. It takes no memory.
-pub fn has_value<S: BuildHasher>(rows: &HashMap<String, Held, S>, key: &str) -> bool
+pub(crate) fn has_value<S: BuildHasher>(rows: &HashMap<String, Held, S>, key: &str) -> bool
     ensures { result ≡ is_some (row_in rows.now key.now) }
 {
     rows.contains_key(key)
 }
 
 /// Makes room for so many rows.
-pub fn reserve_values<S: BuildHasher + Drop>(
+pub(crate) fn reserve_values<S: BuildHasher + Drop>(
     values: &mut Values<S>,
     rows: usize,
 ) -> Result<(), AllocError>

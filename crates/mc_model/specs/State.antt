@@ -1,10 +1,11 @@
 -- The state of a replica: what outlives a stop, and what doesn't; and where it is sound.
 use Rattle.std.specs.Prelude.{⊤, ℕ, ◌≤◌, ◌≡◌, Bool, true, false, not, List, [], ◌∷◌, ◌++◌, length, take, drop, map, Option, Some, None}
 use Rattle.mc_base.specs.declared.cid.Cid.{Cid}
+use Rattle.mc_model.specs.declared.block.Block.{Block}
 use Rattle.mc_model.specs.declared.block.Stored.{Stored}
 use Rattle.mc_model.specs.declared.delta.Element.{Element}
 use Rattle.mc_model.specs.Graph.{Vertex, times, has, cids_in, in_graph, all_links, no_gaps}
-use Rattle.mc_model.specs.Kept.{Kept}
+use Rattle.mc_model.specs.Kept.{Kept, processed}
 use Rattle.mc_model.specs.Offer.{is_good, block_of}
 use Rattle.mc_model.specs.Wanted.{Queue, wanted, held, IsOnce}
 
@@ -25,6 +26,17 @@ vertices stored = map vertex_of stored
 -- what a keeper tells, as this state
 abbrev pub durable_of : Kept → Durable
 durable_of kept = record { graph = vertices kept.graph; order = kept.order; mark = kept.mark }
+
+-- what a keeper tells that stands for this state
+abbrev pub stored_of : Vertex → Stored
+stored_of vertex = record { cid = vertex.cid; bytes = vertex.bytes }
+
+abbrev pub kept_of : Durable → Kept
+kept_of durable = record { graph = map stored_of durable.graph; order = durable.order; mark = durable.mark }
+
+-- the processed blocks, in the order of processing
+abbrev pub blocks_of : Durable → List Block
+blocks_of durable = processed (kept_of durable)
 
 -- nothing is stored, and the mark is clear
 abbrev pub nothing_durable : Durable

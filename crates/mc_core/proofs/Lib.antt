@@ -1,0 +1,2 @@
+pub mod EventFacts
+pub mod CommitFacts

@@ -1,0 +1,9 @@
+//! One replica over its keeper: every call is a list of events.
+#![tactic(auto)]
+
+mod commits;
+mod error;
+mod replica;
+
+pub use error::CoreError;
+pub use replica::Replica;
