@@ -1,0 +1,3 @@
+pub mod LinkFacts
+pub mod MadeFacts
+pub mod OfferFacts

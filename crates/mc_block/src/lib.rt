@@ -1,0 +1,16 @@
+//! Blocks: read from their bytes under a content identifier, and made of links and a delta.
+#![tactic(auto)]
+
+mod fault;
+mod laws;
+mod limits;
+mod read;
+mod write;
+
+pub use fault::{BlockError, Damage};
+pub use laws::written_blocks_are_good;
+pub use read::read_block;
+pub use write::{Made, write_block};
+
+#[cfg(test)]
+mod tests;
