@@ -1,0 +1,5 @@
+pub mod Times
+pub mod Linked
+pub mod Heights
+pub mod Rows
+pub mod Told

@@ -1,0 +1,12 @@
+//! The front of the processed blocks, as a commit changes it: heads, link rows, marks and the dirty mark.
+#![tactic(auto)]
+
+mod front;
+mod heads;
+mod links;
+mod mark;
+
+pub use front::front_changes;
+
+
+
