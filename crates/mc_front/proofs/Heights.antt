@@ -27,6 +27,10 @@ or_else (Some n) h = Some n
 pub among_cids : (c : Cid) (xs : List Block) → is_among (cids_of xs) c ≡ is_processed xs c
 among_cids c xs = list_any-map (same_cid c) (λ (block : Block). block.cid) xs
 
+both_none : (t : Bool) → cond {A = Option ℕ} t None None ≡ None
+both_none true = refl
+both_none false = refl
+
 pub height_there : (c : Cid) (xs : List Block) → is_some (height xs c) ≡ is_processed xs c
 height_there c [] = refl
 height_there c (b ∷ xs) =
@@ -48,24 +52,24 @@ height-append c (b ∷ xs) ys =
       | false ↦ height-append c xs ys
     ]
 
+abbrev left : (Cid → Bool) → List Block → List Block
+left keep xs = filter (λ (block : Block). keep block.cid) xs
+
 pub height-filter : (keep : Cid → Bool) (c : Cid) (xs : List Block) → height (filter (λ (block : Block). keep block.cid) xs) c ≡ cond (keep c) (height xs c) None
-height-filter keep c [] = elim (keep c) as (λ t. None ≡ cond t None None) [ true ↦ refl | false ↦ refl ]
+height-filter keep c [] = sym (both_none (keep c))
 height-filter keep c (b ∷ xs) =
     elim (same_cid c b.cid) as (λ s. same_cid c b.cid ≡ s
-    → height (cond (keep b.cid) (b ∷ kept) kept) c ≡ cond (keep c) (option_map (λ (block : Block). block.delta.priority) (cond s (Some b) (find (λ (block : Block). same_cid c block.cid) xs))) None) [
-      | true ↦ λ s. subst (λ (z : Bool). height (cond z (b ∷ kept) kept) c ≡ cond (keep c) (Some b.delta.priority) None) (ap keep (cid_is c b.cid s))
-          (elim (keep c) as (λ t. keep c ≡ t → height (cond t (b ∷ kept) kept) c ≡ cond t (Some b.delta.priority) None) [
-            | true ↦ λ k. ap (λ z. option_map (λ (block : Block). block.delta.priority) (cond z (Some b) (find (λ (block : Block). same_cid c block.cid) kept))) s
+    → height (cond (keep b.cid) (b ∷ left keep xs) (left keep xs)) c ≡ cond (keep c) (option_map (λ (block : Block). block.delta.priority) (cond s (Some b) (find (λ (block : Block). same_cid c block.cid) xs))) None) [
+      | true ↦ λ s. subst (λ (z : Bool). height (cond z (b ∷ left keep xs) (left keep xs)) c ≡ cond (keep c) (Some b.delta.priority) None) (ap keep (cid_is c b.cid s))
+          (elim (keep c) as (λ t. keep c ≡ t → height (cond t (b ∷ left keep xs) (left keep xs)) c ≡ cond t (Some b.delta.priority) None) [
+            | true ↦ λ k. ap (λ z. option_map (λ (block : Block). block.delta.priority) (cond z (Some b) (find (λ (block : Block). same_cid c block.cid) (left keep xs)))) s
             | false ↦ λ k. height-filter keep c xs ∙ ap (λ z. cond z (height xs c) None) k
           ] refl)
-      | false ↦ λ s. elim (keep b.cid) as (λ t. height (cond t (b ∷ kept) kept) c ≡ cond (keep c) (height xs c) None) [
-        | true ↦ ap (λ z. option_map (λ (block : Block). block.delta.priority) (cond z (Some b) (find (λ (block : Block). same_cid c block.cid) kept))) s ∙ height-filter keep c xs
+      | false ↦ λ s. elim (keep b.cid) as (λ t. height (cond t (b ∷ left keep xs) (left keep xs)) c ≡ cond (keep c) (height xs c) None) [
+        | true ↦ ap (λ z. option_map (λ (block : Block). block.delta.priority) (cond z (Some b) (find (λ (block : Block). same_cid c block.cid) (left keep xs)))) s ∙ height-filter keep c xs
         | false ↦ height-filter keep c xs
       ]
     ] refl
-  where
-    abbrev kept : List Block
-    kept = filter (λ (block : Block). keep block.cid) xs
 
 pub map-filter : (keep : Cid → Bool) (xs : List Block) → cids_of (filter (λ (block : Block). keep block.cid) xs) ≡ filter keep (cids_of xs)
 map-filter keep [] = refl
@@ -94,7 +98,7 @@ rows_taken c h [] = refl
 rows_taken c h (x ∷ out) =
     rows_taken c (head_without c h x) out
     ∙ elim (same_cid c x) as (λ s. cond (is_among out c) None (cond s None h) ≡ cond (s || is_among out c) None h) [
-      | true ↦ elim (is_among out c) as (λ t. cond t None None ≡ None) [ true ↦ refl | false ↦ refl ]
+      | true ↦ both_none (is_among out c)
       | false ↦ refl
     ]
 

@@ -1,3 +1,4 @@
+pub mod Places
 pub mod Times
 pub mod Linked
 pub mod Heights

@@ -185,14 +185,32 @@ module _ (blocks more : List Block) where
       all_times : (c : Cid) → times c ((gaps blocks ++ links) ++ cids_of heads) ≡ times c ((gaps (blocks ++ more) ++ cids_of more) ++ filter held links)
       all_times c =
           let law = counted (is_linked blocks c) (is_linked more c) (is_processed blocks c) (is_processed more c) (apart c) in
-          omega (arith, law, times-append c (gaps blocks ++ links) (cids_of heads), times-append c (gaps blocks) links,
-          times-append c (gaps (blocks ++ more) ++ cids_of more) (filter held links), times-append c (gaps (blocks ++ more)) (cids_of more),
-          gaps_times c, marks_times c, out_times c, links_times c, heads_times c, gap_times blocks c)
+          omega (
+            arith,
+            law,
+            times-append c (gaps blocks ++ links) (cids_of heads),
+            times-append c (gaps blocks) links,
+            times-append c (gaps (blocks ++ more) ++ cids_of more) (filter held links),
+            times-append c (gaps (blocks ++ more)) (cids_of more),
+            gaps_times c,
+            marks_times c,
+            out_times c,
+            links_times c,
+            heads_times c,
+            gap_times blocks c,
+          )
 
       -- the gaps, the blocks and the heads that are none any more are as many as the old gaps, the new links and the new heads
       pub gaps_count : length (gaps (blocks ++ more)) + length (cids_of more) + length (filter held links) ≡ length (gaps blocks) + length links + length (new_heads blocks more)
       gaps_count =
           let all = same_times_length ((gaps (blocks ++ more) ++ cids_of more) ++ filter held links) ((gaps blocks ++ links) ++ cids_of heads) all_times in
-          omega (arith, all, length-append (gaps (blocks ++ more) ++ cids_of more) (filter held links), length-append (gaps (blocks ++ more)) (cids_of more),
-          length-append (gaps blocks ++ links) (cids_of heads), length-append (gaps blocks) links,
-          length-map heads (λ (block : Block). block.cid), length-map heads head_row)
+          omega (
+            arith,
+            all,
+            length-append (gaps (blocks ++ more) ++ cids_of more) (filter held links),
+            length-append (gaps (blocks ++ more)) (cids_of more),
+            length-append (gaps blocks ++ links) (cids_of heads),
+            length-append (gaps blocks) links,
+            length-map heads (λ (block : Block). block.cid),
+            length-map heads head_row,
+          )

@@ -44,7 +44,7 @@ module _ (kept : Kept) (blocks : List Block) (new : AreNew kept blocks) where
   apart c e = sym (same c) ∙ none_of (is_among kept.order) (cids_of blocks) new.1 c (among_cids c blocks ∙ e)
 
   module _ (links out : List Cid) (heads : List HeadRow) (l : links ≡ unlinked (processed kept) (different_links blocks)) (o : out ≡ filter (is_among kept.order) links)
-    (h : heads ≡ rows_of_heads (processed kept) (different_links blocks) blocks) where
+      (h : heads ≡ rows_of_heads (processed kept) (different_links blocks) blocks) where
     out_is : out ≡ filter (is_among kept.order) (unlinked (processed kept) (different_links blocks))
     out_is = o ∙ ap (filter (is_among kept.order)) l
 
@@ -59,13 +59,25 @@ module _ (kept : Kept) (blocks : List Block) (new : AreNew kept blocks) where
     count_is gaps_before marks m g =
         let law = gaps_count (processed kept) blocks (is_among kept.order) same new.0 apart in
         let few : length (new_heads (processed kept) blocks) ≤ length blocks = heads_few in
-        omega (arith, law, few, g, ap (λ (z : List Cid). length z) m, ap (λ (z : List Cid). length z) l, ap (λ (z : List Cid). length z) out_is, ap (λ (z : List HeadRow). length z) heads_is,
-        length-map blocks (λ (block : Block). block.cid))
+        omega (
+          arith,
+          law,
+          few,
+          g,
+          ap (λ (z : List Cid). length z) m,
+          ap (λ (z : List Cid). length z) l,
+          ap (λ (z : List Cid). length z) out_is,
+          ap (λ (z : List HeadRow). length z) heads_is,
+          length-map blocks (λ (block : Block). block.cid),
+        )
       where
         heads_few : length (new_heads (processed kept) blocks) ≤ length blocks
         heads_few =
-            omega (arith, length-filter_le (λ (block : Block). not (is_linked (processed kept ++ blocks) block.cid)) blocks,
-            length-map (filter (λ (block : Block). not (is_linked (processed kept ++ blocks) block.cid)) blocks) head_row)
+            omega (
+              arith,
+              length-filter_le (λ (block : Block). not (is_linked (processed kept ++ blocks) block.cid)) blocks,
+              length-map (filter (λ (block : Block). not (is_linked (processed kept ++ blocks) block.cid)) blocks) head_row,
+            )
 
   fits : (changes : Changes) → changes.links ≡ unlinked (processed kept) (different_links blocks) → changes.heads_out ≡ filter (is_among kept.order) changes.links
       → changes.heads_in ≡ rows_of_heads (processed kept) (different_links blocks) blocks → FrontFits (processed kept) blocks changes

@@ -67,11 +67,7 @@ pub fn front_changes<K: Keeper>(
     Ok(gaps)
 }
 
-fn rows_of<K: Keeper>(
-    keeper: &mut K,
-    alloc: Global,
-    blocks: &[Block],
-) -> Result<Rows, KeepError>
+fn rows_of<K: Keeper>(keeper: &mut K, alloc: Global, blocks: &[Block]) -> Result<Rows, KeepError>
     ensures marks { IfOk result (λ rows. rows.marks ≡ map (λ (block : Block). block.cid) blocks.now) }
     ensures links { IfTold (K.told keeper.old) result (λ kept rows. rows.links ≡ unlinked (processed kept) (different_links blocks.now)) }
     ensures heads_out { IfTold (K.told keeper.old) result (λ kept rows. rows.heads_out ≡ filter (is_among kept.order) rows.links) }
@@ -113,7 +109,9 @@ fn gaps_after(gaps: u64, rows: &Rows) -> u64
     ensures { result ≡ gaps + length rows.now.links - length rows.now.heads_out - (length rows.now.marks - length rows.now.heads_in) }
 {
     let linked = count_of(&rows.marks).saturating_sub(rows.heads_in.as_slice().len() as u64);
-    (gaps + count_of(&rows.links)).saturating_sub(count_of(&rows.heads_out)).saturating_sub(linked)
+    (gaps + count_of(&rows.links))
+        .saturating_sub(count_of(&rows.heads_out))
+        .saturating_sub(linked)
 }
 
 fn count_of(cids: &List<Cid>) -> u64

@@ -6,6 +6,7 @@ ghost use Rattle.mc_keep.specs.Causes.{IfTold, KeepCause, StaysQuiet};
 ghost use Rattle.mc_front.specs.Steps.{leads_to, rows_of_heads};
 ghost use Rattle.mc_front.specs.Front.{head_row};
 
+use crate::adding::add;
 use indexmap::IndexSet;
 use mc_base::{Cid, Failed, List};
 use mc_keep::{HeadRow, KeepError, Keeper};
@@ -30,7 +31,7 @@ pub(crate) fn new_heads<K: Keeper>(
     let mut heads = List::new(alloc);
     for block in blocks {
         if !is_led_to(keeper, links, &block.cid)? {
-            heads.push(head_of(block))?;
+            add(&mut heads, head_of(block))?;
         }
     }
     Ok(heads)
@@ -45,11 +46,7 @@ fn head_of(block: &Block) -> HeadRow
     }
 }
 
-fn is_led_to<K: Keeper>(
-    keeper: &mut K,
-    links: &IndexSet<Cid>,
-    cid: &Cid,
-) -> Result<bool, Failed>
+fn is_led_to<K: Keeper>(keeper: &mut K, links: &IndexSet<Cid>, cid: &Cid) -> Result<bool, Failed>
     ensures found { IfTold (K.told keeper.old) result (λ kept found. found ≡ leads_to (processed kept) links.now.keys cid.now) }
     ensures told { K.told keeper.new ≡ K.told keeper.old }
     ensures fuse { K.fuse keeper.new ≡ K.fuse keeper.old }

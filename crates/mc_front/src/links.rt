@@ -7,6 +7,7 @@ ghost use Rattle.mc_model.specs.Kept.{processed};
 ghost use Rattle.mc_keep.specs.Causes.{IfTold, KeepCause, StaysQuiet};
 ghost use Rattle.mc_front.specs.Steps.{with_links, different_links, unlinked};
 
+use crate::adding::add;
 use indexmap::IndexSet;
 use mc_base::{Cid, Failed, List};
 use mc_keep::{KeepError, Keeper};
@@ -50,7 +51,7 @@ pub(crate) fn new_links<K: Keeper>(
     let mut new = List::new(alloc);
     for link in links {
         if !keeper.linked(link)? {
-            new.push(*link)?;
+            add(&mut new, *link)?;
         }
     }
     Ok(new)
@@ -73,7 +74,7 @@ pub(crate) fn old_heads<K: Keeper>(
     let mut old = List::new(alloc);
     for link in links {
         if is_processed(keeper, link)? {
-            old.push(*link)?;
+            add(&mut old, *link)?;
         }
     }
     Ok(old)

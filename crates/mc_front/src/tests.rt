@@ -46,11 +46,7 @@ fn has_block(blocks: &[Block], cid: &Cid) -> bool
 }
 
 // What the blocks, which differ, change in an empty keeper, with the number of gaps.
-fn changes_of(
-    rt: &HostRuntime,
-    blocks: &[Block],
-    whole: bool,
-) -> Result<(u64, Changes), Fail> {
+fn changes_of(rt: &HostRuntime, blocks: &[Block], whole: bool) -> Result<(u64, Changes), Fail> {
     let alloc = rt.alloc();
     assert!(rt; are_once(blocks));
     let mut keeper = MemKeeper::new(alloc, FaultPlan::nothing(alloc))?;
@@ -125,8 +121,14 @@ fn the_front_of_a_first_group(rt: HostRuntime) -> Result<(), Fail> {
             assert_eq!(rt; gaps, row.gaps);
             assert_eq!(rt; changes.mark, if whole { row.mark } else { None });
             assert_eq!(rt; changes.marks.len(), row.blocks.len());
-            assert_eq!(rt; changes.links.as_slice(), cids(alloc, row.links)?.as_slice());
-            assert_eq!(rt; changes.heads_in.as_slice(), heads(alloc, row.heads)?.as_slice());
+            assert_eq!(rt;
+                changes.links.as_slice(),
+                cids(alloc, row.links)?.as_slice()
+            );
+            assert_eq!(rt;
+                changes.heads_in.as_slice(),
+                heads(alloc, row.heads)?.as_slice()
+            );
             assert!(rt; changes.heads_out.as_slice().is_empty());
         }
     }
@@ -165,7 +167,10 @@ fn a_chain_backwards(rt: HostRuntime) -> Result<(), Fail> {
     assert_eq!(rt; changes.mark, None);
     assert_eq!(rt; changes.marks.len(), 100);
     assert_eq!(rt; changes.links.len(), 99);
-    assert_eq!(rt; changes.heads_in.as_slice(), heads(alloc, &[(99, 99)])?.as_slice());
+    assert_eq!(rt;
+        changes.heads_in.as_slice(),
+        heads(alloc, &[(99, 99)])?.as_slice()
+    );
     assert!(rt; changes.heads_out.as_slice().is_empty());
     Ok(())
 }
