@@ -11,7 +11,6 @@ pub mod Reordered
 pub mod Fit
 pub mod FitAfter
 pub mod FrontMembers
-pub mod GapCount
 pub mod IfOk
 pub mod NextFacts
 pub mod Reserves

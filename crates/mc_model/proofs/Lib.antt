@@ -21,3 +21,4 @@ pub mod Same
 pub mod Commits
 pub mod Found
 pub mod Recall
+pub mod GapCount

@@ -54,7 +54,7 @@ same_length (x ∷ xs) ys once same =
         ] refl (others_times x c ys) (same c)
 
 -- no member of the list that has each once stands twice in it
-once_list : (xs : List Cid) (c : Cid) → times c (once same_cid xs) ≡ cond (has c xs) 1 0
+pub once_list : (xs : List Cid) (c : Cid) → times c (once same_cid xs) ≡ cond (has c xs) 1 0
 once_list [] c = refl
 once_list (x ∷ xs) c =
     elim (list_any (same_cid x) xs) as (λ t. list_any (same_cid x) xs ≡ t → times c (elim t [ true ↦ once same_cid xs | false ↦ x ∷ once same_cid xs ]) ≡ cond (same_cid c x || has c xs) 1 0) [

@@ -2,9 +2,9 @@ use Rattle.std.proofs.Common.{◌∙◌, ap, refl, sym, length, ℕ, List}
 use Rattle.std.proofs.lemmas.List.{length-map}
 use Rattle.mc_base.specs.declared.cid.Cid.{Cid}
 use Rattle.mc_model.specs.Kept.{processed}
+use Rattle.mc_model.proofs.GapCount.{gap_count}
 use Rattle.mc_keep_mem.specs.Graph.{stored_of}
 use Rattle.mc_keep_mem.specs.Fits.{kept_in}
-use Rattle.mc_keep_mem.proofs.GapCount.{gap_count}
 use Rattle.mc_keep_mem.proofs.store.Store.summary.Goals as goal
 
 pub returns-clause-summary : goal.returns-clause-summary

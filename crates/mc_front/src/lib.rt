@@ -1,0 +1,13 @@
+//! The front of the processed blocks, as a commit changes it: heads, link rows, marks and the dirty mark.
+#![tactic(auto)]
+
+mod adding;
+mod front;
+mod heads;
+mod links;
+mod mark;
+
+pub use front::front_changes;
+
+#[cfg(test)]
+mod tests;
