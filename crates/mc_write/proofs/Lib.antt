@@ -1,0 +1,5 @@
+pub mod Membership
+pub mod PairFacts
+pub mod RowOrder
+pub mod SortFacts
+pub mod TakenFacts

@@ -1,0 +1,5 @@
+pub mod Lengths
+pub mod PairOrder
+pub mod Refusals
+pub mod Rows
+pub mod Seen

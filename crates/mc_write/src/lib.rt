@@ -1,0 +1,11 @@
+//! The deltas that puts, deletes and batches make.
+#![tactic(auto)]
+
+mod error;
+mod length;
+mod pair;
+mod put;
+mod seen;
+
+pub use error::WriteError;
+pub use put::put_delta;

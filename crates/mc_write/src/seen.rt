@@ -1,0 +1,77 @@
+// The blocks with a live element of a key, as a keeper tells them.
+ghost use Rattle.std.specs.Prelude.{◌≡◌, ◌≤◌, ◌++◌, ◌∷◌, [], IfOk, OnOk, OnErr, true, map, filter};
+ghost use Rattle.mc_model.specs.Cuts.{pairs};
+ghost use Rattle.mc_model.specs.Kept.{processed};
+ghost use Rattle.mc_keep.specs.Causes.{IfTold, KeepCause, StaysQuiet};
+ghost use Rattle.mc_write.specs.Rows.{last_rows, is_shown};
+ghost use Rattle.mc_write.specs.Seen.{seen, all_seen, row_pair, has_digest, have_digests};
+
+use crate::pair::{Pair, in_order, pair_of};
+use mc_keep::{ElementRow, KeepError, Keeper};
+use mc_model::id_of;
+use std::alloc::{AllocError, Global};
+
+/// The blocks with a live element of the key, ascending by the priority, the greatest live value and the identifier.
+pub(crate) fn seen_pairs<K: Keeper>(
+    keeper: &mut K,
+    alloc: Global,
+    key: &str,
+) -> Result<Vec<Pair>, KeepError>
+    ensures row { IfTold (K.told keeper.old) result (λ kept found. all_seen found.items ≡ pairs (processed kept) key.now) }
+    ensures digests { IfOk result (λ found. have_digests (all_seen found.items) ≡ true) }
+    ensures told { K.told keeper.new ≡ K.told keeper.old }
+    ensures fuse { K.fuse keeper.new ≡ K.fuse keeper.old }
+    ensures spare { K.spare keeper.old ≤ K.spare keeper.new }
+    ensures own { KeepCause (K.own keeper.old) (K.own keeper.new) result }
+    ensures quiet { StaysQuiet (K.quiet keeper.old) (K.quiet keeper.new) (K.own keeper.old) (K.own keeper.new) }
+    ensures cause { KeepCause (K.faults keeper.old) (K.faults keeper.new) result }
+{
+    let rows = keeper.elements(alloc, key)?;
+    let rows = last_of_blocks(rows.into_vec());
+    let shown = shown_pairs(keeper, alloc, key, rows)?;
+    Ok(in_order(shown))
+}
+
+// The last row of each block, which has the block's greatest value, of rows that ascend.
+fn last_of_blocks(rows: Vec<ElementRow>) -> Vec<ElementRow>
+    ensures { result.items ≡ last_rows rows.items }
+{
+    let mut rows = rows;
+    rows.reverse();
+    rows.dedup_by_key(|row| row.cid);
+    rows
+}
+
+// The pairs of the rows that no tombstone hides.
+fn shown_pairs<K: Keeper>(
+    keeper: &mut K,
+    alloc: Global,
+    key: &str,
+    rows: Vec<ElementRow>,
+) -> Result<Vec<Pair>, KeepError>
+    ensures row { IfTold (K.told keeper.old) result (λ kept found. all_seen found.items ≡ map row_pair (filter (is_shown (processed kept) key.now) rows.items)) }
+    ensures digests { IfOk result (λ found. have_digests (all_seen found.items) ≡ true) }
+    ensures told { K.told keeper.new ≡ K.told keeper.old }
+    ensures fuse { K.fuse keeper.new ≡ K.fuse keeper.old }
+    ensures spare { K.spare keeper.old ≤ K.spare keeper.new }
+    ensures own { KeepCause (K.own keeper.old) (K.own keeper.new) result }
+    ensures quiet { StaysQuiet (K.quiet keeper.old) (K.quiet keeper.new) (K.own keeper.old) (K.own keeper.new) }
+    ensures cause { KeepCause (K.faults keeper.old) (K.faults keeper.new) result }
+{
+    let mut pairs = Vec::new(alloc);
+    for row in rows {
+        let id = id_of(alloc, &row.cid)?;
+        if !keeper.hidden(key, id.as_str())? {
+            push_pair(&mut pairs, row)?;
+        }
+    }
+    Ok(pairs)
+}
+
+fn push_pair(pairs: &mut Vec<Pair>, row: ElementRow) -> Result<(), AllocError>
+    ensures pairs { OnOk result (all_seen pairs.new.items ≡ all_seen pairs.old.items ++ row_pair row ∷ []) }
+    ensures digests { OnOk result (have_digests (all_seen pairs.old.items) ≡ true → have_digests (all_seen pairs.new.items) ≡ true) }
+{
+    pairs.push(pair_of(row))?;
+    Ok(())
+}
