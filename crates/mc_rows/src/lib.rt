@@ -4,7 +4,12 @@
 mod best;
 mod elements;
 mod group;
+mod keys;
 mod live;
+mod merging;
 mod named;
 mod search;
 mod tombs;
+mod values;
+
+pub use merging::merge;
