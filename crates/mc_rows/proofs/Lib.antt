@@ -1,0 +1,4 @@
+pub mod Sorts
+pub mod Finds
+pub mod Lives
+pub mod OneKey

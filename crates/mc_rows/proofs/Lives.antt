@@ -1,0 +1,159 @@
+-- What lives of the rows of a key, against what lives of the blocks that the rows are of.
+use Rattle.std.proofs.Common.{◌≡◌, ℕ, Bool, true, false, cond, not, List, [], ◌∷◌, ◌++◌, map, ◌||◌, ◌&&◌, ◌⊎◌, inl, inr, sym, refl, ap, ◌∙◌, subst}
+use Rattle.std.specs.Prelude.{filter, fold, Option, Some, None}
+use Rattle.std.specs.List.{list_any, flat_map}
+use Rattle.std.specs.Str.{bytes_eq}
+use Rattle.std.proofs.lemmas.List.Folds.{list_any-append}
+use Rattle.std.proofs.lemmas.List.Concat.{flat_map-append}
+use Rattle.std.proofs.lemmas.List.Elements.{filter-append}
+use Rattle.std.proofs.lemmas.List.{append-nil}
+use Rattle.mc_model.specs.declared.block.Block.{Block}
+use Rattle.mc_model.specs.declared.delta.Element.{Element}
+use Rattle.mc_model.specs.Id.{id_text}
+use Rattle.mc_model.specs.SameMembers.{SameMembers}
+use Rattle.mc_model.specs.Rank.{Ranked, greatest, greater, IsGreatestOf}
+use Rattle.mc_model.specs.Value.{ranked_elements}
+use Rattle.mc_model.specs.Live.{has_tomb, is_hidden, ranked_in, live_among, live, value_row}
+use Rattle.mc_model.proofs.Counts.{or_none}
+use Rattle.mc_model.proofs.Greatest.{greatest_same, greatest_is_greatest, greatest-append}
+use Rattle.mc_model.proofs.Live.{live_among-append}
+use Rattle.mc_model.proofs.Members.{list_any-filter, same_flat_map}
+use Rattle.mc_keep.specs.declared.rows.ElementRow.{ElementRow}
+use Rattle.mc_keep.specs.declared.rows.TombRow.{TombRow}
+use Rattle.mc_keep.specs.Changes.{has_tomb_row}
+use Rattle.mc_keep.specs.Tables.{element_row, element_rows, element_rows_of}
+use Rattle.mc_rows.specs.Live.{hides, live_row, live_rows, rows_with, has_element_of, has_tomb_of, new_row, row_from}
+
+-- the rows of one block's elements have what lives of that block
+live_rows_block : (all : List Block) (key : List ℕ) (block : Block) (elements : List Element)
+    → live_rows (has_tomb all key) (filter (λ (row : ElementRow). bytes_eq row.key key) (map (element_row block) elements)) ≡ cond (is_hidden all key block) [] (ranked_elements block.delta.priority elements key)
+live_rows_block all key block [] = elim (is_hidden all key block) as (λ t. ◌≡◌ {A = List Ranked} [] (cond t [] [])) [ true ↦ refl | false ↦ refl ]
+live_rows_block all key block (e ∷ elements) =
+    elim (bytes_eq e.key key) as (λ k. live_rows (has_tomb all key) (cond k (element_row block e ∷ filter (λ (row : ElementRow). bytes_eq row.key key) (map (element_row block) elements)) (filter (λ (row : ElementRow). bytes_eq row.key key) (map (element_row block) elements)))
+    ≡ cond (is_hidden all key block) [] (map (λ (element : Element). (block.delta.priority, element.value)) (cond k (e ∷ filter (λ (element : Element). bytes_eq element.key key) elements) (filter (λ (element : Element). bytes_eq element.key key) elements)))) [
+      | true ↦
+          let rest = live_rows_block all key block elements in
+          ap (λ tail. live_row (has_tomb all key) (element_row block e) ++ tail) rest ∙ joined (is_hidden all key block) (block.delta.priority, e.value) (ranked_elements block.delta.priority elements key)
+      | false ↦ live_rows_block all key block elements
+    ]
+  where
+    joined : (hidden : Bool) (first : Ranked) (rest : List Ranked) → cond hidden [] (first ∷ []) ++ cond hidden [] rest ≡ cond hidden [] (first ∷ rest)
+    joined true first rest = refl
+    joined false first rest = refl
+
+rows_of_key-append : (blocks more : List Block) (key : List ℕ) → element_rows_of (blocks ++ more) key ≡ element_rows_of blocks key ++ element_rows_of more key
+rows_of_key-append blocks more key =
+    ap (filter (λ (row : ElementRow). bytes_eq row.key key)) (flat_map-append (λ (block : Block). map (element_row block) block.delta.elements) blocks more)
+    ∙ filter-append (λ (row : ElementRow). bytes_eq row.key key) (element_rows blocks) (element_rows more)
+
+-- the rows of the key have what lives of the blocks
+live_rows-element_rows_of : (all blocks : List Block) (key : List ℕ) → live_rows (has_tomb all key) (element_rows_of blocks key) ≡ live_among all key blocks
+live_rows-element_rows_of all [] key = refl
+live_rows-element_rows_of all (b ∷ blocks) key =
+    ap (live_rows (has_tomb all key)) (filter-append (λ (row : ElementRow). bytes_eq row.key key) (map (element_row b) b.delta.elements) (element_rows blocks))
+    ∙ flat_map-append (live_row (has_tomb all key)) (filter (λ (row : ElementRow). bytes_eq row.key key) (map (element_row b) b.delta.elements)) (element_rows_of blocks key)
+    ∙ ap (λ front. front ++ live_rows (has_tomb all key) (element_rows_of blocks key)) (live_rows_block all key b b.delta.elements)
+    ∙ ap (λ rest. cond (is_hidden all key b) [] (ranked_in key b) ++ rest) (live_rows-element_rows_of all blocks key)
+
+-- what is hidden alike lives alike
+live_rows_alike : (h h' : List ℕ → Bool) → ((id : List ℕ) → h id ≡ h' id) → (rows : List ElementRow) → live_rows h rows ≡ live_rows h' rows
+live_rows_alike h h' same [] = refl
+live_rows_alike h h' same (r ∷ rows) =
+    ap (λ t. cond t [] ((r.priority, r.value) ∷ []) ++ live_rows h rows) (same (id_text r.cid.0))
+    ∙ ap (λ rest. live_row h' r ++ rest) (live_rows_alike h h' same rows)
+
+-- where nothing lives, less does not either
+nothing_lives : (h h' : List ℕ → Bool) → ((id : List ℕ) → h id ≡ true → h' id ≡ true) → (rows : List ElementRow) → live_rows h rows ≡ [] → live_rows h' rows ≡ []
+nothing_lives h h' more [] e = refl
+nothing_lives h h' more (r ∷ rows) e =
+    elim (h (id_text r.cid.0)) as (λ t. h (id_text r.cid.0) ≡ t → cond t [] ((r.priority, r.value) ∷ []) ++ live_rows h rows ≡ [] → live_rows h' (r ∷ rows) ≡ []) [
+      | true ↦ λ t f. ap (λ u. cond u [] ((r.priority, r.value) ∷ []) ++ live_rows h' rows) (more (id_text r.cid.0) t) ∙ nothing_lives h h' more rows f
+      | false ↦ λ t f. absurd (let no : false ≡ true = ap is_empty f in cc)
+    ] refl e
+  where
+    is_empty : List Ranked → Bool
+    is_empty [] = true
+    is_empty (x ∷ xs) = false
+
+same_append : {A : Type 0} (front xs ys : List A) → SameMembers xs ys → SameMembers (front ++ xs) (front ++ ys)
+same_append front xs ys same = record { same = λ test. list_any-append test front xs ∙ ap (λ rest. list_any test front || rest) (same.same test) ∙ sym (list_any-append test front ys) }
+
+same_before : {A : Type 0} (xs ys back : List A) → SameMembers xs ys → SameMembers (xs ++ back) (ys ++ back)
+same_before xs ys back same = record { same = λ test. list_any-append test xs back ∙ ap (λ front. front || list_any test back) (same.same test) ∙ sym (list_any-append test ys back) }
+
+same_filter : {A : Type 0} (keep : A → Bool) (xs ys : List A) → SameMembers xs ys → SameMembers (filter keep xs) (filter keep ys)
+same_filter keep xs ys same = record { same = λ test. list_any-filter test keep xs ∙ same.same (λ x. keep x && test x) ∙ sym (list_any-filter test keep ys) }
+
+-- the new row of a key is its value row over all blocks
+pub new_row_is : (blocks more : List Block) (elements : List ElementRow) (tombs : List TombRow) (key : List ℕ) → SameMembers elements (element_rows more)
+    → ((id : List ℕ) → hides blocks tombs key id ≡ has_tomb (blocks ++ more) key id) → new_row blocks elements tombs key ≡ value_row (blocks ++ more) key
+new_row_is blocks more elements tombs key same alike =
+    ap greatest (live_rows_alike (hides blocks tombs key) (has_tomb (blocks ++ more) key) alike (element_rows_of blocks key ++ rows_with elements key))
+    ∙ greatest_same
+    (live_rows (has_tomb (blocks ++ more) key) (element_rows_of blocks key ++ rows_with elements key))
+    (live_rows (has_tomb (blocks ++ more) key) (element_rows_of blocks key ++ element_rows_of more key))
+    (same_flat_map (live_row (has_tomb (blocks ++ more) key)) _ _
+    (same_append (element_rows_of blocks key) (rows_with elements key) (element_rows_of more key) (same_filter (λ (row : ElementRow). bytes_eq row.key key) elements (element_rows more) same)))
+    ∙ ap (λ rows. greatest (live_rows (has_tomb (blocks ++ more) key) rows)) (sym (rows_of_key-append blocks more key))
+    ∙ ap greatest (live_rows-element_rows_of (blocks ++ more) (blocks ++ more) key)
+
+-- rows without the key have no row of the key with an id
+no_tomb_row : (rows : List TombRow) (key id : List ℕ) → has_tomb_of rows key ≡ false → has_tomb_row rows key id ≡ false
+no_tomb_row [] key id e = refl
+no_tomb_row (r ∷ rows) key id e =
+    let parts = or_none (bytes_eq r.key key) (has_tomb_of rows key) e in
+    both_none (bytes_eq r.key key) (bytes_eq r.id id) (has_tomb_row rows key id) parts.0 (no_tomb_row rows key id parts.1)
+  where
+    both_none : (a b c : Bool) → a ≡ false → c ≡ false → ((a && b) || c) ≡ false
+    both_none true b c e f = absurd (cc)
+    both_none false b c e f = f
+
+-- without a new tombstone of the key, or without a value before, the old row stands
+pub old_row_stands : (blocks : List Block) (tombs : List TombRow) (key : List ℕ) → (value_row blocks key ≡ None) ⊎ (has_tomb_of tombs key ≡ false)
+    → greatest (live_rows (hides blocks tombs key) (element_rows_of blocks key)) ≡ value_row blocks key
+old_row_stands blocks tombs key (inr none) =
+    ap greatest (live_rows_alike (hides blocks tombs key) (has_tomb blocks key) (λ id. ap (λ b. b || has_tomb blocks key id) (no_tomb_row tombs key id none)) (element_rows_of blocks key))
+    ∙ ap greatest (live_rows-element_rows_of blocks blocks key)
+old_row_stands blocks tombs key (inl none) =
+    ap greatest (nothing_lives (has_tomb blocks key) (hides blocks tombs key) (λ id e. or_later (has_tomb_row tombs key id) (has_tomb blocks key id) e) (element_rows_of blocks key) (live_rows-element_rows_of blocks blocks key ∙ empty (live blocks key) none))
+    ∙ sym none
+  where
+    or_later : (a b : Bool) → b ≡ true → (a || b) ≡ true
+    or_later true b e = refl
+    or_later false b e = e
+
+    empty : (ranked : List Ranked) → greatest ranked ≡ None → ranked ≡ []
+    empty ranked e = subst (λ best. IsGreatestOf ranked best) e (greatest_is_greatest ranked)
+
+-- the row from all old rows, and then the new ones
+pub row_anew : (blocks : List Block) (tombs : List TombRow) (key : List ℕ) (rows run : List ElementRow) → SameMembers rows (element_rows_of blocks key)
+    → fold greater (greatest (live_rows (hides blocks tombs key) rows)) (live_rows (hides blocks tombs key) run) ≡ row_from blocks run tombs key
+row_anew blocks tombs key rows run same =
+    sym (greatest-append (live_rows (hides blocks tombs key) rows) (live_rows (hides blocks tombs key) run))
+    ∙ ap greatest (sym (flat_map-append (live_row (hides blocks tombs key)) rows run))
+    ∙ greatest_same (live_rows (hides blocks tombs key) (rows ++ run)) (live_rows (hides blocks tombs key) (element_rows_of blocks key ++ run))
+    (same_flat_map (live_row (hides blocks tombs key)) _ _ (same_before rows (element_rows_of blocks key) run same))
+
+-- the row from the old one, and then the new ones
+pub row_on : (blocks : List Block) (tombs : List TombRow) (key : List ℕ) (run : List ElementRow) → (value_row blocks key ≡ None) ⊎ (has_tomb_of tombs key ≡ false)
+    → fold greater (value_row blocks key) (live_rows (hides blocks tombs key) run) ≡ row_from blocks run tombs key
+row_on blocks tombs key run stands =
+    ap (λ (old : Option Ranked). fold greater old (live_rows (hides blocks tombs key) run)) (sym (old_row_stands blocks tombs key stands))
+    ∙ sym (greatest-append (live_rows (hides blocks tombs key) (element_rows_of blocks key)) (live_rows (hides blocks tombs key) run))
+    ∙ ap greatest (sym (flat_map-append (live_row (hides blocks tombs key)) (element_rows_of blocks key) run))
+
+-- a key of which nothing new speaks keeps its row
+pub new_row_untouched : (blocks : List Block) (elements : List ElementRow) (tombs : List TombRow) (key : List ℕ) → has_element_of elements key ≡ false → has_tomb_of tombs key ≡ false
+    → new_row blocks elements tombs key ≡ value_row blocks key
+new_row_untouched blocks elements tombs key none none' =
+    ap (λ rows. greatest (live_rows (hides blocks tombs key) (element_rows_of blocks key ++ rows))) (none_kept elements none)
+    ∙ ap (λ rows. greatest (live_rows (hides blocks tombs key) rows)) (append-nil (element_rows_of blocks key))
+    ∙ old_row_stands blocks tombs key (inr none')
+  where
+    none_kept : (rows : List ElementRow) → has_element_of rows key ≡ false → rows_with rows key ≡ []
+    none_kept [] e = refl
+    none_kept (r ∷ rows) e =
+        elim (bytes_eq r.key key) as (λ t. (t || has_element_of rows key) ≡ false → cond t (r ∷ rows_with rows key) (rows_with rows key) ≡ []) [
+          | true ↦ λ h. absurd (let no : true ≡ false = h in cc)
+          | false ↦ λ h. none_kept rows h
+        ] e

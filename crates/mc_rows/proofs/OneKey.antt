@@ -1,0 +1,67 @@
+-- The change of one key's value row.
+use Rattle.std.proofs.Common.{◌≡◌, ℕ, Bool, true, false, cond, List, [], ◌∷◌, ◌++◌, ◌&&◌, ◌⊎◌, inl, inr, sym, refl, ap, ◌∙◌, subst}
+use Rattle.std.specs.Prelude.{fold, IfSome, is_some, Option, Some, None}
+use Rattle.std.specs.Option.{option_map}
+use Rattle.mc_model.specs.declared.block.Block.{Block}
+use Rattle.mc_model.specs.Ascending.{Ascends}
+use Rattle.mc_model.specs.Kept.{Kept, processed}
+use Rattle.mc_model.specs.Live.{value_row}
+use Rattle.mc_model.specs.Rank.{Ranked, greatest, greater}
+use Rattle.mc_keep.specs.declared.rows.ElementRow.{ElementRow}
+use Rattle.mc_keep.specs.declared.rows.TombRow.{TombRow}
+use Rattle.mc_keep.specs.declared.rows.ValueRow.{ValueRow}
+use Rattle.mc_keep.specs.declared.changes.ValueChange.{ValueChange}
+use Rattle.mc_keep.specs.Changes.{ranked_row}
+use Rattle.mc_keep.specs.ElementOrder.{element_cmp}
+use Rattle.mc_keep.specs.Tables.{IsValueRow, element_rows_of}
+use Rattle.mc_rows.specs.Live.{hides, live_rows, has_tomb_of, row_from}
+use Rattle.mc_rows.specs.Values.{IsChange}
+use Rattle.mc_rows.proofs.Lives.{row_anew, row_on}
+
+row_read : (blocks : List Block) (key : List ℕ) (old : Option ValueRow) → IsValueRow blocks key old → ranked_row old ≡ value_row blocks key
+row_read blocks key None is = sym is
+row_read blocks key (Some row) is = sym is.1
+
+changed_so : (key : List ℕ) (old old' new new' : Option Ranked) (change : Option ValueChange) → old ≡ old' → new ≡ new' → IsChange key old new change → IsChange key old' new' change
+changed_so key old old' new new' change e f is = subst (λ z. IsChange key old' z change) f (subst (λ z. IsChange key z new change) e is)
+
+-- a change that was made from all rows of the key
+pub anew_told : (told : Option Kept) (run : List ElementRow) (tombs : List TombRow) (key : List ℕ) (old : Option ValueRow) (rows : List ElementRow) (best found : Option Ranked) (change : Option ValueChange)
+    → IfSome told (λ kept. IsValueRow (processed kept) key old)
+    → IfSome told (λ kept. Ascends element_cmp rows (element_rows_of (processed kept) key))
+    → IfSome told (λ kept. best ≡ greatest (live_rows (hides (processed kept) tombs key) rows))
+    → IfSome told (λ kept. found ≡ fold greater best (live_rows (hides (processed kept) tombs key) run))
+    → IsChange key (ranked_row old) found change
+    → IfSome told (λ kept. IsChange key (value_row (processed kept) key) (row_from (processed kept) run tombs key) change)
+anew_told None run tombs key old rows best found change is ascends first then made = tt
+anew_told (Some kept) run tombs key old rows best found change is ascends first then made =
+    changed_so key (ranked_row old) (value_row (processed kept) key) found (row_from (processed kept) run tombs key) change
+    (row_read (processed kept) key old is)
+    (then ∙ ap (λ (z : Option Ranked). fold greater z (live_rows (hides (processed kept) tombs key) run)) first ∙ row_anew (processed kept) tombs key rows run ascends.members)
+    made
+
+-- a change that was made from the old row
+pub on_told : (told : Option Kept) (run : List ElementRow) (tombs : List TombRow) (key : List ℕ) (old : Option ValueRow) (best found : Option Ranked) (change : Option ValueChange)
+    → IfSome told (λ kept. IsValueRow (processed kept) key old)
+    → (is_some old && has_tomb_of tombs key) ≡ false
+    → best ≡ ranked_row old
+    → IfSome told (λ kept. found ≡ fold greater best (live_rows (hides (processed kept) tombs key) run))
+    → IsChange key (ranked_row old) found change
+    → IfSome told (λ kept. IsChange key (value_row (processed kept) key) (row_from (processed kept) run tombs key) change)
+on_told None run tombs key old best found change is stands first then made = tt
+on_told (Some kept) run tombs key old best found change is stands first then made =
+    changed_so key (ranked_row old) (value_row (processed kept) key) found (row_from (processed kept) run tombs key) change
+    (row_read (processed kept) key old is)
+    (then ∙ ap (λ (z : Option Ranked). fold greater z (live_rows (hides (processed kept) tombs key) run)) (first ∙ row_read (processed kept) key old is)
+    ∙ row_on (processed kept) tombs key run (either old is stands))
+    made
+  where
+    either : (row : Option ValueRow) → IsValueRow (processed kept) key row → (is_some row && has_tomb_of tombs key) ≡ false → (value_row (processed kept) key ≡ None) ⊎ (has_tomb_of tombs key ≡ false)
+    either None is e = inl is
+    either (Some row) is e = inr e
+
+-- the run of the key among all new rows
+pub of_all_told : (told : Option Kept) (run rows : List ElementRow) (tombs : List TombRow) (key : List ℕ) (change : Option ValueChange) → run ≡ rows
+    → IfSome told (λ kept. IsChange key (value_row (processed kept) key) (row_from (processed kept) run tombs key) change)
+    → IfSome told (λ kept. IsChange key (value_row (processed kept) key) (row_from (processed kept) rows tombs key) change)
+of_all_told told run rows tombs key change e made = subst (λ (z : List ElementRow). IfSome told (λ kept. IsChange key (value_row (processed kept) key) (row_from (processed kept) z tombs key) change)) e made

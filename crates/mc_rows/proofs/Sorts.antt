@@ -1,0 +1,110 @@
+-- Rows that were sorted and rid of repeats ascend over the same members.
+use Rattle.std.proofs.Common.{◌≡◌, ℕ, ◌+◌, ◌<◌, length, take, get_or, append_assoc, Bool, true, false, cond, ◌||◌, List, [], ◌∷◌, ◌++◌, map, sym, refl, ap, ◌∙◌, subst}
+use Rattle.std.specs.List.{list_any, dedup, dedup_from}
+use Rattle.std.specs.List.Sorted.{IsSorted, IsPermutation}
+use Rattle.std.specs.Ordering.{eq_by_cmp, is_eq}
+use Rattle.std.specs.declared.cmp.Ordering.{Ordering}
+use Rattle.std.specs.declared.cmp.Ordering.TheVariants.{Less, Equal, Greater}
+use Rattle.std.proofs.lemmas.List.{map_more}
+use Rattle.std.proofs.lemmas.List.Elements.{filter-append}
+use Rattle.std.proofs.lemmas.List.Sorted.{list_any-IsPermutation}
+use Rattle.mc_model.specs.SameMembers.{SameMembers}
+use Rattle.mc_model.proofs.Members.{list_any-map}
+use Rattle.std.specs.Prelude.{IfSome, filter, Option, Some, None}
+use Rattle.std.specs.Ordering.{nat_cmp, ordering_then}
+use Rattle.std.specs.Cmp.Lexicographic.{slice_cmp}
+use Rattle.std.specs.FinMap.{nat_cmp-IsAntisymmetric, slice_cmp-IsAntisymmetric}
+use Rattle.mc_base.specs.declared.cid.Cid.{Cid}
+use Rattle.mc_model.specs.declared.block.Block.{Block}
+use Rattle.mc_model.specs.declared.delta.Tomb.{Tomb}
+use Rattle.mc_model.specs.Kept.{Kept, processed}
+use Rattle.mc_keep.specs.declared.rows.ElementRow.{ElementRow}
+use Rattle.mc_keep.specs.declared.rows.TombRow.{TombRow}
+use Rattle.mc_rows.specs.declared.tombs.NewTomb.{NewTomb}
+use Rattle.mc_rows.specs.Rows.{key_cmp, tomb_cmp, new_tomb_cmp, tomb_of, tombs_of, tomb_row, tomb_rows}
+use Rattle.mc_rows.specs.Live.{is_unknown}
+
+is_equal : (o : Ordering) → is_eq o ≡ true → o ≡ Equal
+is_equal Less e = absurd (let f : false ≡ true = e in cc)
+is_equal Equal e = refl
+is_equal Greater e = absurd (let f : false ≡ true = e in cc)
+
+module _ {X R : Type 0} (cmp : X → X → Ordering) (row : X → R) (tied : (x y : X) → cmp x y ≡ Equal → row x ≡ row y) where
+  any_from : (test : R → Bool) (x : X) (xs : List X) → list_any (λ y. test (row y)) (dedup_from (eq_by_cmp cmp) x xs) ≡ (test (row x) || list_any (λ y. test (row y)) xs)
+  any_from test x [] = refl
+  any_from test x (y ∷ ys) =
+      elim (eq_by_cmp cmp y x) as (λ b. eq_by_cmp cmp y x ≡ b → list_any (λ z. test (row z)) (cond b (dedup_from (eq_by_cmp cmp) x ys) (x ∷ dedup_from (eq_by_cmp cmp) y ys)) ≡ (test (row x) || (test (row y) || list_any (λ z. test (row z)) ys))) [
+        | true ↦ λ e. any_from test x ys ∙ subst (λ z. (test (row x) || list_any (λ y. test (row y)) ys) ≡ (test (row x) || (test z || list_any (λ y. test (row y)) ys))) (sym (tied y x (is_equal (cmp y x) e))) (twice (test (row x)) (list_any (λ y. test (row y)) ys))
+        | false ↦ λ e. ap (λ rest. test (row x) || rest) (any_from test y ys)
+      ] refl
+    where
+      twice : (a b : Bool) → (a || b) ≡ (a || (a || b))
+      twice true b = refl
+      twice false b = refl
+
+  any_of : (test : R → Bool) (xs : List X) → list_any (λ y. test (row y)) (dedup (eq_by_cmp cmp) xs) ≡ list_any (λ y. test (row y)) xs
+  any_of test [] = refl
+  any_of test (x ∷ xs) = any_from test x xs
+
+  -- sorting and dropping repeats leaves the members of the rows
+  pub sorted_members : (items sorted : List X) → IsPermutation items sorted → SameMembers (map row (dedup (eq_by_cmp cmp) sorted)) (map row items)
+  sorted_members items sorted moved = record {
+    same = λ test.
+        list_any-map test row (dedup (eq_by_cmp cmp) sorted)
+        ∙ any_of test sorted
+        ∙ sym (list_any-IsPermutation (λ y. test (row y)) items sorted moved)
+        ∙ sym (list_any-map test row items);
+  }
+
+then_equal : (a b : Ordering) → ordering_then a b ≡ Equal → (a ≡ Equal) × (b ≡ Equal)
+then_equal Less b e = absurd (cc)
+then_equal Equal b e = (refl, e)
+then_equal Greater b e = absurd (cc)
+
+bytes_tied : (v w : List ℕ) → slice_cmp nat_cmp v w ≡ Equal → v ≡ w
+bytes_tied v w e = slice_cmp-IsAntisymmetric nat_cmp-IsAntisymmetric v w e
+
+cid_same : (a b : Cid) → a.0 ≡ b.0 → a ≡ b
+cid_same a b e = ap (λ (digest : List ℕ). record { 0 = digest }) e
+
+pub key_tied : (x y : ElementRow) → key_cmp x y ≡ Equal → x ≡ y
+key_tied x y e =
+    let last = then_equal _ (nat_cmp x.priority y.priority) e in
+    let third = then_equal _ (slice_cmp nat_cmp x.value y.value) last.0 in
+    let first = then_equal (slice_cmp nat_cmp x.key y.key) (slice_cmp nat_cmp x.cid.0 y.cid.0) third.0 in
+    let key : x.key ≡ y.key = bytes_tied x.key y.key first.0 in
+    let cid : x.cid ≡ y.cid = cid_same x.cid y.cid (bytes_tied x.cid.0 y.cid.0 first.1) in
+    let value : x.value ≡ y.value = bytes_tied x.value y.value third.1 in
+    let priority : x.priority ≡ y.priority = nat_cmp-IsAntisymmetric x.priority y.priority last.1 in
+    λ i. record { key = key i; cid = cid i; priority = priority i; value = value i }
+
+pub tomb_tied : (x y : TombRow) → tomb_cmp x y ≡ Equal → x ≡ y
+tomb_tied x y e =
+    let parts = then_equal (slice_cmp nat_cmp x.key y.key) (slice_cmp nat_cmp x.id y.id) e in
+    let key : x.key ≡ y.key = bytes_tied x.key y.key parts.0 in
+    let id : x.id ≡ y.id = bytes_tied x.id y.id parts.1 in
+    λ i. record { key = key i; id = id i }
+
+-- the same of the tombstones that a keeper doesn't have
+pub tombs_told : (told : Option Kept) (blocks : List Block) (items sorted : List NewTomb) → IsPermutation items sorted
+    → IfSome told (λ kept. tombs_of items ≡ filter (is_unknown (processed kept)) (tomb_rows blocks))
+    → IfSome told (λ kept. SameMembers (tombs_of (dedup (eq_by_cmp new_tomb_cmp) sorted)) (filter (is_unknown (processed kept)) (tomb_rows blocks)))
+tombs_told None blocks items sorted moved rows = tt
+tombs_told (Some kept) blocks items sorted moved rows =
+    subst (λ z. SameMembers (tombs_of (dedup (eq_by_cmp new_tomb_cmp) sorted)) z) rows (sorted_members new_tomb_cmp tomb_of (λ x y e. tomb_tied (tomb_of x) (tomb_of y) e) items sorted moved)
+
+-- one tombstone more
+pub tombs_more : (told : Option Kept) (old now new : List TombRow) (tombs : List Tomb) (i : ℕ) (tomb : Tomb) → i < length tombs → tomb ≡ get_or tombs i tomb
+    → IfSome told (λ kept. now ≡ old ++ filter (is_unknown (processed kept)) (map tomb_row (take i tombs)))
+    → IfSome told (λ kept. new ≡ now ++ filter (is_unknown (processed kept)) (tomb_row tomb ∷ []))
+    → IfSome told (λ kept. new ≡ old ++ filter (is_unknown (processed kept)) (map tomb_row (take (i + 1) tombs)))
+tombs_more None old now new tombs i tomb within at before step = tt
+tombs_more (Some kept) old now new tombs i tomb within at before step =
+    let known : TombRow → Bool = is_unknown (processed kept) in
+    step
+    ∙ ap (λ (z : List TombRow). z ++ filter known (tomb_row tomb ∷ [])) before
+    ∙ append_assoc old (filter known (map tomb_row (take i tombs))) (filter known (tomb_row tomb ∷ []))
+    ∙ ap (λ z. old ++ z)
+    (sym (filter-append known (map tomb_row (take i tombs)) (tomb_row tomb ∷ []))
+    ∙ ap (λ (z : Tomb). filter known (map tomb_row (take i tombs) ++ tomb_row z ∷ [])) at
+    ∙ ap (filter known) (sym (map_more tomb_row tombs i tomb within)))

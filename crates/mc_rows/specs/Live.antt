@@ -1,0 +1,46 @@
+-- What lives of the rows of a key.
+use Rattle.std.specs.Prelude.{ℕ, Bool, not, ◌||◌, List, [], ◌∷◌, ◌++◌, filter, Option, if◌then◌else◌}
+use Rattle.std.specs.List.{flat_map, list_any}
+use Rattle.std.specs.Str.{bytes_eq}
+use Rattle.mc_model.specs.declared.block.Block.{Block}
+use Rattle.mc_model.specs.Id.{id_text}
+use Rattle.mc_model.specs.Live.{has_tomb}
+use Rattle.mc_model.specs.Rank.{Ranked, greatest}
+use Rattle.mc_keep.specs.declared.rows.ElementRow.{ElementRow}
+use Rattle.mc_keep.specs.declared.rows.TombRow.{TombRow}
+use Rattle.mc_keep.specs.Changes.{has_tomb_row}
+use Rattle.mc_keep.specs.Tables.{element_rows_of}
+
+-- whether a tombstone is in no block
+abbrev pub is_unknown : List Block → TombRow → Bool
+is_unknown blocks row = not (has_tomb blocks row.key row.id)
+
+-- whether the new tombstones, or the blocks, have the tombstone
+abbrev pub hides : List Block → List TombRow → List ℕ → List ℕ → Bool
+hides blocks tombs key id = has_tomb_row tombs key id || has_tomb blocks key id
+
+-- the values of rows of a key whose blocks have no such tombstone, with their priorities
+abbrev pub live_row : (List ℕ → Bool) → ElementRow → List Ranked
+live_row hidden row = if hidden (id_text row.cid.0) then [] else (row.priority, row.value) ∷ []
+
+abbrev pub live_rows : (List ℕ → Bool) → List ElementRow → List Ranked
+live_rows hidden rows = flat_map (live_row hidden) rows
+
+-- the rows of a key
+abbrev pub rows_with : List ElementRow → List ℕ → List ElementRow
+rows_with rows key = filter (λ (row : ElementRow). bytes_eq row.key key) rows
+
+-- whether a row has the key
+abbrev pub has_element_of : List ElementRow → List ℕ → Bool
+has_element_of rows key = list_any (λ (row : ElementRow). bytes_eq row.key key) rows
+
+abbrev pub has_tomb_of : List TombRow → List ℕ → Bool
+has_tomb_of rows key = list_any (λ (row : TombRow). bytes_eq row.key key) rows
+
+-- the value row of a key over the blocks, these new rows of the key, and new tombstones
+abbrev pub row_from : List Block → List ElementRow → List TombRow → List ℕ → Option Ranked
+row_from blocks run tombs key = greatest (live_rows (hides blocks tombs key) (element_rows_of blocks key ++ run))
+
+-- the same over all new rows
+abbrev pub new_row : List Block → List ElementRow → List TombRow → List ℕ → Option Ranked
+new_row blocks elements tombs key = row_from blocks (rows_with elements key) tombs key

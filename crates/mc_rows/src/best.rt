@@ -1,0 +1,57 @@
+// The greatest of the values of a key, while they are looked at one after another.
+ghost use Rattle.std.specs.Prelude.{◌≡◌, true, Some, Option};
+ghost use Rattle.mc_model.specs.Rank.{greater, rank_cmp};
+ghost use Rattle.mc_keep.specs.Changes.{ranked_row};
+ghost use Rattle.mc_rows.specs.Values.{ranked_best};
+
+use mc_keep::ValueRow;
+use std::cmp::Ordering;
+
+// A value with its block's priority.
+#[derive(Clone, Copy)]
+pub(crate) struct Best<'a> {
+    pub(crate) priority: u64,
+    pub(crate) value: &'a [u8],
+}
+
+pub(crate) fn greater_of<'a>(best: Option<Best<'a>>, next: Best<'a>) -> Best<'a>
+    ensures { ranked_best (Some result) ≡ greater (ranked_best best.entry) (next.entry.priority, next.entry.value.now) }
+{
+    match best {
+        Some(best) if compare(best, next).is_lt() => next,
+        Some(best) => best,
+        None => next,
+    }
+}
+
+fn compare(a: Best<'_>, b: Best<'_>) -> Ordering
+    ensures { result ≡ rank_cmp (a.entry.priority, a.entry.value.now) (b.entry.priority, b.entry.value.now) }
+{
+    a.priority.cmp(&b.priority).then(a.value.cmp(b.value))
+}
+
+// The value of a row.
+pub(crate) fn best_of<'a>(row: &'a Option<ValueRow>) -> Option<Best<'a>>
+    ensures { ranked_best result ≡ ranked_row row.now }
+{
+    match row {
+        Some(row) => Some(Best {
+            priority: row.priority,
+            value: row.value.as_slice(),
+        }),
+        None => None,
+    }
+}
+
+// Whether the value is that of the row. It may say no where it is.
+pub(crate) fn is_unchanged(row: &Option<ValueRow>, best: Option<Best<'_>>) -> bool
+    ensures { result ≡ true → ranked_best best.entry ≡ ranked_row row.now }
+{
+    match (row, best) {
+        (Some(row), Some(best)) => {
+            row.priority == best.priority && row.value.as_slice() == best.value
+        }
+        (None, None) => true,
+        _ => false,
+    }
+}

@@ -1,0 +1,15 @@
+//! The element, tombstone and value rows by which a keeper takes up further blocks.
+#![tactic(auto)]
+
+mod best;
+mod elements;
+mod group;
+mod keys;
+mod live;
+mod merging;
+mod named;
+mod search;
+mod tombs;
+mod values;
+
+pub use merging::merge;

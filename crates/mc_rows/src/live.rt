@@ -1,0 +1,106 @@
+// The greatest of the rows of a key that no tombstone hides.
+ghost use Rattle.std.specs.Prelude.{◌≡◌, ◌≤◌, fold, IfSome};
+ghost use Rattle.std.specs.List.Sorted.{IsStrictlySortedBy};
+ghost use Rattle.mc_base.specs.Causes.{HasCause};
+ghost use Rattle.mc_model.specs.Kept.{processed};
+ghost use Rattle.mc_model.specs.Rank.{greater, greatest};
+ghost use Rattle.mc_keep.specs.Causes.{IfTold, KeepCause, StaysQuiet};
+ghost use Rattle.mc_rows.specs.Rows.{new_tomb_cmp, rows_of, tombs_of};
+ghost use Rattle.mc_rows.specs.Live.{hides, live_rows};
+ghost use Rattle.mc_rows.specs.Values.{ranked_best};
+
+use crate::best::{Best, greater_of};
+use crate::elements::NewElement;
+use crate::search::has_tomb;
+use crate::tombs::NewTomb;
+use mc_base::Failed;
+use mc_keep::{ElementRow, KeepError, Keeper};
+use mc_model::id_of;
+use std::alloc::Global;
+
+// Whether a tombstone, of the group or of a processed block, hides the elements of the key in the block with this id.
+fn is_hidden<K: Keeper>(
+    keeper: &mut K,
+    key: &str,
+    id: &str,
+    tombs: &[NewTomb<'_>],
+) -> Result<bool, Failed>
+    requires sorted { IsStrictlySortedBy new_tomb_cmp tombs.now }
+    ensures hidden { IfTold (K.told keeper.old) result (λ kept hidden. hidden ≡ hides (processed kept) (tombs_of tombs.now) key.now id.now) }
+    ensures told { K.told keeper.new ≡ K.told keeper.old }
+    ensures fuse { K.fuse keeper.new ≡ K.fuse keeper.old }
+    ensures spare { K.spare keeper.old ≤ K.spare keeper.new }
+    ensures own { HasCause (K.own keeper.old) (K.own keeper.new) result }
+    ensures quiet { StaysQuiet (K.quiet keeper.old) (K.quiet keeper.new) (K.own keeper.old) (K.own keeper.new) }
+    ensures cause { HasCause (K.faults keeper.old) (K.faults keeper.new) result }
+{
+    if has_tomb(tombs, key, id) {
+        return Ok(true);
+    }
+    keeper.hidden(key, id)
+}
+
+// The greatest of these rows of the key, which are of processed blocks.
+pub(crate) fn best_of_old<'a, K: Keeper>(
+    keeper: &mut K,
+    alloc: Global,
+    key: &str,
+    rows: &'a [ElementRow],
+    tombs: &[NewTomb<'_>],
+) -> Result<Option<Best<'a>>, KeepError>
+    requires sorted { IsStrictlySortedBy new_tomb_cmp tombs.now }
+    ensures best { IfTold (K.told keeper.old) result (λ kept best. ranked_best best ≡ greatest (live_rows (hides (processed kept) (tombs_of tombs.now) key.now) rows.now)) }
+    ensures told { K.told keeper.new ≡ K.told keeper.old }
+    ensures fuse { K.fuse keeper.new ≡ K.fuse keeper.old }
+    ensures spare { K.spare keeper.old ≤ K.spare keeper.new }
+    ensures own { KeepCause (K.own keeper.old) (K.own keeper.new) result }
+    ensures quiet { StaysQuiet (K.quiet keeper.old) (K.quiet keeper.new) (K.own keeper.old) (K.own keeper.new) }
+    ensures cause { KeepCause (K.faults keeper.old) (K.faults keeper.new) result }
+{
+    let mut best = None;
+    for row in rows {
+        let id = id_of(alloc, &row.cid)?;
+        if !is_hidden(keeper, key, id.as_str(), tombs)? {
+            best = Some(greater_of(
+                best,
+                Best {
+                    priority: row.priority,
+                    value: row.value.as_slice(),
+                },
+            ));
+        }
+    }
+    Ok(best)
+}
+
+// The greatest of a value and of these elements of the key, which are of blocks of the group.
+pub(crate) fn best_with_new<'a, K: Keeper>(
+    keeper: &mut K,
+    key: &str,
+    elements: &[NewElement<'a>],
+    tombs: &[NewTomb<'_>],
+    best: Option<Best<'a>>,
+) -> Result<Option<Best<'a>>, Failed>
+    requires sorted { IsStrictlySortedBy new_tomb_cmp tombs.now }
+    ensures best { IfTold (K.told keeper.old) result (λ kept found. ranked_best found ≡ fold greater (ranked_best best.entry) (live_rows (hides (processed kept) (tombs_of tombs.now) key.now) (rows_of elements.now))) }
+    ensures told { K.told keeper.new ≡ K.told keeper.old }
+    ensures fuse { K.fuse keeper.new ≡ K.fuse keeper.old }
+    ensures spare { K.spare keeper.old ≤ K.spare keeper.new }
+    ensures own { HasCause (K.own keeper.old) (K.own keeper.new) result }
+    ensures quiet { StaysQuiet (K.quiet keeper.old) (K.quiet keeper.new) (K.own keeper.old) (K.own keeper.new) }
+    ensures cause { HasCause (K.faults keeper.old) (K.faults keeper.new) result }
+{
+    let mut best = best;
+    for element in elements {
+        if !is_hidden(keeper, key, element.block.id.as_str(), tombs)? {
+            best = Some(greater_of(
+                best,
+                Best {
+                    priority: element.priority(),
+                    value: element.value,
+                },
+            ));
+        }
+    }
+    Ok(best)
+}

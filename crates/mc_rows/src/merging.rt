@@ -1,0 +1,102 @@
+// The rows by which a keeper takes up further blocks.
+ghost use Rattle.std.specs.Prelude.{◌≡◌, ◌≤◌, [], ◌++◌, IfSome, OnOk, OnErr};
+ghost use Rattle.std.specs.Ordering.{nat_cmp};
+ghost use Rattle.std.specs.Cmp.Lexicographic.{slice_cmp};
+ghost use Rattle.std.specs.List.Sorted.{IsStrictlySortedBy};
+ghost use Rattle.mc_model.specs.Kept.{processed};
+ghost use Rattle.mc_keep.specs.Causes.{IfTold, KeepCause, StaysQuiet};
+ghost use Rattle.mc_keep.specs.New.{AreNew};
+ghost use Rattle.mc_keep.specs.Tables.{RowsFit};
+ghost use Rattle.mc_rows.specs.Rows.{new_element_cmp, new_tomb_cmp, rows_of, tombs_of};
+ghost use Rattle.mc_rows.specs.Values.{ValuesFit, change_list};
+
+use crate::elements::{NewElement, element_rows_from, new_elements};
+use crate::group::named_blocks;
+use crate::keys::keys_of;
+use crate::tombs::{NewTomb, new_tombs, tomb_rows_from};
+use crate::values::change_of;
+use mc_base::List;
+use mc_keep::{Changes, KeepError, Keeper, ValueChange};
+use mc_model::Block;
+use std::alloc::{AllocError, Global};
+
+/// Adds to the changes the element, tombstone and value rows by which the keeper, once these blocks are processed too,
+/// has the rows of all its blocks: every element, every tombstone that it does not have, each once, and the value row of
+/// each key whose greatest live element is another one now. The blocks are distinct, none is processed, and the changes
+/// have no such rows yet. On a refusal (`Failed` where the keeper's count rose, or want of memory) the changes stay as
+/// they were.
+pub fn merge<K: Keeper>(
+    keeper: &mut K,
+    alloc: Global,
+    blocks: &[Block],
+    changes: &mut Changes,
+) -> Result<(), KeepError>
+    requires fresh { (changes.old.elements ≡ []) × (changes.old.tombs ≡ []) × (changes.old.values ≡ []) }
+    requires new { IfSome (K.told keeper.old) (λ kept. AreNew kept blocks.now) }
+    ensures fit { OnOk result (IfSome (K.told keeper.old) (λ kept. RowsFit (processed kept) blocks.now changes.new)) }
+    ensures others { changes.new ≡ record changes.old { elements = changes.new.elements; tombs = changes.new.tombs; values = changes.new.values } }
+    ensures refused { OnErr result (changes.new ≡ changes.old) }
+    ensures told { K.told keeper.new ≡ K.told keeper.old }
+    ensures fuse { K.fuse keeper.new ≡ K.fuse keeper.old }
+    ensures spare { K.spare keeper.old ≤ K.spare keeper.new }
+    ensures own { KeepCause (K.own keeper.old) (K.own keeper.new) result }
+    ensures quiet { StaysQuiet (K.quiet keeper.old) (K.quiet keeper.new) (K.own keeper.old) (K.own keeper.new) }
+    ensures cause { KeepCause (K.faults keeper.old) (K.faults keeper.new) result }
+{
+    let group = named_blocks(alloc, blocks)?;
+    let elements = new_elements(alloc, group.as_slice())?;
+    let tombs = new_tombs(keeper, alloc, blocks)?;
+    let keys = keys_of(alloc, elements.as_slice(), tombs.as_slice())?;
+    let values = value_changes(
+        keeper,
+        alloc,
+        keys.as_slice(),
+        elements.as_slice(),
+        tombs.as_slice(),
+    )?;
+    let element_rows = element_rows_from(alloc, elements.as_slice())?;
+    let tomb_rows = tomb_rows_from(alloc, tombs.as_slice())?;
+    changes.elements = element_rows;
+    changes.tombs = tomb_rows;
+    changes.values = values;
+    Ok(())
+}
+
+// The changes of the value rows of these keys.
+fn value_changes<K: Keeper>(
+    keeper: &mut K,
+    alloc: Global,
+    keys: &[&str],
+    elements: &[NewElement<'_>],
+    tombs: &[NewTomb<'_>],
+) -> Result<List<ValueChange>, KeepError>
+    requires keys { IsStrictlySortedBy (λ x y. slice_cmp nat_cmp x.now y.now) keys.now }
+    requires elements { IsStrictlySortedBy new_element_cmp elements.now }
+    requires tombs { IsStrictlySortedBy new_tomb_cmp tombs.now }
+    ensures fit { IfTold (K.told keeper.old) result (λ kept values. ValuesFit (processed kept) (rows_of elements.now) (tombs_of tombs.now) keys.now values) }
+    ensures told { K.told keeper.new ≡ K.told keeper.old }
+    ensures fuse { K.fuse keeper.new ≡ K.fuse keeper.old }
+    ensures spare { K.spare keeper.old ≤ K.spare keeper.new }
+    ensures own { KeepCause (K.own keeper.old) (K.own keeper.new) result }
+    ensures quiet { StaysQuiet (K.quiet keeper.old) (K.quiet keeper.new) (K.own keeper.old) (K.own keeper.new) }
+    ensures cause { KeepCause (K.faults keeper.old) (K.faults keeper.new) result }
+{
+    let mut values = List::new(alloc);
+    for key in keys {
+        let change = change_of(keeper, alloc, *key, elements, tombs)?;
+        push_change(&mut values, change)?;
+    }
+    Ok(values)
+}
+
+fn push_change(
+    values: &mut List<ValueChange>,
+    change: Option<ValueChange>,
+) -> Result<(), AllocError>
+    ensures { OnOk result (values.new ≡ values.old ++ change_list change) }
+{
+    if let Some(change) = change {
+        values.push(change)?;
+    }
+    Ok(())
+}

@@ -1,0 +1,142 @@
+// The new value row of one key.
+ghost use Rattle.std.specs.Prelude.{◌≡◌, ◌≤◌, ◌&&◌, ◌∷◌, ◌++◌, [], false, is_some, IfOk, IfSome, OnOk};
+ghost use Rattle.std.specs.List.Sorted.{IsStrictlySortedBy};
+ghost use Rattle.mc_model.specs.Kept.{processed};
+ghost use Rattle.mc_model.specs.Live.{value_row};
+ghost use Rattle.mc_keep.specs.Causes.{IfTold, KeepCause, StaysQuiet};
+ghost use Rattle.mc_keep.specs.Changes.{ranked_row};
+ghost use Rattle.mc_keep.specs.Tables.{IsValueRow};
+ghost use Rattle.mc_rows.specs.Rows.{new_element_cmp, new_tomb_cmp, rows_of, tombs_of};
+ghost use Rattle.mc_rows.specs.Live.{has_tomb_of, new_row, row_from};
+ghost use Rattle.mc_rows.specs.Values.{ranked_best, ChangesTo, IsChange};
+
+use crate::best::{Best, best_of, is_unchanged};
+use crate::elements::NewElement;
+use crate::live::{best_of_old, best_with_new};
+use crate::search::{elements_with, has_tomb_with};
+use crate::tombs::NewTomb;
+use mc_base::{Bytes, Text};
+use mc_keep::{KeepError, Keeper, ValueChange, ValueRow};
+use std::alloc::{AllocError, Global};
+
+// The change of a key's value row by the new elements and tombstones, or none where the row stays.
+pub(crate) fn change_of<K: Keeper>(
+    keeper: &mut K,
+    alloc: Global,
+    key: &str,
+    elements: &[NewElement<'_>],
+    tombs: &[NewTomb<'_>],
+) -> Result<Option<ValueChange>, KeepError>
+    requires elements { IsStrictlySortedBy new_element_cmp elements.now }
+    requires tombs { IsStrictlySortedBy new_tomb_cmp tombs.now }
+    ensures change { IfTold (K.told keeper.old) result (λ kept change. IsChange key.now (value_row (processed kept) key.now) (new_row (processed kept) (rows_of elements.now) (tombs_of tombs.now) key.now) change) }
+    ensures told { K.told keeper.new ≡ K.told keeper.old }
+    ensures fuse { K.fuse keeper.new ≡ K.fuse keeper.old }
+    ensures spare { K.spare keeper.old ≤ K.spare keeper.new }
+    ensures own { KeepCause (K.own keeper.old) (K.own keeper.new) result }
+    ensures quiet { StaysQuiet (K.quiet keeper.old) (K.quiet keeper.new) (K.own keeper.old) (K.own keeper.new) }
+    ensures cause { KeepCause (K.faults keeper.old) (K.faults keeper.new) result }
+{
+    let old = keeper.value(alloc, key)?;
+    let elements = elements_with(elements, key);
+    if looks_again(&old, tombs, key) {
+        return change_anew(keeper, alloc, key, elements, tombs, &old);
+    }
+    change_on(keeper, alloc, key, elements, tombs, &old)
+}
+
+// Whether the old elements of the key are looked at again: it has a value, and a new tombstone.
+fn looks_again(old: &Option<ValueRow>, tombs: &[NewTomb<'_>], key: &str) -> bool
+    requires { IsStrictlySortedBy new_tomb_cmp tombs.now }
+    ensures { result ≡ (is_some old.now && has_tomb_of (tombs_of tombs.now) key.now) }
+{
+    old.is_some() && has_tomb_with(tombs, key)
+}
+
+// The change where new tombstones may hide what lived: all rows of the key are looked at.
+fn change_anew<K: Keeper>(
+    keeper: &mut K,
+    alloc: Global,
+    key: &str,
+    elements: &[NewElement<'_>],
+    tombs: &[NewTomb<'_>],
+    old: &Option<ValueRow>,
+) -> Result<Option<ValueChange>, KeepError>
+    requires tombs { IsStrictlySortedBy new_tomb_cmp tombs.now }
+    requires old { IfSome (K.told keeper.old) (λ kept. IsValueRow (processed kept) key.now old.now) }
+    ensures change { IfTold (K.told keeper.old) result (λ kept change. IsChange key.now (value_row (processed kept) key.now) (row_from (processed kept) (rows_of elements.now) (tombs_of tombs.now) key.now) change) }
+    ensures told { K.told keeper.new ≡ K.told keeper.old }
+    ensures fuse { K.fuse keeper.new ≡ K.fuse keeper.old }
+    ensures spare { K.spare keeper.old ≤ K.spare keeper.new }
+    ensures own { KeepCause (K.own keeper.old) (K.own keeper.new) result }
+    ensures quiet { StaysQuiet (K.quiet keeper.old) (K.quiet keeper.new) (K.own keeper.old) (K.own keeper.new) }
+    ensures cause { KeepCause (K.faults keeper.old) (K.faults keeper.new) result }
+{
+    let rows = keeper.elements(alloc, key)?;
+    let best = best_of_old(keeper, alloc, key, rows.as_slice(), tombs)?;
+    let found = best_with_new(keeper, key, elements, tombs, best)?;
+    Ok(change_to(alloc, key, old, found)?)
+}
+
+// The change where the old row stands against the new elements.
+fn change_on<K: Keeper>(
+    keeper: &mut K,
+    alloc: Global,
+    key: &str,
+    elements: &[NewElement<'_>],
+    tombs: &[NewTomb<'_>],
+    old: &Option<ValueRow>,
+) -> Result<Option<ValueChange>, KeepError>
+    requires tombs { IsStrictlySortedBy new_tomb_cmp tombs.now }
+    requires old { IfSome (K.told keeper.old) (λ kept. IsValueRow (processed kept) key.now old.now) }
+    requires stands { (is_some old.now && has_tomb_of (tombs_of tombs.now) key.now) ≡ false }
+    ensures change { IfTold (K.told keeper.old) result (λ kept change. IsChange key.now (value_row (processed kept) key.now) (row_from (processed kept) (rows_of elements.now) (tombs_of tombs.now) key.now) change) }
+    ensures told { K.told keeper.new ≡ K.told keeper.old }
+    ensures fuse { K.fuse keeper.new ≡ K.fuse keeper.old }
+    ensures spare { K.spare keeper.old ≤ K.spare keeper.new }
+    ensures own { KeepCause (K.own keeper.old) (K.own keeper.new) result }
+    ensures quiet { StaysQuiet (K.quiet keeper.old) (K.quiet keeper.new) (K.own keeper.old) (K.own keeper.new) }
+    ensures cause { KeepCause (K.faults keeper.old) (K.faults keeper.new) result }
+{
+    let found = best_with_new(keeper, key, elements, tombs, best_of(old))?;
+    Ok(change_to(alloc, key, old, found)?)
+}
+
+fn change_to(
+    alloc: Global,
+    key: &str,
+    old: &Option<ValueRow>,
+    best: Option<Best<'_>>,
+) -> Result<Option<ValueChange>, AllocError>
+    ensures { IfOk result (λ change. IsChange key.now (ranked_row old.now) (ranked_best best.entry) change) }
+{
+    if is_unchanged(old, best) {
+        return Ok(None);
+    }
+    Ok(Some(change_with(alloc, key, best)?))
+}
+
+fn change_with(alloc: Global, key: &str, best: Option<Best<'_>>) -> Result<ValueChange, AllocError>
+    ensures { IfOk result (λ change. ChangesTo key.now (ranked_best best.entry) change) }
+{
+    match best {
+        Some(best) => Ok(ValueChange {
+            key: Text::from_text(alloc, key)?,
+            row: Some(row_with(alloc, key, best)?),
+        }),
+        None => Ok(ValueChange {
+            key: Text::from_text(alloc, key)?,
+            row: None,
+        }),
+    }
+}
+
+fn row_with(alloc: Global, key: &str, best: Best<'_>) -> Result<ValueRow, AllocError>
+    ensures { IfOk result (λ row. (row.key ≡ key.now) × (row.priority ≡ best.entry.priority) × (row.value ≡ best.entry.value.now)) }
+{
+    Ok(ValueRow {
+        key: Text::from_text(alloc, key)?,
+        priority: best.priority,
+        value: Bytes::from_slice(alloc, best.value)?,
+    })
+}
