@@ -1,2 +1,3 @@
 pub mod EventFacts
 pub mod CommitFacts
+pub mod PlanFacts

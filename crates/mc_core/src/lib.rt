@@ -3,6 +3,7 @@
 
 mod commits;
 mod error;
+mod plan;
 mod replica;
 
 pub use error::CoreError;

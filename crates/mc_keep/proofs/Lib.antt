@@ -1,2 +1,4 @@
 pub mod Commits
 pub mod ElementTies
+pub mod Processed
+pub mod Fitting

@@ -24,7 +24,7 @@ use std::sync::Wait;
 /// Where the blocks of a replica and the rows made of them are kept.
 ///
 /// A keeper that tells stands for the stored blocks, the order of the processed ones, and the dirty mark; its tables are
-/// then exactly those that the definitions give for these. A keeper that does not tell owes no content. No call but
+/// then exactly those that the definitions give for these. A keeper that does not tell owes no content, and never tells. No call but
 /// `commit` changes what is told, also where it fails. `Failed` comes only where the keeper's count rose in the call.
 pub trait Keeper: Counted + Send + Sync {
     ghost use Rattle.mc_keep.specs.declared.fuse.Fuse.{Fuse};
@@ -242,6 +242,7 @@ pub trait Keeper: Counted + Send + Sync {
         requires room { row_count changes ≤ spare self.old }
         requires fits { IfSome (told self.old) (λ kept. ChangesFit kept changes) }
         ensures done { OnOk result (Told (told self.old) (told self.new) (λ kept new. new ≡ changed kept changes)) }
+        ensures silent { told self.old ≡ None → told self.new ≡ None }
         ensures lasts { OnOk result (fires (fuse self.old) ≡ None) }
         ensures failed { OnErr result (Told (told self.old) (told self.new) (λ kept new.
             CommitFails (fires (fuse self.old)) (Rose (own self.old) (own self.new)) kept (changed kept changes) new)) }

@@ -17,36 +17,6 @@ use Rattle.mc_keep_mem.specs.Chains.{with_element}
 use Rattle.mc_keep_mem.specs.Front.{closed_by, opened_by}
 use Rattle.mc_keep_mem.specs.Tombs.{with_tomb}
 
--- blocks that are stored are the same when more are stored
-
-found_still : (graph more : List Stored) (cid : Cid) → is_stored graph cid ≡ true → bytes_at (graph ++ more) cid ≡ bytes_at graph cid
-found_still [] more cid e = absurd (let f : false ≡ true = e in cc)
-found_still (s ∷ graph) more cid e =
-    elim (same_cid cid s.cid) as (λ t. is_some (option_map (λ (stored : Stored). stored.bytes) (cond t (Some s) (find (λ (stored : Stored). same_cid cid stored.cid) graph))) ≡ true
-    → option_map (λ (stored : Stored). stored.bytes) (cond t (Some s) (find (λ (stored : Stored). same_cid cid stored.cid) (graph ++ more))) ≡ option_map (λ (stored : Stored). stored.bytes) (cond t (Some s) (find (λ (stored : Stored). same_cid cid stored.cid) graph))) [
-      | true ↦ λ h. refl
-      | false ↦ λ h. found_still graph more cid h
-    ] e
-
-and_parts : (a b : Bool) → (a && b) ≡ true → (a ≡ true) × (b ≡ true)
-and_parts true b e = (refl, e)
-and_parts false b e = absurd (let f : false ≡ true = e in cc)
-
-pub blocks_still : (graph more : List Stored) (cids : List Cid) → list_all (is_stored graph) cids ≡ true → blocks_in (graph ++ more) cids ≡ blocks_in graph cids
-blocks_still graph more [] e = refl
-blocks_still graph more (cid ∷ cids) e =
-    let parts = and_parts (is_stored graph cid) (list_all (is_stored graph) cids) e in
-    ap (λ bytes. block_under cid bytes ∷ blocks_in (graph ++ more) cids) (found_still graph more cid parts.0) ∙ ap (λ rest. block_in graph cid ∷ rest) (blocks_still graph more cids parts.1)
-
-map-both : {A B : Type 0} (f : A → B) (xs ys : List A) → map f (xs ++ ys) ≡ map f xs ++ map f ys
-map-both f [] ys = refl
-map-both f (x ∷ xs) ys = ap (λ z. f x ∷ z) (map-both f xs ys)
-
-pub processed_after : (kept : Kept) (changes : Changes) → IsKept kept → processed (changed kept changes) ≡ processed kept ++ newly_processed kept changes
-processed_after kept changes sound =
-    map-both (block_in (kept.graph ++ changes.store)) kept.order changes.marks
-    ∙ ap (λ z. z ++ newly_processed kept changes) (blocks_still kept.graph changes.store kept.order sound.stored)
-
 -- rows that are put in turn
 
 or_shift : (a b c : Bool) → (a || (b || c)) ≡ (b || (a || c))

@@ -24,7 +24,8 @@ use Rattle.mc_keep_mem.specs.declared.tables.Tables.{Tables}
 use Rattle.mc_keep_mem.specs.Chains.{rows_in}
 use Rattle.mc_keep_mem.specs.Front.{closed_by}
 use Rattle.mc_keep_mem.specs.Fits.{kept_in, tomb_in, Fits, Applied}
-use Rattle.mc_keep_mem.proofs.Fit.{processed_after, elements_put, tombs_put, closed_all, opened_all}
+use Rattle.mc_keep.proofs.Processed.{processed_after}
+use Rattle.mc_keep_mem.proofs.Fit.{elements_put, tombs_put, closed_all, opened_all}
 
 -- the rows of a key over further blocks
 pub rows_of-append : (test : ElementRow → Bool) (key : List ℕ) (blocks more : List Block)

@@ -22,3 +22,4 @@ pub mod Commits
 pub mod Found
 pub mod Recall
 pub mod GapCount
+pub mod MadeLinks

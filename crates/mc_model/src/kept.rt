@@ -6,9 +6,10 @@ ghost use Rattle.mc_model.specs.declared.block.Stored.{Stored};
 ghost use Rattle.mc_model.specs.Ascending.{once};
 ghost use Rattle.mc_model.specs.Events.{processed_mark, ended_mark, with_blocks, with_processed, with_walk_ended};
 ghost use Rattle.mc_model.specs.Found.{Good, PeerOffers, offers_from, found_in};
-ghost use Rattle.mc_model.specs.Front.{Head, same_cid, is_processed, is_linked, is_gap, links, gaps, heads, head_at};
+ghost use Rattle.mc_model.specs.Front.{Head, same_cid, is_among, is_processed, is_linked, is_gap, links, gaps, heads, head_at};
 ghost use Rattle.mc_model.specs.Graph.{has, in_graph, links_in, all_links, no_gaps, gaps_in, heads_in, HasNoCycle, IsReached};
 ghost use Rattle.mc_model.specs.Kept.{Kept, IsKept, bytes_at, is_stored, block_in, blocks_in, processed};
+ghost use Rattle.mc_model.specs.Made.{head_cids};
 ghost use Rattle.mc_model.specs.State.{DurableHolds, durable_of, kept_of, vertices};
 
 /// What a keeper tells has, as a replica's durable state, the same links, gaps and heads; and it is sound as the one
@@ -27,6 +28,7 @@ pub fn kept_is_durable()
     ensures head { (kept : Kept) → IsKept kept → (cid : Cid) → is_some (head_at (processed kept) cid) ≡ has cid (heads_in (durable_of kept).graph kept.order) }
     ensures heads { (kept : Kept) → IsKept kept → (cid : Cid) →
         has cid (map (λ (head : Head). head.0) (heads (processed kept))) ≡ has cid (heads_in (durable_of kept).graph kept.order) }
+    ensures made_links { (kept : Kept) → IsKept kept → list_all (is_among kept.order) (head_cids (processed kept)) ≡ true }
     ensures back { (kept : Kept) → kept_of (durable_of kept) ≡ kept }
     ensures holds { (kept : Kept) → IsKept kept → DurableHolds (durable_of kept) }
     ensures kept { (kept : Kept) → DurableHolds (durable_of kept) → IsKept kept }

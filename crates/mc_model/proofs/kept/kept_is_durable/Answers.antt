@@ -2,6 +2,7 @@ use Rattle.std.proofs.Common.{sym}
 use Rattle.mc_model.proofs.Blocks.{in_graph_stored, is_processed_has, links_in_stored, all_links_blocks}
 use Rattle.mc_model.proofs.Back.{kept_back}
 use Rattle.mc_model.proofs.Bridge.{kept_links, kept_linked, kept_gap, kept_gaps, kept_no_gaps, kept_head, kept_heads, kept_holds, holds_kept}
+use Rattle.mc_model.proofs.MadeLinks.{heads_processed}
 use Rattle.mc_model.proofs.kept.kept_is_durable.Goals as goal
 
 pub returns-clause-stored : goal.returns-clause-stored
@@ -30,6 +31,9 @@ returns-clause-head c = kept_head
 
 pub returns-clause-heads : goal.returns-clause-heads
 returns-clause-heads c = kept_heads
+
+pub returns-clause-made_links : goal.returns-clause-made_links
+returns-clause-made_links c = heads_processed
 
 pub returns-clause-back : goal.returns-clause-back
 returns-clause-back c = kept_back

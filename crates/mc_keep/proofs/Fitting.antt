@@ -1,0 +1,83 @@
+-- Changes that only store and changes that only process fit.
+use Rattle.std.proofs.Common.{◌≡◌, Bool, true, false, List, [], ◌∷◌, ◌++◌, ◌||◌, map, Some, None, sym, refl, ap, subst, ◌∙◌}
+use Rattle.std.specs.List.{list_any, list_all}
+use Rattle.std.proofs.lemmas.List.{append-nil}
+use Rattle.mc_base.specs.declared.cid.Cid.{Cid}
+use Rattle.mc_model.specs.declared.block.Block.{Block}
+use Rattle.mc_model.specs.declared.block.Stored.{Stored}
+use Rattle.mc_model.specs.Ascending.{is_once}
+use Rattle.mc_model.specs.Front.{same_cid, is_among, is_linked, head_at}
+use Rattle.mc_model.specs.Kept.{Kept, IsKept, processed, blocks_in, is_stored, cids_of}
+use Rattle.mc_model.specs.Live.{has_tomb, value_row}
+use Rattle.mc_model.specs.Offer.{is_good}
+use Rattle.mc_keep.specs.declared.changes.Changes.{Changes}
+use Rattle.mc_keep.specs.Changes.{changed, newly_processed, no_changes}
+use Rattle.mc_keep.specs.New.{AreNew}
+use Rattle.mc_keep.specs.Tables.{StoreFits, MarksFit, RowsFit, FrontFits, ChangesFit}
+use Rattle.mc_keep.proofs.Processed.{processed_after}
+
+abbrev storing : List Stored → Changes
+storing blocks = record no_changes { store = blocks }
+
+or_false : (b : Bool) → b ≡ (b || false)
+or_false true = refl
+or_false false = refl
+
+-- nothing is processed, and no row changes
+
+no_rows : (blocks : List Block) (stored : List Stored) → RowsFit blocks [] (storing stored)
+no_rows blocks stored = record {
+  elements = record { same = λ test. refl };
+  elements_once = refl;
+  tombs = λ key id. ap (λ b. has_tomb b key id) (append-nil blocks) ∙ or_false (has_tomb blocks key id);
+  tombs_new = refl;
+  tombs_once = refl;
+  values = λ key. ap (λ b. value_row b key) (append-nil blocks);
+  values_named = refl;
+  values_once = refl;
+}
+
+no_front : (blocks : List Block) (stored : List Stored) → FrontFits blocks [] (storing stored)
+no_front blocks stored = record {
+  links = λ cid. ap (λ b. is_linked b cid) (append-nil blocks) ∙ or_false (is_linked blocks cid);
+  links_new = refl;
+  links_once = refl;
+  heads = λ cid. ap (λ b. head_at b cid) (append-nil blocks);
+  heads_once = refl;
+}
+
+pub store_fits : (kept : Kept) (stored : List Stored) → StoreFits kept (storing stored) → ChangesFit kept (storing stored)
+store_fits kept stored fits =
+    record { store = fits; marks = record { stored = refl; new = refl; once = refl }; rows = no_rows (processed kept) stored; front = no_front (processed kept) stored }
+
+pub stored_after : (kept : Kept) (stored : List Stored) → changed kept (storing stored) ≡ record { graph = kept.graph ++ stored; order = kept.order; mark = kept.mark }
+stored_after kept stored = λ i. record { graph = kept.graph ++ stored; order = append-nil kept.order i; mark = kept.mark }
+
+pub store_processes_nothing : (kept : Kept) (stored : List Stored) → IsKept kept → processed (changed kept (storing stored)) ≡ processed kept
+store_processes_nothing kept stored sound = processed_after kept (storing stored) sound ∙ append-nil (processed kept)
+
+abbrev cid_in : Block → Cid
+cid_in block = block.cid
+
+pub process_fits : (kept : Kept) (blocks : List Block) (changes : Changes) → changes.store ≡ [] → changes.marks ≡ map cid_in blocks → AreNew kept blocks
+    → list_all (is_stored kept.graph) (map cid_in blocks) ≡ true → blocks_in kept.graph (map cid_in blocks) ≡ blocks
+    → RowsFit (processed kept) blocks changes → FrontFits (processed kept) blocks changes → ChangesFit kept changes
+process_fits kept blocks changes none marks new stored are rows front = record {
+  store = record {
+    good = ap (λ store. list_all (λ (s : Stored). is_good s.cid s.bytes) store) none;
+    new = ap (λ store. list_any (λ (s : Stored). is_stored kept.graph s.cid) store) none;
+    once = ap (λ store. is_once same_cid (cids_of store)) none;
+  };
+  marks = record {
+    stored = ap (λ graph. list_all (is_stored graph) changes.marks) same ∙ ap (λ cids. list_all (is_stored kept.graph) cids) marks ∙ stored;
+    new = ap (λ cids. list_any (is_among kept.order) cids) marks ∙ new.1;
+    once = ap (λ cids. is_once same_cid cids) marks ∙ new.0;
+  };
+  rows = subst (λ b. RowsFit (processed kept) b changes) (sym newly) rows;
+  front = subst (λ b. FrontFits (processed kept) b changes) (sym newly) front;
+}
+  where
+    same : kept.graph ++ changes.store ≡ kept.graph
+    same = ap (λ store. kept.graph ++ store) none ∙ append-nil kept.graph
+    newly : newly_processed kept changes ≡ blocks
+    newly = ap (λ graph. blocks_in graph changes.marks) same ∙ ap (λ cids. blocks_in kept.graph cids) marks ∙ are
