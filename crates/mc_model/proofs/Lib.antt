@@ -20,3 +20,4 @@ pub mod Same
 pub mod Commits
 pub mod Found
 pub mod Recall
+pub mod Valued
