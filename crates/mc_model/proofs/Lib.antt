@@ -23,3 +23,4 @@ pub mod Found
 pub mod Recall
 pub mod GapCount
 pub mod MadeLinks
+pub mod Valued

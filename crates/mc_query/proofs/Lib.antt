@@ -1,0 +1,5 @@
+pub mod KeyOrder
+pub mod Leaving
+pub mod NextFacts
+pub mod PairFacts
+pub mod Slashes

@@ -1,0 +1,11 @@
+//! Reads of a replica over the rows of its keeper: the value of a key, whether it has one, and the keys under a prefix.
+#![tactic(auto)]
+
+mod lookup;
+mod pair;
+mod place;
+mod range;
+
+pub use lookup::{get, has};
+pub use pair::Pair;
+pub use range::query;

@@ -1,0 +1,155 @@
+// The keys under a prefix.
+ghost use Rattle.std.specs.Prelude.{◌≡◌, ◌≤◌, [], true, map, take, IfOk, IfSome, OnOk, ◌++◌, ◌∷◌};
+ghost use Rattle.mc_key.specs.Prefix.{is_under};
+ghost use Rattle.mc_model.specs.Answers as answers;
+ghost use Rattle.mc_model.specs.Answers.{with_value};
+ghost use Rattle.mc_model.specs.Kept.{processed};
+ghost use Rattle.mc_keep.specs.Causes.{IfTold, KeepCause, StaysQuiet};
+ghost use Rattle.mc_keep.specs.Next.{is_past};
+ghost use Rattle.mc_query.specs.Places as places;
+ghost use Rattle.mc_query.specs.Places.{start_of, left_of, pair_of, pair_of_row, IsNextUnder, IsPassed};
+
+use crate::Pair;
+use crate::place::{Place, place_after, start_of};
+use mc_base::{List, Text};
+use mc_keep::{KeepError, Keeper, ValueRow};
+use mc_key::under;
+use mc_model::valued_keys_are_exact;
+use std::alloc::{AllocError, AllocFailed, Global};
+
+/// The keys with a value that a prefix selects, ascending by their bytes, each with its value: those after the first `skip`
+/// of them, and at most `count`. The slashes at the prefix's end don't count; a prefix of slashes alone, or of nothing, selects
+/// every key, and any other those that begin with it and a slash. It asks for at most `skip` and `count` rows together and
+/// ends at the first key that isn't selected. `Failed` comes only where the keeper failed.
+pub fn query<K: Keeper>(
+    keeper: &mut K,
+    alloc: Global,
+    prefix: &str,
+    skip: u64,
+    count: u64,
+) -> Result<List<Pair>, KeepError>
+    ensures rows { IfTold (K.told keeper.old) result (λ kept pairs. map pair_of pairs ≡ answers.query (processed kept) (is_under prefix.now) skip count) }
+    ensures told { K.told keeper.new ≡ K.told keeper.old }
+    ensures fuse { K.fuse keeper.new ≡ K.fuse keeper.old }
+    ensures spare { K.spare keeper.old ≤ K.spare keeper.new }
+    ensures own { KeepCause (K.own keeper.old) (K.own keeper.new) result }
+    ensures quiet { StaysQuiet (K.quiet keeper.old) (K.quiet keeper.new) (K.own keeper.old) (K.own keeper.new) }
+    ensures cause { KeepCause (K.faults keeper.old) (K.faults keeper.new) result }
+{
+    if count == 0 {
+        return Ok(List::new(alloc));
+    }
+    let start = start_of(alloc, prefix)?;
+    match pass_over(keeper, alloc, prefix, start, skip)? {
+        Some(place) => take_rows(keeper, alloc, prefix, &place, count),
+        None => Ok(List::new(alloc)),
+    }
+}
+
+// The place after the first `skip` keys that the prefix selects, or none where there are no more than them.
+fn pass_over<K: Keeper>(
+    keeper: &mut K,
+    alloc: Global,
+    prefix: &str,
+    start: Text,
+    skip: u64,
+) -> Result<Option<Place>, KeepError>
+    requires { start ≡ start_of prefix.now }
+    ensures place { IfTold (K.told keeper.old) result (λ kept place. IsPassed (processed kept) prefix.now skip place) }
+    ensures past { IfOk result (λ place. IfSome place (λ place. is_past (start_of prefix.now) true place.bound ≡ true)) }
+    ensures told { K.told keeper.new ≡ K.told keeper.old }
+    ensures fuse { K.fuse keeper.new ≡ K.fuse keeper.old }
+    ensures spare { K.spare keeper.old ≤ K.spare keeper.new }
+    ensures own { KeepCause (K.own keeper.old) (K.own keeper.new) result }
+    ensures quiet { StaysQuiet (K.quiet keeper.old) (K.quiet keeper.new) (K.own keeper.old) (K.own keeper.new) }
+    ensures cause { KeepCause (K.faults keeper.old) (K.faults keeper.new) result }
+{
+    let mut place = Place {
+        bound: start,
+        inclusive: true,
+    };
+    for _ in 0..skip {
+        match next_under(keeper, alloc, prefix, place.bound.as_str(), place.inclusive)? {
+            Some(row) => {
+                place = Place {
+                    bound: row.key,
+                    inclusive: false,
+                };
+            }
+            None => return Ok(None),
+        }
+    }
+    Ok(Some(place))
+}
+
+// The next keys that the prefix selects, at most `count` of them, with their values.
+fn take_rows<K: Keeper>(
+    keeper: &mut K,
+    alloc: Global,
+    prefix: &str,
+    place: &Place,
+    count: u64,
+) -> Result<List<Pair>, KeepError>
+    requires { is_past (start_of prefix.now) true place.now.bound ≡ true }
+    ensures rows { IfTold (K.told keeper.old) result (λ kept pairs.
+        map pair_of pairs ≡ map (with_value (processed kept)) (take count (left_of (processed kept) prefix.now place.now.bound place.now.inclusive))) }
+    ensures told { K.told keeper.new ≡ K.told keeper.old }
+    ensures fuse { K.fuse keeper.new ≡ K.fuse keeper.old }
+    ensures spare { K.spare keeper.old ≤ K.spare keeper.new }
+    ensures own { KeepCause (K.own keeper.old) (K.own keeper.new) result }
+    ensures quiet { StaysQuiet (K.quiet keeper.old) (K.quiet keeper.new) (K.own keeper.old) (K.own keeper.new) }
+    ensures cause { KeepCause (K.faults keeper.old) (K.faults keeper.new) result }
+{
+    let mut pairs = List::new(alloc);
+    for _ in 0..count {
+        let (bound, inclusive) = place_after(place, pairs.as_slice());
+        match next_under(keeper, alloc, prefix, bound, inclusive)? {
+            Some(row) => push_row(&mut pairs, row)?,
+            None => return Ok(pairs),
+        }
+    }
+    Ok(pairs)
+}
+
+fn push_row(pairs: &mut List<Pair>, row: ValueRow) -> Result<(), AllocError>
+    ensures { OnOk result (pairs.new ≡ pairs.old ++ pair_of_row row ∷ []) }
+{
+    pairs.push(Pair {
+        key: row.key,
+        value: row.value,
+    })?;
+    Ok(())
+}
+
+// The row of the next key with a value, or none where the prefix doesn't select it: then it selects none after it.
+fn next_under<K: Keeper>(
+    keeper: &mut K,
+    alloc: Global,
+    prefix: &str,
+    bound: &str,
+    inclusive: bool,
+) -> Result<Option<ValueRow>, KeepError>
+    requires { is_past (start_of prefix.now) true bound.now ≡ true }
+    ensures row { IfTold (K.told keeper.old) result (λ kept row. IsNextUnder (processed kept) prefix.now bound.now inclusive row) }
+    ensures past { IfOk result (λ row. IfSome row (λ row. is_past (start_of prefix.now) true row.key ≡ true)) }
+    ensures told { K.told keeper.new ≡ K.told keeper.old }
+    ensures fuse { K.fuse keeper.new ≡ K.fuse keeper.old }
+    ensures spare { K.spare keeper.old ≤ K.spare keeper.new }
+    ensures own { KeepCause (K.own keeper.old) (K.own keeper.new) result }
+    ensures quiet { StaysQuiet (K.quiet keeper.old) (K.quiet keeper.new) (K.own keeper.old) (K.own keeper.new) }
+    ensures cause { KeepCause (K.faults keeper.old) (K.faults keeper.new) result }
+{
+    valued_keys_are_exact();
+    let next = keeper.value_from(alloc, bound, inclusive)?;
+    Ok(selected(prefix, next))
+}
+
+// The row where the prefix selects its key.
+fn selected(prefix: &str, next: Option<ValueRow>) -> Option<ValueRow>
+    ensures { result ≡ places.selected prefix.now next }
+{
+    match next {
+        Some(row) if under(prefix, row.key.as_str()) => Some(row),
+        _ => None,
+    }
+}
