@@ -4,3 +4,4 @@ pub mod Linked
 pub mod Heights
 pub mod Rows
 pub mod Told
+pub mod FirstGroup

@@ -1,5 +1,5 @@
 -- A place in a list is found exactly where an item passes.
-use Rattle.std.proofs.Common.{◌≡◌, ℕ, suc, ◌+◌, Bool, true, false, not, cond, List, [], ◌∷◌, ◌||◌, Option, Some, None, sym, refl, ap, ◌∙◌, arith, length}
+use Rattle.std.proofs.Common.{◌≡◌, ℕ, suc, ◌+◌, Bool, true, false, not, cond, List, [], ◌∷◌, ◌||◌, Option, Some, None, refl, ap, ◌∙◌, arith, length}
 use Rattle.std.specs.Prelude.{IfSome, is_some, nat_lt}
 use Rattle.std.proofs.lemmas.Bool.Decides.{nat_tests}
 use Rattle.std.specs.List.{list_any, position, position_or_len}

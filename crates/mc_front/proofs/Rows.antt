@@ -1,5 +1,5 @@
 -- The rows of a group of blocks take the front to that with the blocks.
-use Rattle.std.proofs.Common.{◌≡◌, ℕ, ◌+◌, ◌≤◌, Bool, true, false, not, cond, List, [], ◌∷◌, ◌++◌, ◌||◌, ◌&&◌, Option, Some, None, sym, refl, ap, ◌∙◌, subst, arith, length, length-append, map, filter}
+use Rattle.std.proofs.Common.{◌≡◌, ℕ, ◌+◌, Bool, true, false, not, cond, List, [], ◌∷◌, ◌++◌, ◌||◌, ◌&&◌, Option, Some, None, sym, refl, ap, ◌∙◌, arith, length, length-append, map, filter}
 use Rattle.std.specs.Prelude.{fold, is_some}
 use Rattle.std.specs.List.{list_any}
 use Rattle.std.proofs.lemmas.List.Folds.{list_any-append}
@@ -8,7 +8,7 @@ use Rattle.std.proofs.lemmas.List.{length-map}
 use Rattle.mc_base.specs.declared.cid.Cid.{Cid}
 use Rattle.mc_model.specs.declared.block.Block.{Block}
 use Rattle.mc_model.specs.Ascending.{is_once}
-use Rattle.mc_model.specs.Front.{same_cid, is_among, is_processed, is_linked, is_gap, gaps, head_at}
+use Rattle.mc_model.specs.Front.{same_cid, is_among, is_processed, is_linked, gaps, head_at}
 use Rattle.mc_model.specs.Graph.{times}
 use Rattle.mc_model.proofs.Counts.{times-append}
 use Rattle.mc_model.proofs.GapCount.{among_filter, gap_times, once_times_is}
@@ -16,7 +16,7 @@ use Rattle.mc_model.proofs.Heads.{is_head}
 use Rattle.mc_model.proofs.Members.{list_any-filter}
 use Rattle.mc_keep.specs.declared.rows.HeadRow.{HeadRow}
 use Rattle.mc_keep.specs.declared.changes.Changes.{Changes}
-use Rattle.mc_keep.specs.Changes.{head_with, head_without, head_after}
+use Rattle.mc_keep.specs.Changes.{head_without, head_after}
 use Rattle.mc_keep.specs.Tables.{FrontFits}
 use Rattle.mc_front.specs.Front.{head_row, new_heads, HeadsOut}
 use Rattle.mc_front.specs.Steps.{different_links, unlinked, leads_to, rows_of_heads}

@@ -1,5 +1,5 @@
 -- The rows over what a keeper tells.
-use Rattle.std.proofs.Common.{◌≡◌, ℕ, ◌+◌, ◌-◌, ◌≤◌, Bool, true, false, not, cond, List, [], ◌∷◌, ◌++◌, ◌||◌, Option, Some, None, sym, refl, ap, ◌∙◌, subst, inl, inr, arith, length, map, filter}
+use Rattle.std.proofs.Common.{◌≡◌, ℕ, ◌+◌, ◌-◌, ◌≤◌, Bool, true, false, not, cond, List, [], ◌∷◌, ◌++◌, Option, Some, None, sym, ap, ◌∙◌, subst, inl, inr, arith, length, filter}
 use Rattle.std.specs.Prelude.{◌==◌, IfSome, unwrap_or, if◌then◌else◌}
 use Rattle.std.specs.List.{list_any}
 use Rattle.std.proofs.lemmas.List.{length-map}
@@ -14,7 +14,7 @@ use Rattle.mc_keep.specs.declared.rows.Summary.{Summary}
 use Rattle.mc_keep.specs.declared.changes.Changes.{Changes}
 use Rattle.mc_keep.specs.New.{AreNew}
 use Rattle.mc_keep.specs.Tables.{FrontFits, IsSummary}
-use Rattle.mc_front.specs.Front.{head_row, new_heads, HeadsOut, MarkFits, mark_over}
+use Rattle.mc_front.specs.Front.{head_row, new_heads, HeadsOut, MarkFits}
 use Rattle.mc_front.specs.Steps.{different_links, unlinked, rows_of_heads}
 use Rattle.mc_front.proofs.Heights.{cids_of, among_cids}
 use Rattle.mc_front.proofs.Rows.{heads_are, heads_out, front_fits, gaps_count}

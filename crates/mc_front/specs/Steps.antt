@@ -3,7 +3,7 @@ use Rattle.std.specs.Prelude.{Bool, not, ◌||◌, List, [], fold, filter, map}
 use Rattle.indexmap.specs.IndexSet.{insert_key}
 use Rattle.mc_base.specs.declared.cid.Cid.{Cid}
 use Rattle.mc_model.specs.declared.block.Block.{Block}
-use Rattle.mc_model.specs.Front.{same_cid, is_among, is_linked, is_processed}
+use Rattle.mc_model.specs.Front.{same_cid, is_among, is_linked}
 use Rattle.mc_keep.specs.declared.rows.HeadRow.{HeadRow}
 use Rattle.mc_front.specs.Front.{head_row}
 

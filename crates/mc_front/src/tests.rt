@@ -1,8 +1,8 @@
 // Groups of blocks over an empty keeper.
-ghost use Rattle.std.specs.Prelude.{◌≡◌, map};
+ghost use Rattle.std.specs.Prelude.{◌≡◌};
 ghost use Rattle.mc_model.specs.declared.block.Block.{Block};
 ghost use Rattle.mc_model.specs.Ascending.{is_once};
-ghost use Rattle.mc_model.specs.Front.{same_cid, is_among};
+ghost use Rattle.mc_model.specs.Front.{same_cid, is_processed};
 
 use super::*;
 use mc_base::{Cid, List};
@@ -31,7 +31,7 @@ fn block(alloc: Global, number: u8, links: &[u8], priority: u64) -> Result<Block
 
 // Whether no block stands twice, by comparing each with each.
 fn are_once(blocks: &[Block]) -> bool
-    ensures { result ≡ is_once same_cid (map (λ (block : Block). block.cid) blocks.now) }
+    ensures { result ≡ is_once (λ (a b : Block). same_cid a.cid b.cid) blocks.now }
 {
     match blocks {
         [] => true,
@@ -40,15 +40,21 @@ fn are_once(blocks: &[Block]) -> bool
 }
 
 fn has_block(blocks: &[Block], cid: &Cid) -> bool
-    ensures { result ≡ is_among (map (λ (block : Block). block.cid) blocks.now) cid.now }
+    ensures { result ≡ is_processed blocks.now cid.now }
 {
-    blocks.iter().any(|block| *cid == block.cid)
+    for block in blocks {
+        if *cid == block.cid {
+            return true;
+        }
+    }
+    false
 }
 
 // What the blocks, which differ, change in an empty keeper, with the number of gaps.
-fn changes_of(rt: &HostRuntime, blocks: &[Block], whole: bool) -> Result<(u64, Changes), Fail> {
-    let alloc = rt.alloc();
-    assert!(rt; are_once(blocks));
+fn changes_of(alloc: Global, blocks: &[Block], whole: bool) -> Result<(u64, Changes), Fail> {
+    if !are_once(blocks) {
+        return Err("a block stands twice".into());
+    }
     let mut keeper = MemKeeper::new(alloc, FaultPlan::nothing(alloc))?;
     let mut changes = Changes::new(alloc);
     let gaps = front_changes(&mut keeper, alloc, blocks, whole, &mut changes)?;
@@ -110,14 +116,10 @@ fn the_front_of_a_first_group(rt: HostRuntime) -> Result<(), Fail> {
             heads: &[],
         },
     ];
+    let alloc = rt.alloc();
     for row in &rows {
         for whole in [true, false] {
-            let alloc = rt.alloc();
-            let mut blocks = Vec::new(alloc);
-            for (number, links, priority) in row.blocks {
-                blocks.push(block(alloc, *number, links, *priority)?)?;
-            }
-            let (gaps, changes) = changes_of(&rt, &blocks, whole)?;
+            let (gaps, changes) = made(alloc, row.blocks, whole)?;
             assert_eq!(rt; gaps, row.gaps);
             assert_eq!(rt; changes.mark, if whole { row.mark } else { None });
             assert_eq!(rt; changes.marks.len(), row.blocks.len());
@@ -133,6 +135,15 @@ fn the_front_of_a_first_group(rt: HostRuntime) -> Result<(), Fail> {
         }
     }
     Ok(())
+}
+
+// What the blocks of these numbers, links and priorities change.
+fn made(alloc: Global, rows: &[(u8, &[u8], u64)], whole: bool) -> Result<(u64, Changes), Fail> {
+    let mut blocks = Vec::new(alloc);
+    for (number, links, priority) in rows {
+        blocks.push(block(alloc, *number, links, *priority)?)?;
+    }
+    changes_of(alloc, &blocks, whole)
 }
 
 fn cids(alloc: Global, numbers: &[u8]) -> Result<Vec<Cid>, AllocError> {
@@ -162,7 +173,7 @@ fn a_chain_backwards(rt: HostRuntime) -> Result<(), Fail> {
         blocks.push(block(alloc, number, &[number - 1], number as u64)?)?;
     }
     blocks.push(block(alloc, 0, &[], 0)?)?;
-    let (gaps, changes) = changes_of(&rt, &blocks, true)?;
+    let (gaps, changes) = changes_of(alloc, &blocks, true)?;
     assert_eq!(rt; gaps, 0);
     assert_eq!(rt; changes.mark, None);
     assert_eq!(rt; changes.marks.len(), 100);

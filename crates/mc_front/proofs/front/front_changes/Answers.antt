@@ -1,4 +1,3 @@
-use Rattle.std.proofs.Common.{◌∙◌}
 use Rattle.mc_front.proofs.Told.{fit_told, out_told, heads_told, count_told, mark_told}
 use Rattle.mc_front.proofs.front.front_changes.Goals as goal
 

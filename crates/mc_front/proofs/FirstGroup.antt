@@ -1,0 +1,24 @@
+-- Blocks that differ are new to an empty keeper.
+use Rattle.std.proofs.Common.{◌≡◌, true, false, not, List, [], ◌∷◌, ◌&&◌, sym, refl, ap, ◌∙◌, subst}
+use Rattle.std.specs.List.{list_any}
+use Rattle.mc_base.specs.declared.cid.Cid.{Cid}
+use Rattle.mc_model.specs.declared.block.Block.{Block}
+use Rattle.mc_model.specs.Ascending.{is_once}
+use Rattle.mc_model.specs.Front.{same_cid, is_among, is_processed}
+use Rattle.mc_model.specs.Kept.{Kept, nothing_kept}
+use Rattle.mc_keep.specs.New.{AreNew}
+use Rattle.mc_front.proofs.Heights.{cids_of, among_cids}
+
+once_cids : (blocks : List Block) → is_once same_cid (cids_of blocks) ≡ is_once (λ (a b : Block). same_cid a.cid b.cid) blocks
+once_cids [] = refl
+once_cids (b ∷ blocks) =
+    ap (λ t. not t && is_once same_cid (cids_of blocks)) (among_cids b.cid blocks)
+    ∙ ap (λ t. not (is_processed blocks b.cid) && t) (once_cids blocks)
+
+none_among : (cids : List Cid) → list_any (is_among []) cids ≡ false
+none_among [] = refl
+none_among (c ∷ cids) = none_among cids
+
+pub first_group : (kept : Kept) (blocks : List Block) → kept ≡ nothing_kept → is_once (λ (a b : Block). same_cid a.cid b.cid) blocks ≡ true → AreNew kept blocks
+first_group kept blocks e once =
+    subst (λ (z : Kept). AreNew z blocks) (sym e) (once_cids blocks ∙ once, none_among (cids_of blocks))
