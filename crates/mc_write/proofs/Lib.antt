@@ -1,3 +1,4 @@
+pub mod LengthFacts
 pub mod Membership
 pub mod PairFacts
 pub mod RowOrder
