@@ -1,3 +1,4 @@
+pub mod CutFacts
 pub mod LengthFacts
 pub mod Membership
 pub mod PairFacts
