@@ -1,4 +1,5 @@
 pub mod CutFacts
+pub mod DeleteFacts
 pub mod LengthFacts
 pub mod Membership
 pub mod PairFacts
