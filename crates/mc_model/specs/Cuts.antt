@@ -1,5 +1,5 @@
 -- What a delete takes, the blocks with a live element of the key, and the deltas into which their tombstones are cut.
-use Rattle.std.specs.Prelude.{◌≡◌, ◌≢◌, ⊤, ℕ, ◌+◌, ◌<◌, ◌≤◌, List, [], ◌∷◌, ◌++◌, length, map, Option}
+use Rattle.std.specs.Prelude.{◌≡◌, ◌≢◌, ◌⊎◌, ⊤, ℕ, ◌+◌, ◌-◌, ◌^◌, ◌<◌, ◌≤◌, min, List, [], ◌∷◌, ◌++◌, length, map, Option}
 use Rattle.std.specs.List.{filter_map}
 use Rattle.std.specs.Option.{option_map}
 use Rattle.std.specs.Ordering.{nat_cmp, on, then_cmp}
@@ -68,7 +68,13 @@ IsCuts links priority key pairs [] = pairs ≡ []
 IsCuts links priority key pairs (delta ∷ deltas) =
     (taken rest : List Pair) × (pairs ≡ taken ++ rest) × IsCut links priority key taken rest delta × IsCuts (made_cid links delta ∷ []) (priority + 1) key rest deltas
 
--- the first block is too large, of this size, with one tombstone already
+-- a priority is left for the first block, but it is too large with one tombstone already; `len` is its size, at most 2^64 - 1
 abbrev pub IsTooLarge : List Cid → ℕ → List ℕ → List Pair → ℕ → Type 0
-IsTooLarge links priority key [] size = ⊥
-IsTooLarge links priority key (pair ∷ pairs) size = (block_max < size) × (size ≡ tombs_size links priority key (pair ∷ []))
+IsTooLarge links priority key [] len = ⊥
+IsTooLarge links priority key (pair ∷ pairs) len =
+    (priority < 2 ^ 64) × (block_max < tombs_size links priority key (pair ∷ [])) × (len ≡ min (tombs_size links priority key (pair ∷ [])) (2 ^ 64 - 1))
+
+-- no priority is left for the first block, or for a later one
+abbrev pub IsPriorityFull : List Cid → ℕ → List ℕ → List Pair → Type 0
+IsPriorityFull links priority key pairs =
+    ((pairs ≢ []) × (2 ^ 64 ≤ priority)) ⊎ ((deltas : List Delta) × IsCuts links priority key pairs deltas × (2 ^ 64 < priority + length deltas))

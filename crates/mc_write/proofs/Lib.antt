@@ -1,3 +1,6 @@
+pub mod CutFacts
+pub mod DeleteFacts
+pub mod LengthFacts
 pub mod Membership
 pub mod PairFacts
 pub mod RowOrder

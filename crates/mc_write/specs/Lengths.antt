@@ -1,5 +1,5 @@
 -- The lengths of blocks, by those of their parts.
-use Rattle.std.specs.Prelude.{ℕ, ◌+◌, ◌*◌, ◌-◌, ◌^◌, ◌<◌, ◌≤◌, List, length, min}
+use Rattle.std.specs.Prelude.{◌≡◌, ℕ, ◌+◌, ◌*◌, ◌-◌, ◌^◌, ◌<◌, ◌≤◌, List, length, min}
 use Rattle.std.specs.List.{flat_map}
 use Rattle.mc_base.specs.Node.{link_bytes}
 use Rattle.mc_base.specs.Wire.{varint_bytes}
@@ -31,3 +31,10 @@ pub record IsRoom (links base tomb most taken : ℕ) : Type 0 where
   pub within : taken ≤ most
   pub fits : 0 < taken → block_length links (base + taken * tomb) ≤ block_max
   pub full : taken < most → block_max < block_length links (base + (taken + 1) * tomb)
+
+-- a key, and the bytes of its tombstones
+pub record IsTombLen (key : List ℕ) (tomb : ℕ) : Type 0 where
+  pub some : 1 ≤ length key
+  pub short : length key ≤ 1024
+  pub len : tomb ≡ tomb_length (length key)
+  pub small : tomb ≤ 2048

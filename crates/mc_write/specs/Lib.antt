@@ -1,3 +1,4 @@
+pub mod Cutting
 pub mod Lengths
 pub mod PairOrder
 pub mod Refusals

@@ -4,7 +4,9 @@ use Rattle.std.specs.List.{list_all}
 use Rattle.mc_base.specs.declared.cid.Cid.{Cid}
 use Rattle.mc_keep.specs.declared.rows.ElementRow.{ElementRow}
 use Rattle.mc_keep.specs.declared.rows.HeadRow.{HeadRow}
+use Rattle.mc_keep.specs.Changes.{heads_in_rows}
 use Rattle.mc_model.specs.Cuts.{Pair}
+use Rattle.mc_model.specs.Front.{Head}
 use Rattle.mc_write.specs.declared.pair.Pair.{Pair as Own}
 
 abbrev pub seen : Own → Pair
@@ -19,7 +21,7 @@ row_pair row = record { priority = row.priority; value = row.value; cid = row.ci
 
 -- the identifiers of heads
 abbrev pub row_cids : List HeadRow → List Cid
-row_cids rows = map (λ (row : HeadRow). row.cid) rows
+row_cids rows = map (λ (head : Head). head.0) (heads_in_rows rows)
 
 -- the digest has 32 bytes, as each has in the code
 abbrev pub has_digest : Cid → Bool

@@ -1,8 +1,8 @@
 // The lengths of blocks.
-ghost use Rattle.std.specs.Prelude.{◌≡◌, ◌+◌, ◌*◌, ◌<◌, ◌≤◌, ℕ, length};
+ghost use Rattle.std.specs.Prelude.{◌≡◌, ◌+◌, ◌*◌, ◌<◌, ◌≤◌, ◌^◌, ℕ, length};
 ghost use Rattle.mc_base.specs.Node.{link_bytes};
 ghost use Rattle.mc_model.specs.DeltaText.{priority_bytes};
-ghost use Rattle.mc_write.specs.Lengths.{capped, links_length, field_length, block_length, tomb_length, IsRoom};
+ghost use Rattle.mc_write.specs.Lengths.{capped, links_length, field_length, block_length, IsTombLen, IsRoom};
 ghost use Rattle.mc_write.specs.Seen.{row_cids};
 
 use mc_base::Cid;
@@ -49,6 +49,7 @@ pub(crate) fn block_len(links: u64, delta: u64) -> u64
 pub(crate) fn priority_len(priority: u64) -> u64
     ensures len { result ≡ length (priority_bytes priority) }
     ensures small { result ≤ 11 }
+    ensures left { priority < 2 ^ 64 }
 {
     if priority == 0 {
         0
@@ -58,9 +59,9 @@ pub(crate) fn priority_len(priority: u64) -> u64
 }
 
 /// The bytes of a tombstone of the key.
+#[tactic(auto, using(crate::proofs::LengthFacts::key_length))]
 pub(crate) fn tomb_len(key: &Key<'_>) -> u64
-    ensures len { result ≡ tomb_length (length key.now) }
-    ensures small { result ≤ 2048 }
+    ensures { IsTombLen key.now result }
 {
     let text = key.as_str();
     field_len(field_len(text.len() as u64) + field_len(ID_LEN))
