@@ -2,3 +2,4 @@ pub mod Sorts
 pub mod Finds
 pub mod Lives
 pub mod OneKey
+pub mod Step
