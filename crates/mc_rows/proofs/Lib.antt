@@ -3,3 +3,5 @@ pub mod Finds
 pub mod Lives
 pub mod OneKey
 pub mod Step
+pub mod OnceRows
+pub mod FitAll

@@ -51,7 +51,7 @@ not_before keys i d sorted within =
         default : (j : ℕ) (e d : Bor (List ℕ)) → j < length keys → get_or keys j e ≡ get_or keys j d
         default j e d h = get_or_default keys j e d h
 
-unspoken : (key : List ℕ) (row : Option Ranked) (changes : List ValueChange) → has_change_of changes key ≡ false → values_after key row changes ≡ row
+pub unspoken : (key : List ℕ) (row : Option Ranked) (changes : List ValueChange) → has_change_of changes key ≡ false → values_after key row changes ≡ row
 unspoken key row [] e = refl
 unspoken key row (c ∷ changes) e =
     let parts = or_none (bytes_eq c.key key) (has_change_of changes key) e in
