@@ -21,20 +21,26 @@ use Rattle.mc_model.specs.Kept.{Kept, processed}
 use Rattle.mc_keep.specs.declared.rows.ElementRow.{ElementRow}
 use Rattle.mc_keep.specs.declared.rows.TombRow.{TombRow}
 use Rattle.mc_rows.specs.declared.tombs.NewTomb.{NewTomb}
-use Rattle.mc_rows.specs.Rows.{key_cmp, tomb_cmp, new_tomb_cmp, tomb_of, tombs_of, tomb_row, tomb_rows}
-use Rattle.mc_rows.specs.Live.{is_unknown}
+use Rattle.mc_rows.specs.Rows.{key_cmp, tomb_cmp, new_tomb_cmp, row_of, rows_of, tomb_of, tombs_of, tomb_row, tomb_rows}
+use Rattle.mc_rows.specs.Live.{is_unknown, has_element_of, has_tomb_of}
+use Rattle.mc_rows.specs.Values.{has_key}
+use Rattle.mc_rows.specs.declared.elements.NewElement.{NewElement}
+use Rattle.std.specs.Str.{bytes_eq}
+use Rattle.std.proofs.lemmas.List.Folds.{list_any-append}
+use lib.Pointwise.{bytes_decides}
+use denote.Ref.{Bor}
 
 is_equal : (o : Ordering) → is_eq o ≡ true → o ≡ Equal
 is_equal Less e = absurd (let f : false ≡ true = e in cc)
 is_equal Equal e = refl
 is_equal Greater e = absurd (let f : false ≡ true = e in cc)
 
-module _ {X R : Type 0} (cmp : X → X → Ordering) (row : X → R) (tied : (x y : X) → cmp x y ≡ Equal → row x ≡ row y) where
-  any_from : (test : R → Bool) (x : X) (xs : List X) → list_any (λ y. test (row y)) (dedup_from (eq_by_cmp cmp) x xs) ≡ (test (row x) || list_any (λ y. test (row y)) xs)
+module _ {X R : Type 0} (same : X → X → Bool) (row : X → R) (alike : (x y : X) → same x y ≡ true → row x ≡ row y) where
+  any_from : (test : R → Bool) (x : X) (xs : List X) → list_any (λ y. test (row y)) (dedup_from same x xs) ≡ (test (row x) || list_any (λ y. test (row y)) xs)
   any_from test x [] = refl
   any_from test x (y ∷ ys) =
-      elim (eq_by_cmp cmp y x) as (λ b. eq_by_cmp cmp y x ≡ b → list_any (λ z. test (row z)) (cond b (dedup_from (eq_by_cmp cmp) x ys) (x ∷ dedup_from (eq_by_cmp cmp) y ys)) ≡ (test (row x) || (test (row y) || list_any (λ z. test (row z)) ys))) [
-        | true ↦ λ e. any_from test x ys ∙ subst (λ z. (test (row x) || list_any (λ y. test (row y)) ys) ≡ (test (row x) || (test z || list_any (λ y. test (row y)) ys))) (sym (tied y x (is_equal (cmp y x) e))) (twice (test (row x)) (list_any (λ y. test (row y)) ys))
+      elim (same y x) as (λ b. same y x ≡ b → list_any (λ z. test (row z)) (cond b (dedup_from same x ys) (x ∷ dedup_from same y ys)) ≡ (test (row x) || (test (row y) || list_any (λ z. test (row z)) ys))) [
+        | true ↦ λ e. any_from test x ys ∙ subst (λ z. (test (row x) || list_any (λ y. test (row y)) ys) ≡ (test (row x) || (test z || list_any (λ y. test (row y)) ys))) (sym (alike y x e)) (twice (test (row x)) (list_any (λ y. test (row y)) ys))
         | false ↦ λ e. ap (λ rest. test (row x) || rest) (any_from test y ys)
       ] refl
     where
@@ -42,19 +48,23 @@ module _ {X R : Type 0} (cmp : X → X → Ordering) (row : X → R) (tied : (x 
       twice true b = refl
       twice false b = refl
 
-  any_of : (test : R → Bool) (xs : List X) → list_any (λ y. test (row y)) (dedup (eq_by_cmp cmp) xs) ≡ list_any (λ y. test (row y)) xs
+  any_of : (test : R → Bool) (xs : List X) → list_any (λ y. test (row y)) (dedup same xs) ≡ list_any (λ y. test (row y)) xs
   any_of test [] = refl
   any_of test (x ∷ xs) = any_from test x xs
 
-  -- sorting and dropping repeats leaves the members of the rows
-  pub sorted_members : (items sorted : List X) → IsPermutation items sorted → SameMembers (map row (dedup (eq_by_cmp cmp) sorted)) (map row items)
-  sorted_members items sorted moved = record {
-    same = λ test.
-        list_any-map test row (dedup (eq_by_cmp cmp) sorted)
-        ∙ any_of test sorted
-        ∙ sym (list_any-IsPermutation (λ y. test (row y)) items sorted moved)
-        ∙ sym (list_any-map test row items);
-  }
+  -- sorting and dropping repeats leaves what a test of the rows finds
+  pub any_once : (test : R → Bool) (items sorted : List X) → IsPermutation items sorted → list_any (λ y. test (row y)) (dedup same sorted) ≡ list_any (λ y. test (row y)) items
+  any_once test items sorted moved = any_of test sorted ∙ sym (list_any-IsPermutation (λ y. test (row y)) items sorted moved)
+
+-- and so the members of the rows
+pub sorted_members : {X R : Type 0} (cmp : X → X → Ordering) (row : X → R) (tied : (x y : X) → cmp x y ≡ Equal → row x ≡ row y) (items sorted : List X) → IsPermutation items sorted
+    → SameMembers (map row (dedup (eq_by_cmp cmp) sorted)) (map row items)
+sorted_members cmp row tied items sorted moved = record {
+  same = λ test.
+      list_any-map test row (dedup (eq_by_cmp cmp) sorted)
+      ∙ any_once (eq_by_cmp cmp) row (λ x y e. tied x y (is_equal (cmp x y) e)) test items sorted moved
+      ∙ sym (list_any-map test row items);
+}
 
 then_equal : (a b : Ordering) → ordering_then a b ≡ Equal → (a ≡ Equal) × (b ≡ Equal)
 then_equal Less b e = absurd (cc)
@@ -108,3 +118,18 @@ tombs_more (Some kept) old now new tombs i tomb within at before step =
     (sym (filter-append known (map tomb_row (take i tombs)) (tomb_row tomb ∷ []))
     ∙ ap (λ (z : Tomb). filter known (map tomb_row (take i tombs) ++ tomb_row z ∷ [])) at
     ∙ ap (filter known) (sym (map_more tomb_row tombs i tomb within)))
+
+-- the keys, sorted and rid of repeats, are those of the elements and the tombstones
+pub keys_members : (elements : List NewElement) (tombs : List NewTomb) (start first items sorted kept : List (Bor (List ℕ))) → start ≡ []
+    → first ≡ start ++ map (λ (e : NewElement). e.key) elements → items ≡ first ++ map (λ (t : NewTomb). t.key) tombs → IsPermutation items sorted
+    → kept ≡ dedup (λ (x y : Bor (List ℕ)). bytes_eq x.now y.now) sorted
+    → (key : List ℕ) → has_key kept key ≡ (has_element_of (rows_of elements) key || has_tomb_of (tombs_of tombs) key)
+keys_members elements tombs start first items sorted kept none more then moved once key =
+    ap (λ (z : List (Bor (List ℕ))). has_key z key) once
+    ∙ any_once (λ (x y : Bor (List ℕ)). bytes_eq x.now y.now) (λ (k : Bor (List ℕ)). k.now) (λ x y e. (bytes_decides x.now y.now).0 e) (λ bytes. bytes_eq bytes key) items sorted moved
+    ∙ ap (λ (z : List (Bor (List ℕ))). has_key z key) (then ∙ ap (λ (z : List (Bor (List ℕ))). z ++ map (λ (t : NewTomb). t.key) tombs) (more ∙ ap (λ (z : List (Bor (List ℕ))). z ++ map (λ (e : NewElement). e.key) elements) none))
+    ∙ list_any-append (λ (k : Bor (List ℕ)). bytes_eq k.now key) (map (λ (e : NewElement). e.key) elements) (map (λ (t : NewTomb). t.key) tombs)
+    ∙ ap (λ b. b || has_key (map (λ (t : NewTomb). t.key) tombs) key)
+    (list_any-map (λ (k : Bor (List ℕ)). bytes_eq k.now key) (λ (e : NewElement). e.key) elements ∙ sym (list_any-map (λ (row : ElementRow). bytes_eq row.key key) row_of elements))
+    ∙ ap (λ b. has_element_of (rows_of elements) key || b)
+    (list_any-map (λ (k : Bor (List ℕ)). bytes_eq k.now key) (λ (t : NewTomb). t.key) tombs ∙ sym (list_any-map (λ (row : TombRow). bytes_eq row.key key) tomb_of tombs))

@@ -1,3 +1,4 @@
 pub mod Rows
 pub mod Live
+pub mod Seen
 pub mod Values

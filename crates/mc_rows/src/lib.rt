@@ -13,3 +13,6 @@ mod tombs;
 mod values;
 
 pub use merging::merge;
+
+#[cfg(test)]
+mod tests;

@@ -1,5 +1,5 @@
 // The greatest of the rows of a key that no tombstone hides.
-ghost use Rattle.std.specs.Prelude.{◌≡◌, ◌≤◌, fold, IfSome};
+ghost use Rattle.std.specs.Prelude.{◌≡◌, ◌≤◌, fold, IfSome, IfOk, Some};
 ghost use Rattle.std.specs.List.Sorted.{IsStrictlySortedBy};
 ghost use Rattle.mc_base.specs.Causes.{HasCause};
 ghost use Rattle.mc_model.specs.Kept.{processed};
@@ -7,13 +7,14 @@ ghost use Rattle.mc_model.specs.Rank.{greater, greatest};
 ghost use Rattle.mc_keep.specs.Causes.{IfTold, KeepCause, StaysQuiet};
 ghost use Rattle.mc_rows.specs.Rows.{new_tomb_cmp, rows_of, tombs_of};
 ghost use Rattle.mc_rows.specs.Live.{hides, live_rows};
+ghost use Rattle.mc_rows.specs.Seen.{SeenFits};
 ghost use Rattle.mc_rows.specs.Values.{ranked_best};
 
 use crate::best::{Best, greater_of};
 use crate::elements::NewElement;
 use crate::search::has_tomb;
 use crate::tombs::NewTomb;
-use mc_base::Failed;
+use mc_base::{Cid, Failed};
 use mc_keep::{ElementRow, KeepError, Keeper};
 use mc_model::id_of;
 use std::alloc::Global;
@@ -40,6 +41,46 @@ fn is_hidden<K: Keeper>(
     keeper.hidden(key, id)
 }
 
+// Whether the elements of the key in a block are hidden.
+#[derive(Clone, Copy)]
+pub(crate) struct Seen {
+    pub(crate) cid: Cid,
+    pub(crate) hidden: bool,
+}
+
+// The same of a processed block. Its id is made only where the block is not the one that was seen last.
+fn see<K: Keeper>(
+    keeper: &mut K,
+    alloc: Global,
+    key: &str,
+    cid: &Cid,
+    tombs: &[NewTomb<'_>],
+    last: Option<Seen>,
+) -> Result<Seen, KeepError>
+    requires sorted { IsStrictlySortedBy new_tomb_cmp tombs.now }
+    requires last { IfSome (K.told keeper.old) (λ kept. SeenFits (processed kept) (tombs_of tombs.now) key.now last) }
+    ensures seen { IfTold (K.told keeper.old) result (λ kept seen. SeenFits (processed kept) (tombs_of tombs.now) key.now (Some seen)) }
+    ensures cid { IfOk result (λ seen. seen.cid ≡ cid.now) }
+    ensures told { K.told keeper.new ≡ K.told keeper.old }
+    ensures fuse { K.fuse keeper.new ≡ K.fuse keeper.old }
+    ensures spare { K.spare keeper.old ≤ K.spare keeper.new }
+    ensures own { KeepCause (K.own keeper.old) (K.own keeper.new) result }
+    ensures quiet { StaysQuiet (K.quiet keeper.old) (K.quiet keeper.new) (K.own keeper.old) (K.own keeper.new) }
+    ensures cause { KeepCause (K.faults keeper.old) (K.faults keeper.new) result }
+{
+    if let Some(seen) = last {
+        if seen.cid == *cid {
+            return Ok(Seen {
+                cid: *cid,
+                hidden: seen.hidden,
+            });
+        }
+    }
+    let id = id_of(alloc, cid)?;
+    let hidden = is_hidden(keeper, key, id.as_str(), tombs)?;
+    Ok(Seen { cid: *cid, hidden })
+}
+
 // The greatest of these rows of the key, which are of processed blocks.
 pub(crate) fn best_of_old<'a, K: Keeper>(
     keeper: &mut K,
@@ -58,9 +99,11 @@ pub(crate) fn best_of_old<'a, K: Keeper>(
     ensures cause { KeepCause (K.faults keeper.old) (K.faults keeper.new) result }
 {
     let mut best = None;
+    let mut last = None;
     for row in rows {
-        let id = id_of(alloc, &row.cid)?;
-        if !is_hidden(keeper, key, id.as_str(), tombs)? {
+        let seen = see(keeper, alloc, key, &row.cid, tombs, last)?;
+        last = Some(seen);
+        if !seen.hidden {
             best = Some(greater_of(
                 best,
                 Best {

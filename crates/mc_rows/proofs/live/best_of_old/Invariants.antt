@@ -5,6 +5,7 @@ use Rattle.mc_model.specs.Rank.{greatest}
 use Rattle.mc_keep.specs.Causes.{StaysQuiet}
 use Rattle.mc_rows.specs.Rows.{tombs_of}
 use Rattle.mc_rows.specs.Live.{hides, live_rows}
+use Rattle.mc_rows.specs.Seen.{SeenFits}
 use Rattle.mc_rows.specs.Values.{ranked_best}
 use Rattle.mc_rows.proofs.live.best_of_old.Given as goal
 
@@ -17,4 +18,5 @@ invariant-loop-row g l = record {
   quiet : StaysQuiet (g.K.Keeper.quiet l.fn.keeper) (g.K.Keeper.quiet l.keeper) (g.K.Keeper.own l.fn.keeper) (g.K.Keeper.own l.keeper);
   faults : g.K.Counted.faults l.fn.keeper ≤ g.K.Counted.faults l.keeper;
   best : IfSome (g.K.Keeper.told l.fn.keeper) (λ kept. ranked_best l.best ≡ greatest (live_rows (hides (processed kept) (tombs_of l.tombs) l.key) (take l.row-index l.rows)));
+  last : IfSome (g.K.Keeper.told l.fn.keeper) (λ kept. SeenFits (processed kept) (tombs_of l.tombs) l.key l.last);
 }
