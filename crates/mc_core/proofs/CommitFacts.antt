@@ -14,6 +14,7 @@ use Rattle.mc_keep.specs.Tables.{StoreFits, MarksFit, ChangesFit}
 use Rattle.mc_model.specs.State.{OpenBatch}
 use Rattle.mc_model.specs.Wanted.{no_queue}
 use Rattle.mc_core.specs.Events.{ReplicaState, state_of, Goes, CommitBreaks, Breaks}
+use Rattle.mc_core.specs.Plans.{IsReady, HasLinks}
 use Rattle.mc_core.specs.Replica.{run_of, running_with}
 
 -- a commit that only stores is this event
@@ -140,3 +141,19 @@ pub process_failed : (law : ProcessLaw) (old new : Option Kept) (fuse fuse_new :
 process_failed law old new fuse fuse_new stopped batch whole changes rose up is_burnt sound fits store marks mark told =
     subst (λ b. Told (state_of old fuse (run_of b batch whole)) (state_of new fuse_new None) (λ s after. Breaks (Process changes.marks ∷ []) rose s after)) (sym up)
     (process_breaks law old new fuse fuse_new (running_with batch whole) changes rose is_burnt sound fits store marks mark told)
+
+-- what is ready, where it is told
+
+pub ready_fits : (told : Option Kept) (whole : Bool) (changes : Changes) → IfSome told (λ kept. IsReady kept whole changes × HasLinks kept changes.marks) → IfSome told (λ kept. ChangesFit kept changes)
+ready_fits None whole changes p = tt
+ready_fits (Some kept) whole changes p = p.0.fits
+
+pub ready_mark : (told : Option Kept) (whole : Bool) (changes : Changes) → IfSome told (λ kept. IsReady kept whole changes × HasLinks kept changes.marks)
+    → IfSome told (λ kept. unwrap_or changes.mark kept.mark ≡ processed_mark whole (durable_of kept) (kept.order ++ changes.marks))
+ready_mark None whole changes p = tt
+ready_mark (Some kept) whole changes p = p.0.mark
+
+pub ready_links : (told : Option Kept) (whole : Bool) (changes : Changes) → IfSome told (λ kept. IsReady kept whole changes × HasLinks kept changes.marks)
+    → IfSome told (λ kept. processed_queue (durable_of kept) no_queue changes.marks ≡ no_queue)
+ready_links None whole changes p = tt
+ready_links (Some kept) whole changes p = p.1

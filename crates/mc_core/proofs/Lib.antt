@@ -1,3 +1,4 @@
 pub mod EventFacts
 pub mod CommitFacts
 pub mod PlanFacts
+pub mod PartFacts

@@ -1,17 +1,18 @@
 -- The commits that take up a block.
-use Rattle.std.specs.Prelude.{◌≡◌, ⊤, ℕ, ◌+◌, Bool, true, List, [], ◌∷◌, ◌++◌, Option, Some, None, unwrap_or, Ok, if◌then◌else◌}
+use Rattle.std.specs.Prelude.{◌≡◌, ◌≢◌, IfSome, ⊤, ℕ, ◌+◌, Bool, true, false, List, [], ◌∷◌, ◌++◌, Option, Some, None, unwrap_or, Ok, if◌then◌else◌}
 use Rattle.std.specs.List.{list_all}
 use Rattle.mc_base.specs.declared.cid.Cid.{Cid}
 use Rattle.mc_model.specs.declared.block.Block.{Block}
 use Rattle.mc_model.specs.declared.block.Stored.{Stored}
-use Rattle.mc_model.specs.Events.{Event, Store, Process}
+use Rattle.mc_model.specs.Events.{Event, Store, Process, processed_mark, processed_queue}
 use Rattle.mc_model.specs.Front.{is_among}
 use Rattle.mc_model.specs.Kept.{Kept, processed, bytes_at, is_stored}
 use Rattle.mc_model.specs.Offer.{offer}
-use Rattle.mc_model.specs.State.{vertices}
+use Rattle.mc_model.specs.State.{durable_of, vertices}
+use Rattle.mc_model.specs.Wanted.{no_queue}
 use Rattle.mc_keep.specs.declared.changes.Changes.{Changes}
 use Rattle.mc_keep.specs.Changes.{no_changes, row_count}
-use Rattle.mc_keep.specs.Tables.{RowsFit, FrontFits}
+use Rattle.mc_keep.specs.Tables.{RowsFit, FrontFits, ChangesFit}
 use Rattle.mc_front.specs.Front.{mark_over}
 use Rattle.mc_core.specs.declared.plan.Plan.{Plan}
 
@@ -50,6 +51,21 @@ pub record IsSomePlan (kept : Kept) (whole : Bool) (plan : Plan) : Type 0 where
   pub block : Block
   pub bytes : List ℕ
   pub plans : IsPlan kept whole block bytes plan
+
+-- what holds of a plan over every keeper
+pub record IsShaped (plan : Plan) : Type 0 where
+  pub store : IfSome plan.store (λ store. (store.marks ≡ []) × (store.mark ≡ None) × (row_count store ≡ 1))
+  pub only : plan.process.store ≡ []
+  pub marks : plan.process.marks ≢ []
+
+-- the changes may be committed, and leave the mark that the definitions give
+pub record IsReady (kept : Kept) (whole : Bool) (changes : Changes) : Type 0 where
+  pub fits : ChangesFit kept changes
+  pub mark : unwrap_or changes.mark kept.mark ≡ processed_mark whole (durable_of kept) (kept.order ++ changes.marks)
+
+-- all links of these blocks are processed
+abbrev pub HasLinks : Kept → List Cid → Type 0
+HasLinks kept cids = processed_queue (durable_of kept) no_queue cids ≡ no_queue
 
 -- the rows of a plan
 abbrev pub plan_rows : Plan → ℕ

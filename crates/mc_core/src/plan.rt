@@ -7,7 +7,7 @@ ghost use Rattle.mc_model.specs.Kept.{Kept, bytes_at, is_stored};
 ghost use Rattle.mc_keep.specs.Causes.{IfTold, KeepCause, StaysQuiet};
 ghost use Rattle.mc_keep.specs.Changes.{no_changes};
 ghost use Rattle.mc_keep.specs.New.{AreNew};
-ghost use Rattle.mc_core.specs.Plans.{IsNew, IsPlan, Processes, plan_rows};
+ghost use Rattle.mc_core.specs.Plans.{IsNew, IsPlan, IsShaped, Processes, plan_rows};
 
 use mc_base::{Bytes, Cid, List};
 use mc_front::front_changes;
@@ -33,6 +33,8 @@ pub(crate) fn process_changes<K: Keeper>(
 ) -> Result<Changes, KeepError>
     requires { IfSome (K.told keeper.old) (λ kept. AreNew kept blocks.now) }
     ensures process { IfTold (K.told keeper.old) result (λ kept changes. Processes kept whole blocks.now (map (λ (block : Block). block.cid) blocks.now) changes) }
+    ensures only { IfOk result (λ changes. changes.store ≡ []) }
+    ensures marks { IfOk result (λ changes. changes.marks ≡ map (λ (block : Block). block.cid) blocks.now) }
     ensures told { K.told keeper.new ≡ K.told keeper.old }
     ensures fuse { K.fuse keeper.new ≡ K.fuse keeper.old }
     ensures spare { K.spare keeper.old ≤ K.spare keeper.new }
@@ -51,12 +53,12 @@ fn store_changes(
     alloc: Global,
     cid: Cid,
     bytes: Bytes,
-    is_stored: bool,
+    known: bool,
 ) -> Result<Option<Changes>, AllocError>
-    ensures known { is_stored ≡ true → IfOk result (λ store. store ≡ Rattle.std.specs.Prelude.None) }
-    ensures new { is_stored ≡ false → IfOk result (λ store. store ≡ Rattle.std.specs.Prelude.Some (record no_changes { store = record { cid = cid; bytes = bytes } ∷ [] })) }
+    ensures stored { known ≡ true → IfOk result (λ store. store ≡ Rattle.std.specs.Prelude.None) }
+    ensures new { known ≡ false → IfOk result (λ store. store ≡ Rattle.std.specs.Prelude.Some (record no_changes { store = record { cid = cid; bytes = bytes } ∷ [] })) }
 {
-    if is_stored {
+    if known {
         return Ok(None);
     }
     Ok(Some(store_of(alloc, cid, bytes)?))
@@ -76,12 +78,13 @@ pub(crate) fn plan_block<K: Keeper>(
     alloc: Global,
     block: &Block,
     bytes: Bytes,
-    is_stored: bool,
+    known: bool,
     whole: bool,
 ) -> Result<Plan, KeepError>
     requires new { IfSome (K.told keeper.old) (λ kept. IsNew kept block.now bytes) }
-    requires stored { IfSome (K.told keeper.old) (λ kept. is_stored ≡ is_stored kept.graph block.now.cid) }
+    requires stored { IfSome (K.told keeper.old) (λ kept. known ≡ is_stored kept.graph block.now.cid) }
     ensures plan { IfTold (K.told keeper.old) result (λ kept plan. IsPlan kept whole block.now bytes plan) }
+    ensures shape { IfOk result IsShaped }
     ensures room { IfOk result (λ plan. plan_rows plan ≤ K.spare keeper.new) }
     ensures told { K.told keeper.new ≡ K.told keeper.old }
     ensures fuse { K.fuse keeper.new ≡ K.fuse keeper.old }
@@ -89,12 +92,18 @@ pub(crate) fn plan_block<K: Keeper>(
     ensures quiet { StaysQuiet (K.quiet keeper.old) (K.quiet keeper.new) (K.own keeper.old) (K.own keeper.new) }
     ensures cause { KeepCause (K.faults keeper.old) (K.faults keeper.new) result }
 {
-    let process = process_changes(keeper, alloc, slice::from_ref(block), whole)?;
-    let store = store_changes(alloc, block.cid, bytes, is_stored)?;
+    let process = process_changes(keeper, alloc, one(block), whole)?;
+    let store = store_changes(alloc, block.cid, bytes, known)?;
     let rows = process.rows().saturating_add(1);
     if rows == u64::MAX {
         return Err(KeepError::Memory);
     }
     keeper.reserve(rows)?;
     Ok(Plan { store, process })
+}
+
+fn one(block: &Block) -> &[Block]
+    ensures { result.now ≡ block.now ∷ [] }
+{
+    slice::from_ref(block)
 }
