@@ -1,5 +1,7 @@
 pub mod CutFacts
 pub mod DeleteFacts
+pub mod DroppedFacts
+pub mod ElementFacts
 pub mod LengthFacts
 pub mod Membership
 pub mod PairFacts
