@@ -1,5 +1,5 @@
 -- The deleted keys of a batch after more were added.
-use Rattle.std.proofs.Common.{◌≡◌, ◌≢◌, ℕ, Bool, true, false, cond, ◌||◌, List, [], ◌∷◌, ◌++◌, map, Option, Some, None, sym, refl, ap, ◌∙◌, subst}
+use Rattle.std.proofs.Common.{◌≡◌, ◌≢◌, ℕ, suc, length, arith, Bool, true, false, cond, ◌||◌, List, [], ◌∷◌, ◌++◌, map, Option, Some, None, sym, refl, ap, ◌∙◌, subst}
 use Rattle.std.specs.Option.{unwrap_or}
 use Rattle.std.proofs.lemmas.List.{append-nil}
 use Rattle.std.proofs.lemmas.List.Folds.{list_any-append}
@@ -26,7 +26,11 @@ use Rattle.mc_model.specs.Front.{same_cid}
 use Rattle.mc_model.specs.SameMembers.{SameMembers}
 use Rattle.mc_model.proofs.Ascending.{ascends_is}
 use Rattle.mc_model.proofs.Members.{list_any-map}
-use Rattle.mc_write.specs.Held.{Dropped, deleted_of, deleted_in, cid_cmp, AreHeld}
+use Rattle.std.specs.Prelude.{IsTrue, ◌↔◌}
+use Rattle.mc_model.specs.Batch.{is_nil, is_empty_batch}
+use Rattle.mc_write.specs.declared.pair.Pair.{Pair as Own}
+use Rattle.mc_write.specs.Seen.{all_seen}
+use Rattle.mc_write.specs.Held.{Put, elements_in, Dropped, deleted_of, deleted_in, cid_cmp, AreHeld}
 use Rattle.mc_write.proofs.ElementFacts.{bytes_tied, bytes_same}
 use Rattle.mc_write.proofs.SortFacts.{sorted_once}
 
@@ -253,3 +257,18 @@ none_held (e ∷ es) held none = absurd (held.0.1 (first e.1 none))
     first : (cids : List Cid) → map (λ (c : Cid). (string_bytes e.0, c)) cids ++ deleted_in es ≡ [] → cids ≡ []
     first [] f = refl
     first (c ∷ cids) f = absurd (cc)
+
+pub nothing_added : (entries : List Dropped) (key : List ℕ) (own : List Own) → length own ≡ 0 → IsStrictlySortedBy string_cmp (keys_of entries) → AreHeld entries
+    → deleted_in entries ≡ ascending deleted_cmp (deleted_in entries ++ map (λ (pair : Pair). (key, pair.cid)) (all_seen own))
+nothing_added entries key [] none sorted held = none_added entries sorted held
+nothing_added entries key (pair ∷ own) none sorted held = absurd (omega arith)
+
+pub both_empty : (puts : List Put) (entries : List Dropped) (empty : Bool) → length puts ≡ 0 → IsTrue empty ↔ (length entries ≡ 0) → AreHeld entries → empty ≡ is_empty_batch (record { elements = elements_in puts; pairs = deleted_in entries })
+both_empty (put ∷ puts) entries empty no_puts same held = absurd (omega arith)
+both_empty [] [] empty no_puts same held = same.1 refl
+both_empty [] (e ∷ es) true no_puts same held = absurd (let none : suc (length es) ≡ 0 = same.0 refl in omega arith)
+both_empty [] (e ∷ es) false no_puts same held = first e.1 held.0.1
+  where
+    first : (cids : List Cid) → cids ≢ [] → false ≡ is_nil (map (λ (c : Cid). (string_bytes e.0, c)) cids ++ deleted_in es)
+    first [] some = absurd (some refl)
+    first (c ∷ cids) some = refl

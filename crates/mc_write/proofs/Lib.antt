@@ -1,3 +1,4 @@
+pub mod BatchFacts
 pub mod CutFacts
 pub mod DeleteFacts
 pub mod DroppedFacts
