@@ -1,5 +1,5 @@
 -- A batch of puts and deletes that become one block.
-use Rattle.std.specs.Prelude.{ℕ, not, List, [], ◌∷◌, ◌++◌, map, filter}
+use Rattle.std.specs.Prelude.{ℕ, Bool, true, false, not, ◌&&◌, List, [], ◌∷◌, ◌++◌, map, filter}
 use Rattle.std.specs.Ordering.{nat_cmp, on, then_cmp}
 use Rattle.std.specs.declared.cmp.Ordering.{Ordering}
 use Rattle.std.specs.declared.cmp.Ordering.TheVariants.{Less, Equal, Greater}
@@ -14,9 +14,17 @@ use Rattle.mc_model.specs.Cuts.{Pair}
 use Rattle.mc_model.specs.Id.{id_text}
 use Rattle.mc_model.specs.State.{OpenBatch}
 
+abbrev pub is_nil : {X : Type 0} → List X → Bool
+is_nil [] = true
+is_nil (x ∷ xs) = false
+
 -- nothing is put or deleted
 abbrev pub empty_batch : OpenBatch
 empty_batch = record { elements = []; pairs = [] }
+
+-- whether it is that
+abbrev pub is_empty_batch : OpenBatch → Bool
+is_empty_batch batch = is_nil batch.elements && is_nil batch.pairs
 
 -- an element comes into its place by the key, for the one of its key that stands there
 abbrev pub put_element : Element → List Element → List Element

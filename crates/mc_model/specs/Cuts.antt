@@ -58,7 +58,7 @@ IsFull links priority key taken (next ∷ rest) = block_max < tombs_size links p
 pub record IsCut (links : List Cid) (priority : ℕ) (key : List ℕ) (taken rest : List Pair) (delta : Delta) : Type 0 where
   pub some : taken ≢ []
   pub made : delta ≡ tombs_delta key taken priority
-  pub fits : tombs_size links priority key taken ≤ block_max
+  pub fits : length (made_bytes links delta) ≤ block_max
   pub full : IsFull links priority key taken rest
 
 -- The deltas have the tombstones of all pairs, in order. The first has as many as its block, with these links and this

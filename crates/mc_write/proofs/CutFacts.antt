@@ -9,7 +9,7 @@ use Rattle.mc_model.specs.declared.delta.Element.{Element}
 use Rattle.mc_model.specs.declared.delta.Tomb.{Tomb}
 use Rattle.mc_model.specs.Cuts.{Pair, pair_tomb, tombs_delta, tombs_size, IsFull, IsCut, IsCuts, IsTooLarge, IsPriorityFull}
 use Rattle.mc_model.specs.DeltaText.{priority_bytes}
-use Rattle.mc_model.specs.Made.{made_cid}
+use Rattle.mc_model.specs.Made.{made_bytes, made_cid}
 use Rattle.mc_model.specs.Offer.{block_max}
 use Rattle.mc_write.specs.declared.error.WriteError.{WriteError}
 use Rattle.mc_write.specs.declared.error.WriteError.TheVariants.{BlockTooLarge, PriorityFull, Failed, Memory}
@@ -50,7 +50,7 @@ cut_is links priority key taken rest len base tomb most delta some digests len_i
     record {
       some = λ e. omega (arith, any, ap length e);
       made = made;
-      fits = rw (size_is links priority key taken some (digests_apart taken rest digests).0, ← whole) fits;
+      fits = rw (made, size_is links priority key taken some (digests_apart taken rest digests).0, ← whole) fits;
       full = full_is links priority key taken rest some digests (λ more.
           rw (← whole, ← base_is, ← tomb_is) (room.full (omega (arith, most_is, not_empty rest more))));
     }

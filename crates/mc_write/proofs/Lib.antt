@@ -1,5 +1,8 @@
+pub mod BatchFacts
 pub mod CutFacts
 pub mod DeleteFacts
+pub mod DroppedFacts
+pub mod ElementFacts
 pub mod LengthFacts
 pub mod Membership
 pub mod PairFacts

@@ -1,4 +1,5 @@
 pub mod Cutting
+pub mod Held
 pub mod Lengths
 pub mod PairOrder
 pub mod Refusals
