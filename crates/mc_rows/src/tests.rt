@@ -1,11 +1,15 @@
 // Groups of three blocks, merged over an empty keeper.
+ghost use Rattle.std.specs.Prelude.{◌≡◌, true, map};
+ghost use Rattle.mc_model.specs.declared.block.Block.{Block};
+ghost use Rattle.mc_model.specs.Ascending.{is_once};
+ghost use Rattle.mc_model.specs.Front.{same_cid};
+
 use crate::merge;
 use mc_base::{Bytes, Cid, List, Text};
 use mc_keep::Changes;
 use mc_keep_mem::{FaultPlan, MemKeeper};
 use mc_model::{Block, Delta, Element, Tomb, id_of};
 use std::alloc::Global;
-use std::process::Abort;
 use std::test::Fail;
 
 const ORDERS: [[usize; 3]; 6] = [
@@ -71,16 +75,28 @@ fn tomb(alloc: Global, delete: Delete) -> Result<Tomb, Fail> {
     })
 }
 
-fn merged(rt: &impl Abort, alloc: Global, blocks: &[Block]) -> Result<Changes, Fail> {
+// Whether these are three blocks with three identifiers.
+fn are_distinct(blocks: &[Block]) -> bool
+    ensures { result ≡ true → is_once same_cid (map (λ (block : Block). block.cid) blocks.now) ≡ true }
+{
     let [a, b, c] = blocks else {
-        return Ok(Changes::new(alloc));
+        return false;
     };
-    assert!(rt; a.cid != b.cid);
-    assert!(rt; a.cid != c.cid);
-    assert!(rt; b.cid != c.cid);
-    let mut keeper = MemKeeper::new(alloc, FaultPlan::nothing(alloc))?;
+    if a.cid == b.cid {
+        return false;
+    }
+    if a.cid == c.cid {
+        return false;
+    }
+    b.cid != c.cid
+}
+
+fn merged(alloc: Global, blocks: &[Block]) -> Result<Changes, Fail> {
     let mut changes = Changes::new(alloc);
-    merge(&mut keeper, alloc, blocks, &mut changes)?;
+    if are_distinct(blocks) {
+        let mut keeper = MemKeeper::new(alloc, FaultPlan::nothing(alloc))?;
+        merge(&mut keeper, alloc, blocks, &mut changes)?;
+    }
     Ok(changes)
 }
 
@@ -118,23 +134,42 @@ fn example(alloc: Global, which: usize) -> Result<Block, Fail> {
     }
 }
 
+fn examples(alloc: Global, order: [usize; 3]) -> Result<Vec<Block>, Fail> {
+    let mut blocks = Vec::new(alloc);
+    for which in order {
+        blocks.push(example(alloc, which)?)?;
+    }
+    Ok(blocks)
+}
+
+// The new value of the key `/k` of the examples, and how many rows there are.
+fn has_rows(
+    alloc: Global,
+    order: [usize; 3],
+    value: u8,
+    elements: usize,
+    tombs: usize,
+) -> Result<bool, Fail> {
+    let blocks = examples(alloc, order)?;
+    let changes = merged(alloc, blocks.as_slice())?;
+    let rows = changes.elements.len() == elements && changes.tombs.len() == tombs;
+    Ok(rows && changes.values.len() == 1 && is_value(&changes, "/k", value))
+}
+
+// Whether the new value of a key is this byte, with priority 1.
+fn is_value(changes: &Changes, key: &str, value: u8) -> bool {
+    match new_value(changes, key) {
+        Some((1, &[byte])) => byte == value,
+        _ => false,
+    }
+}
+
 #[test]
 fn a_tombstone_hides_in_every_order(rt: HostRuntime) -> Result<(), Fail> {
     let alloc = rt.alloc();
-    let without = [example(alloc, 0)?, example(alloc, 1)?, example(alloc, 3)?];
-    let changes = merged(&rt, alloc, &without)?;
-    assert!(rt; new_value(&changes, "/k") == Some((1, &[2][..])));
-    for [first, second, third] in ORDERS {
-        let blocks = [
-            example(alloc, first)?,
-            example(alloc, second)?,
-            example(alloc, third)?,
-        ];
-        let changes = merged(&rt, alloc, &blocks)?;
-        assert!(rt; new_value(&changes, "/k") == Some((1, &[1][..])));
-        assert_eq!(rt; changes.elements.len(), 2);
-        assert_eq!(rt; changes.tombs.len(), 1);
-        assert_eq!(rt; changes.values.len(), 1);
+    assert!(rt; has_rows(alloc, [0, 1, 3], 2, 2, 0)?);
+    for order in ORDERS {
+        assert!(rt; has_rows(alloc, order, 1, 2, 1)?);
     }
     Ok(())
 }
@@ -184,14 +219,12 @@ struct Dice {
 }
 
 impl Dice {
-    fn roll(&mut self, sides: u64) -> u64
-        requires { 0 < sides }
-    {
+    fn roll(&mut self, sides: u64) -> u64 {
         self.state = self
             .state
             .wrapping_mul(6364136223846793005)
             .wrapping_add(1442695040888963407);
-        (self.state >> 33) % sides
+        (self.state >> 33).checked_rem(sides).unwrap_or(0)
     }
 
     fn key(&mut self) -> &'static str {
@@ -229,20 +262,28 @@ fn random_block(alloc: Global, seed: u64, which: usize) -> Result<Block, Fail> {
     )
 }
 
+fn random_blocks(alloc: Global, seed: u64, order: [usize; 3]) -> Result<Vec<Block>, Fail> {
+    let mut blocks = Vec::new(alloc);
+    for which in order {
+        blocks.push(random_block(alloc, seed, which)?)?;
+    }
+    Ok(blocks)
+}
+
+fn follows_the_rule(alloc: Global, seed: u64, order: [usize; 3]) -> Result<bool, Fail> {
+    let blocks = random_blocks(alloc, seed, order)?;
+    let changes = merged(alloc, blocks.as_slice())?;
+    let a = new_value(&changes, "/a") == plain_value(alloc, blocks.as_slice(), "/a")?;
+    let b = new_value(&changes, "/b") == plain_value(alloc, blocks.as_slice(), "/b")?;
+    Ok(a && b)
+}
+
 #[test]
 fn random_groups_follow_the_value_rule(rt: HostRuntime) -> Result<(), Fail> {
     let alloc = rt.alloc();
     for seed in 0..50 {
-        for [first, second, third] in ORDERS {
-            let blocks = [
-                random_block(alloc, seed, first)?,
-                random_block(alloc, seed, second)?,
-                random_block(alloc, seed, third)?,
-            ];
-            let changes = merged(&rt, alloc, &blocks)?;
-            for key in ["/a", "/b"] {
-                assert!(rt; new_value(&changes, key) == plain_value(alloc, &blocks, key)?);
-            }
+        for order in ORDERS {
+            assert!(rt; follows_the_rule(alloc, seed, order)?);
         }
     }
     Ok(())
