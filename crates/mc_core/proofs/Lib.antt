@@ -2,3 +2,4 @@ pub mod EventFacts
 pub mod CommitFacts
 pub mod PlanFacts
 pub mod PartFacts
+pub mod TestFacts

@@ -58,7 +58,7 @@ module _ (fit_law : FitLaw) (sound_law : SoundLaw) (mark_law : MarkLaw) (links_l
       let cids : List Cid = map (λ (block : Block). block.cid) blocks in
       subst (λ graph. IsKept (with_order kept graph cids)) (append-nil kept.graph)
       (sound_law kept (marking cids) sound (record { good = refl; new = refl; once = refl })
-       (record { stored = ap (λ graph. list_all (is_stored graph) cids) (append-nil kept.graph) ∙ stored; new = new.1; once = new.0 }))
+      (record { stored = ap (λ graph. list_all (is_stored graph) cids) (append-nil kept.graph) ∙ stored; new = new.1; once = new.0 }))
 
   mark_fits : (kept : Kept) (whole : Bool) (blocks : List Block) (changes : Changes) → IsKept kept → AreNew kept blocks
       → list_all (is_stored kept.graph) (map (λ (block : Block). block.cid) blocks) ≡ true → blocks_in kept.graph (map (λ (block : Block). block.cid) blocks) ≡ blocks
@@ -164,8 +164,7 @@ module _ (fit_law : FitLaw) (sound_law : SoundLaw) (mark_law : MarkLaw) (links_l
       → list_all (is_among kept.order) block.links ≡ true → bytes_at kept.graph block.cid ≡ Some bytes → Processes kept whole (block ∷ []) (block.cid ∷ []) process → Both whole process kept
   both_stored kept whole block bytes process sound good new linked at p =
       let stored = one_stored kept.graph block bytes at in
-      let are = one_block kept.graph block bytes at good in
-      (
+      let are = one_block kept.graph block bytes at good in (
         ready fit_law sound_law mark_law links_law kept whole (block ∷ []) process sound (one_new kept block new) stored are p,
         subst (λ cids. HasLinks kept cids) (sym p.marks) (one_has_links fit_law sound_law mark_law links_law kept block stored are linked),
       )
@@ -178,12 +177,11 @@ module _ (fit_law : FitLaw) (sound_law : SoundLaw) (mark_law : MarkLaw) (links_l
       let after : Kept = record { graph = kept.graph ++ s; order = kept.order; mark = kept.mark } in
       let store : StoreFits kept (record no_changes { store = s }) = record { good = ap (λ r. is_ok r && true) n.good; new = ap (λ b. b || false) unstored; once = refl } in
       let sound_after : IsKept after = subst IsKept (stored_law kept s) (sound_law kept (record no_changes { store = s }) sound store (record { stored = refl; new = refl; once = refl })) in
-      let same : processed after ≡ processed kept = ap processed (sym (stored_law kept s)) ∙ same_law kept s sound in
-      (
+      let same : processed after ≡ processed kept = ap processed (sym (stored_law kept s)) ∙ same_law kept s sound in (
         storing_law kept s store,
         subst (Both whole process) (sym (stored_law kept s))
-        (both_stored after whole block bytes process sound_after n.good n.new n.linked (stored_now kept.graph block.cid bytes unstored)
-         (process_of kept after whole (block ∷ []) (block.cid ∷ []) process refl same p)),
+            (both_stored after whole block bytes process sound_after n.good n.new n.linked (stored_now kept.graph block.cid bytes unstored)
+            (process_of kept after whole (block ∷ []) (block.cid ∷ []) process refl same p)),
       )
 
   pub plan_stores : (kept : Kept) (whole : Bool) (store process : Changes) → IsKept kept → IsSomePlan kept whole (record { store = Some store; process = process })
@@ -213,13 +211,13 @@ module _ (fit_law : FitLaw) (sound_law : SoundLaw) (mark_law : MarkLaw) (links_l
   told_fits None whole plan store is sound p = tt
   told_fits (Some kept) whole plan store is sound p =
       (plan_stores fit_law sound_law mark_law links_law storing_law stored_law same_law kept whole store plan.process sound
-       (subst (λ s. IsSomePlan kept whole (record { store = s; process = plan.process })) is p)).0
+      (subst (λ s. IsSomePlan kept whole (record { store = s; process = plan.process })) is p)).0
 
   pub told_stores : (told : Option Kept) (whole : Bool) (plan : Plan) (store : Changes) → plan.store ≡ Some store → IfSome told IsKept → IfSome told (λ kept. IsSomePlan kept whole plan) → IfSome told (λ kept. Both whole plan.process (changed kept store))
   told_stores None whole plan store is sound p = tt
   told_stores (Some kept) whole plan store is sound p =
       (plan_stores fit_law sound_law mark_law links_law storing_law stored_law same_law kept whole store plan.process sound
-       (subst (λ s. IsSomePlan kept whole (record { store = s; process = plan.process })) is p)).1
+      (subst (λ s. IsSomePlan kept whole (record { store = s; process = plan.process })) is p)).1
 
   pub told_known : (told : Option Kept) (whole : Bool) (plan : Plan) → plan.store ≡ None → IfSome told IsKept → IfSome told (λ kept. IsSomePlan kept whole plan) → IfSome told (Both whole plan.process)
   told_known None whole plan is sound p = tt

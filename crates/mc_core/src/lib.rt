@@ -8,3 +8,6 @@ mod replica;
 
 pub use error::CoreError;
 pub use replica::Replica;
+
+#[cfg(test)]
+mod tests;

@@ -64,7 +64,7 @@ fn store_changes(
     Ok(Some(store_of(alloc, cid, bytes)?))
 }
 
-fn store_of(alloc: Global, cid: Cid, bytes: Bytes) -> Result<Changes, AllocError>
+pub(crate) fn store_of(alloc: Global, cid: Cid, bytes: Bytes) -> Result<Changes, AllocError>
     ensures { IfOk result (λ changes. changes ≡ record no_changes { store = record { cid = cid; bytes = bytes } ∷ [] }) }
 {
     let mut changes = Changes::new(alloc);
