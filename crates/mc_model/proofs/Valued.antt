@@ -22,7 +22,6 @@ use Rattle.mc_model.specs.Rank.{Ranked, greatest}
 use Rattle.mc_model.specs.Value.{ranked_elements}
 use Rattle.mc_model.proofs.Ascending.{ascending_ascends}
 
-
 -- keys that tie are equal
 pub keys_tied : (x y : List ℕ) → slice_cmp nat_cmp x y ≡ Equal → x ≡ y
 keys_tied x y e = (bytes_decides x y).0 (sym (is_eq-slice_cmp x y) ∙ ap is_eq e)

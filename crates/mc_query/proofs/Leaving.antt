@@ -1,9 +1,11 @@
 -- What reads leave as it was, one after another.
-use Rattle.std.proofs.Common.{◌≡◌, ℕ, ◌≤◌, ◌+◌, ◌-◌, ◌^◌, Bool, true, refl, subst, ◌∙◌, arith, Option, Some, None}
+use Rattle.std.proofs.Common.{◌≡◌, ℕ, ◌≤◌, Bool, false, refl, subst, ◌∙◌, arith, Option, Some, None}
 use Rattle.std.specs.Prelude.{IfSome}
 use Rattle.mc_model.specs.Kept.{Kept}
 use Rattle.mc_keep.specs.Causes.{StaysQuiet}
+use Rattle.mc_keep.specs.Plan.{Schedule}
 use Rattle.mc_keep.specs.declared.fuse.Fuse.{Fuse}
+use Rattle.mc_query.specs.Reads.{ReadsWithin}
 
 -- between two moments with reads alone: what is told and the fuse are the same, room and counts don't fall, and what is quiet stays so
 pub record IsLeft (told_old told : Option Kept) (fuse_old fuse : Option Fuse) (spare_old spare own_old own : ℕ) (quiet_old quiet : Bool) (faults_old faults : ℕ) : Type 0 where
@@ -15,8 +17,9 @@ pub record IsLeft (told_old told : Option Kept) (fuse_old fuse : Option Fuse) (s
   pub later : faults_old ≤ faults
 
 -- a loop over reads, with what holds of the processed blocks where they are told
-pub record IsReading (told_old told : Option Kept) (fuse_old fuse : Option Fuse) (spare_old spare own_old own : ℕ) (quiet_old quiet : Bool) (faults_old faults : ℕ) (from : Type 0) (holds : Kept → Type 0) : Type 0 where
+pub record IsReading (told_old told : Option Kept) (fuse_old fuse : Option Fuse) (spare_old spare own_old own : ℕ) (quiet_old quiet : Bool) (faults_old faults : ℕ) (schedule_old schedule : Option Schedule) (reads : ℕ) (from : Type 0) (holds : Kept → Type 0) : Type 0 where
   pub left : IsLeft told_old told fuse_old fuse spare_old spare own_old own quiet_old quiet faults_old faults
+  pub planned : ReadsWithin reads schedule_old schedule false
   pub past : from
   pub done : IfSome told_old holds
 

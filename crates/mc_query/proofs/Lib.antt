@@ -3,3 +3,4 @@ pub mod Leaving
 pub mod NextFacts
 pub mod PairFacts
 pub mod Slashes
+pub mod ReadFacts

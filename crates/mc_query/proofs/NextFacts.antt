@@ -16,7 +16,7 @@ use lib.Pointwise.{bytes_decides}
 use Rattle.mc_key.specs.Prefix.{is_under}
 use Rattle.mc_model.specs.declared.block.Block.{Block}
 use Rattle.mc_model.specs.Answers.{has_value, valued_keys}
-use Rattle.mc_model.specs.Live.{value, value_row}
+use Rattle.mc_model.specs.Live.{value_row}
 use Rattle.mc_model.specs.Rank.{Ranked}
 use Rattle.mc_keep.specs.Next.{is_past, IsNext, IsNextRow}
 use Rattle.mc_keep.specs.declared.rows.ValueRow.{ValueRow}

@@ -9,3 +9,6 @@ mod range;
 pub use lookup::{get, has};
 pub use pair::Pair;
 pub use range::query;
+
+#[cfg(test)]
+mod tests;

@@ -1,11 +1,13 @@
 // The keys under a prefix.
-ghost use Rattle.std.specs.Prelude.{◌≡◌, ◌≤◌, [], true, map, take, IfOk, IfSome, OnOk, ◌++◌, ◌∷◌};
+ghost use Rattle.std.specs.Prelude.{◌≡◌, ◌≤◌, ◌+◌, [], true, map, take, IfOk, IfSome, OnOk, ◌++◌, ◌∷◌};
 ghost use Rattle.mc_key.specs.Prefix.{is_under};
 ghost use Rattle.mc_model.specs.Answers as answers;
 ghost use Rattle.mc_model.specs.Answers.{with_value};
 ghost use Rattle.mc_model.specs.Kept.{processed};
 ghost use Rattle.mc_keep.specs.Causes.{IfTold, KeepCause, StaysQuiet};
 ghost use Rattle.mc_keep.specs.Next.{is_past};
+ghost use Rattle.mc_keep.specs.Plan.{ReadsAsPlanned, is_fault};
+ghost use Rattle.mc_query.specs.Reads.{ReadsWithin};
 ghost use Rattle.mc_query.specs.Places as places;
 ghost use Rattle.mc_query.specs.Places.{start_of, left_of, pair_of, pair_of_row, IsNextUnder, IsPassed};
 
@@ -34,6 +36,7 @@ pub fn query<K: Keeper>(
     ensures spare { K.spare keeper.old ≤ K.spare keeper.new }
     ensures own { KeepCause (K.own keeper.old) (K.own keeper.new) result }
     ensures quiet { StaysQuiet (K.quiet keeper.old) (K.quiet keeper.new) (K.own keeper.old) (K.own keeper.new) }
+    ensures planned { ReadsWithin (skip + count) (K.schedule keeper.old) (K.schedule keeper.new) (is_fault result) }
     ensures cause { KeepCause (K.faults keeper.old) (K.faults keeper.new) result }
 {
     if count == 0 {
@@ -62,6 +65,7 @@ fn pass_over<K: Keeper>(
     ensures spare { K.spare keeper.old ≤ K.spare keeper.new }
     ensures own { KeepCause (K.own keeper.old) (K.own keeper.new) result }
     ensures quiet { StaysQuiet (K.quiet keeper.old) (K.quiet keeper.new) (K.own keeper.old) (K.own keeper.new) }
+    ensures planned { ReadsWithin skip (K.schedule keeper.old) (K.schedule keeper.new) (is_fault result) }
     ensures cause { KeepCause (K.faults keeper.old) (K.faults keeper.new) result }
 {
     let mut place = Place {
@@ -98,6 +102,7 @@ fn take_rows<K: Keeper>(
     ensures spare { K.spare keeper.old ≤ K.spare keeper.new }
     ensures own { KeepCause (K.own keeper.old) (K.own keeper.new) result }
     ensures quiet { StaysQuiet (K.quiet keeper.old) (K.quiet keeper.new) (K.own keeper.old) (K.own keeper.new) }
+    ensures planned { ReadsWithin count (K.schedule keeper.old) (K.schedule keeper.new) (is_fault result) }
     ensures cause { KeepCause (K.faults keeper.old) (K.faults keeper.new) result }
 {
     let mut pairs = List::new(alloc);
@@ -137,6 +142,7 @@ fn next_under<K: Keeper>(
     ensures spare { K.spare keeper.old ≤ K.spare keeper.new }
     ensures own { KeepCause (K.own keeper.old) (K.own keeper.new) result }
     ensures quiet { StaysQuiet (K.quiet keeper.old) (K.quiet keeper.new) (K.own keeper.old) (K.own keeper.new) }
+    ensures planned { ReadsAsPlanned (K.schedule keeper.old) (K.schedule keeper.new) (is_fault result) }
     ensures cause { KeepCause (K.faults keeper.old) (K.faults keeper.new) result }
 {
     valued_keys_are_exact();
@@ -144,8 +150,8 @@ fn next_under<K: Keeper>(
     Ok(selected(prefix, next))
 }
 
-// The row where the prefix selects its key.
-fn selected(prefix: &str, next: Option<ValueRow>) -> Option<ValueRow>
+/// The row, where the prefix selects its key.
+pub fn selected(prefix: &str, next: Option<ValueRow>) -> Option<ValueRow>
     ensures { result ≡ places.selected prefix.now next }
 {
     match next {

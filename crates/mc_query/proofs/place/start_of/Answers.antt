@@ -1,4 +1,4 @@
-use Rattle.std.proofs.Common.{refl, sym, ◌∙◌, ap}
+use Rattle.std.proofs.Common.{sym, ◌∙◌, ap}
 use Rattle.std.proofs.lemmas.Bool.{eqb-true}
 use Rattle.mc_query.specs.Places.{with_slash}
 use Rattle.mc_query.proofs.Slashes.{trimmed, slash_after, slash_none}

@@ -8,5 +8,5 @@ use Rattle.mc_query.proofs.range.pass_over.Given as goal
 
 abbrev pub invariant-loop : goal.invariant-loop
 invariant-loop g l = IsReading (g.K.Keeper.told l.fn.keeper) (g.K.Keeper.told l.keeper) (g.K.Keeper.fuse l.fn.keeper) (g.K.Keeper.fuse l.keeper) (g.K.Keeper.spare l.fn.keeper) (g.K.Keeper.spare l.keeper)
-    (g.K.Keeper.own l.fn.keeper) (g.K.Keeper.own l.keeper) (g.K.Keeper.quiet l.fn.keeper) (g.K.Keeper.quiet l.keeper) (g.K.Counted.faults l.fn.keeper) (g.K.Counted.faults l.keeper)
+    (g.K.Keeper.own l.fn.keeper) (g.K.Keeper.own l.keeper) (g.K.Keeper.quiet l.fn.keeper) (g.K.Keeper.quiet l.keeper) (g.K.Counted.faults l.fn.keeper) (g.K.Counted.faults l.keeper) (g.K.Keeper.schedule l.fn.keeper) (g.K.Keeper.schedule l.keeper) l.counter
     (is_past (start_of l.prefix) true l.place.bound ≡ true) (λ (kept : Kept). IsPassing (processed kept) l.prefix l.place l.counter)
