@@ -135,30 +135,36 @@ fn a_block_has_room_for_16383_tombstones(rt: HostRuntime) -> Result<(), Fail> {
     Ok(())
 }
 
-// A put, a delete over an empty keeper, and a put of one key.
-fn batch_of_k(alloc: Global) -> Result<Batch, Fail> {
+fn put_k(batch: &mut Batch, value: u8) -> Result<(), Fail> {
+    batch.put(&key("/k")?, &[value])?;
+    Ok(())
+}
+
+fn delete_k(batch: &mut Batch, alloc: Global) -> Result<(), Fail> {
     let mut keeper = MemKeeper::new(alloc, FaultPlan::nothing(alloc))?;
-    let mut batch = Batch::new(alloc);
-    batch.put(&key("/k")?, &[1])?;
-    if batch.delete(&key("/k")?, &mut keeper).is_err() {
-        return Err(Fail::new("the delete is refused"));
+    match batch.delete(&key("/k")?, &mut keeper) {
+        Ok(()) => Ok(()),
+        Err(_) => Err(Fail::new("the delete is refused")),
     }
-    if !batch.is_empty() {
-        return Err(Fail::new("the element is kept"));
-    }
-    batch.put(&key("/k")?, &[2])?;
-    Ok(batch)
 }
 
 #[test]
 fn a_batch_has_the_last_value_of_a_key(rt: HostRuntime) -> Result<(), Fail> {
-    let batch = batch_of_k(rt.alloc())?;
+    let mut batch = Batch::new(rt.alloc());
+    put_k(&mut batch, 1)?;
     assert!(rt; !batch.is_empty());
+    delete_k(&mut batch, rt.alloc())?;
+    assert!(rt; batch.is_empty());
+    put_k(&mut batch, 2)?;
+    let made = batch_block(&batch, rt.alloc())?;
     let want = [10, 11, 10, 7, 10, 2, 47, 107, 26, 1, 2, 24, 1];
-    let delta = batch.delta(rt.alloc(), 1)?;
-    let made = block(rt.alloc(), &delta)?;
     assert_eq!(rt; made.as_slice(), want.as_slice());
     Ok(())
+}
+
+fn batch_block(batch: &Batch, alloc: Global) -> Result<Bytes, AllocError> {
+    let delta = batch.delta(alloc, 1)?;
+    block(alloc, &delta)
 }
 
 fn long_batch(alloc: Global) -> Result<Batch, Fail> {
