@@ -27,5 +27,5 @@ pub tombs_more : {A : Type 0} (f : A → Dropped) (yielded : List A) (entry : A)
     → now ≡ map deleted_tomb (deleted_in (map f (yielded ++ entry ∷ [])))
 tombs_more f yielded entry tombs now so_far more =
     let all : deleted_in (map f (yielded ++ entry ∷ [])) ≡ deleted_in (map f yielded) ++ deleted_of (f entry) =
-        ap deleted_in (map-append f yielded (entry ∷ [])) ∙ flat_map-append deleted_of (map f yielded) (f entry ∷ []) ∙ ap (λ rest. deleted_in (map f yielded) ++ rest) (append-nil (deleted_of (f entry))) in
+    ap deleted_in (map-append f yielded (entry ∷ [])) ∙ flat_map-append deleted_of (map f yielded) (f entry ∷ []) ∙ ap (λ rest. deleted_in (map f yielded) ++ rest) (append-nil (deleted_of (f entry))) in
     more ∙ ap (λ before. before ++ map deleted_tomb (deleted_of (f entry))) so_far ∙ sym (map-append deleted_tomb (deleted_in (map f yielded)) (deleted_of (f entry))) ∙ ap (map deleted_tomb) (sym all)

@@ -179,7 +179,7 @@ any_put test (e ∷ es) key cids more parts =
           ∙ ap (λ b. b || list_any test (deleted_in (e ∷ es))) p
           ∙ ap (λ b. (any_of test (string_bytes key) (found key es) || any_of test (string_bytes key) more) || b) (list_any-append test (deleted_of e) (deleted_in es))
           ∙ first_of (any_of test (string_bytes key) (found key es)) (any_of test (string_bytes key) more) (list_any test (deleted_of e) || list_any test (deleted_in es))
-            (within (any_of test (string_bytes key) (found key es)) (list_any test (deleted_of e)) (list_any test (deleted_in es)) (absorbed test es key))
+          (within (any_of test (string_bytes key) (found key es)) (list_any test (deleted_of e)) (list_any test (deleted_in es)) (absorbed test es key))
       | Equal ↦ λ t p.
           let same : string_bytes key ≡ string_bytes e.0 = bytes_tied (string_bytes key) (string_bytes e.0) t in
           list_any-append test (map (λ (c : Cid). (string_bytes e.0, c)) cids) (deleted_in es)
@@ -233,12 +233,14 @@ pairs_added entries now name key cids held taken named sorted are_held put held_
     record {
       pairs = ascends_is deleted_cmp deleted_total deleted_tied (deleted_in now) (deleted_in entries ++ map (λ (pair : Pair). (key, pair.cid)) taken) (record {
         sorted = all_sorted now sorted still;
-        members = record { same = λ test.
-            ap (λ es. list_any test (deleted_in es)) put
-            ∙ any_put test entries name cids (cids_of taken) (same_of test (string_bytes name) cids held (cids_of taken) merged.members ∙ ap (λ cs. any_of test (string_bytes name) cs || any_of test (string_bytes name) (cids_of taken)) held_found)
-            ∙ ap (λ (bytes : List ℕ). list_any test (deleted_in entries) || any_of test bytes (cids_of taken)) named
-            ∙ ap (λ b. list_any test (deleted_in entries) || b) (any_taken test key taken)
-            ∙ sym (list_any-append test (deleted_in entries) (map (λ (pair : Pair). (key, pair.cid)) taken)) };
+        members = record {
+          same = λ test.
+              ap (λ es. list_any test (deleted_in es)) put
+              ∙ any_put test entries name cids (cids_of taken) (same_of test (string_bytes name) cids held (cids_of taken) merged.members ∙ ap (λ cs. any_of test (string_bytes name) cs || any_of test (string_bytes name) (cids_of taken)) held_found)
+              ∙ ap (λ (bytes : List ℕ). list_any test (deleted_in entries) || any_of test bytes (cids_of taken)) named
+              ∙ ap (λ b. list_any test (deleted_in entries) || b) (any_taken test key taken)
+              ∙ sym (list_any-append test (deleted_in entries) (map (λ (pair : Pair). (key, pair.cid)) taken));
+        };
       });
       held = still;
     }

@@ -52,10 +52,10 @@ elements_put [] key value = refl
 elements_put (e ∷ es) key value = (elim (string_cmp key e.0) as (λ o. string_cmp key e.0 ≡ o
     → elements_in (match_ordering o ((key, value) ∷ e ∷ es) ((e.0, value) ∷ es) (e ∷ insert_entry string_cmp es key value))
     ≡ elim o [ Less ↦ made (string_bytes key) value ∷ element_in e ∷ elements_in es | Equal ↦ made (string_bytes key) value ∷ elements_in es | Greater ↦ element_in e ∷ put_element (made (string_bytes key) value) (elements_in es) ]) [
-  | Less ↦ λ t. refl
-  | Equal ↦ λ t. ap (λ (bytes : List ℕ). made bytes value ∷ elements_in es) (sym (bytes_tied (string_bytes key) (string_bytes e.0) t))
-  | Greater ↦ λ t. ap (λ rest. element_in e ∷ rest) (elements_put es key value)
-]) refl
+      | Less ↦ λ t. refl
+      | Equal ↦ λ t. ap (λ (bytes : List ℕ). made bytes value ∷ elements_in es) (sym (bytes_tied (string_bytes key) (string_bytes e.0) t))
+      | Greater ↦ λ t. ap (λ rest. element_in e ∷ rest) (elements_put es key value)
+    ]) refl
 
 abbrev keep : List ℕ → Element → Bool
 keep key element = not (bytes_eq element.key key)

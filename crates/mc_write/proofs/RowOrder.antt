@@ -93,7 +93,7 @@ between first middle last below (inr less) e = elim (less_digest middle first be
   | inr tied ↦ digests_same middle first tied
   | inl lower ↦
       let back : (slice_cmp nat_cmp first.cid.0 middle.cid.0 ≡ Less) ⊎ (slice_cmp nat_cmp first.cid.0 middle.cid.0 ≡ Equal) =
-          subst (λ z. (slice_cmp nat_cmp z.0 middle.cid.0 ≡ Less) ⊎ (slice_cmp nat_cmp z.0 middle.cid.0 ≡ Equal)) (cid_is last.cid first.cid e) (less_digest last middle less) in
+      subst (λ z. (slice_cmp nat_cmp z.0 middle.cid.0 ≡ Less) ⊎ (slice_cmp nat_cmp z.0 middle.cid.0 ≡ Equal)) (cid_is last.cid first.cid e) (less_digest last middle less) in
       absurd (let f : true ≡ false = not_less (slice_cmp nat_cmp middle.cid.0 first.cid.0) (slice_cmp nat_cmp first.cid.0 middle.cid.0) (nat_list_cmp_total.antisymm middle.cid.0 first.cid.0) lower back in cc)
 ]
 
@@ -169,6 +169,6 @@ pub value_up_to : (other row : ElementRow) → UpTo other row → same_block row
 value_up_to other row (inl same) e = ap (λ (z : ElementRow). is_gt (slice_cmp nat_cmp z.value row.value)) same ∙ ap is_gt (tied_itself nat_list_cmp_total row.value)
 value_up_to other row (inr less) e =
     let tied : slice_cmp nat_cmp other.cid.0 row.cid.0 ≡ Equal =
-        ap (λ (c : Cid). slice_cmp nat_cmp other.cid.0 c.0) (cid_is row.cid other.cid e) ∙ tied_itself nat_list_cmp_total other.cid.0 in
+    ap (λ (c : Cid). slice_cmp nat_cmp other.cid.0 c.0) (cid_is row.cid other.cid e) ∙ tied_itself nat_list_cmp_total other.cid.0 in
     second_part (slice_cmp nat_cmp other.value row.value) (slice_cmp nat_cmp other.key row.key) (nat_cmp other.priority row.priority)
     (ap (λ o. ordering_then (ordering_then (ordering_then o (slice_cmp nat_cmp other.value row.value)) (slice_cmp nat_cmp other.key row.key)) (nat_cmp other.priority row.priority)) (sym tied) ∙ less)

@@ -62,16 +62,16 @@ fold_to [] best m (inl same) b h = ap (λ z. Some z) (sym same)
 fold_to [] best m (inr i) b h = absurd i
 fold_to (x ∷ xs) best m at b h = (elim (is_lt (rank_cmp best x)) as (λ t. is_lt (rank_cmp best x) ≡ t → fold greater (cond t (Some x) (Some best)) xs ≡ Some m) [
   | true ↦ λ e. fold_to xs x m (elim at [
-      | inl same ↦ absurd (let f : true ≡ false = sym e ∙ sym (gt_lt x best) ∙ ap (λ z. is_gt (rank_cmp x z)) (sym same) ∙ h x (inl refl) in cc)
-      | inr i ↦ i
-    ]) (h x (inl refl)) (λ y i. h y (inr i))
+    | inl same ↦ absurd (let f : true ≡ false = sym e ∙ sym (gt_lt x best) ∙ ap (λ z. is_gt (rank_cmp x z)) (sym same) ∙ h x (inl refl) in cc)
+    | inr i ↦ i
+  ]) (h x (inl refl)) (λ y i. h y (inr i))
   | false ↦ λ e. fold_to xs best m (elim at [
-      | inl same ↦ inl same
-      | inr i ↦ elim i [
-        | inl same ↦ inl (sym (neither best m (ap (λ z. is_lt (rank_cmp best z)) same ∙ e) b))
-        | inr j ↦ inr j
-      ]
-    ]) b (λ y i. h y (inr i))
+    | inl same ↦ inl same
+    | inr i ↦ elim i [
+      | inl same ↦ inl (sym (neither best m (ap (λ z. is_lt (rank_cmp best z)) same ∙ e) b))
+      | inr j ↦ inr j
+    ]
+  ]) b (λ y i. h y (inr i))
 ]) refl
 
 pub greatest_is : (xs : List Ranked) (m : Ranked) → In m xs → ((x : Ranked) → In x xs → is_gt (rank_cmp x m) ≡ false) → greatest xs ≡ Some m
@@ -130,13 +130,13 @@ pair_is blocks key row from top =
     let block = from.block in
     let best : Ranked = (block.delta.priority, row.value) in
     let member : In best (ranked_in key block) =
-        subst (λ (v : List ℕ). In (block.delta.priority, v) (ranked_in key block)) (sym (ap (λ (r : ElementRow). r.value) from.is))
-        (in_map (λ (element : Element). (block.delta.priority, element.value)) from.element (filter (λ (element : Element). bytes_eq element.key key) block.delta.elements)
-        (in_filter (λ (element : Element). bytes_eq element.key key) from.element block.delta.elements from.has from.keyed)) in
+    subst (λ (v : List ℕ). In (block.delta.priority, v) (ranked_in key block)) (sym (ap (λ (r : ElementRow). r.value) from.is))
+    (in_map (λ (element : Element). (block.delta.priority, element.value)) from.element (filter (λ (element : Element). bytes_eq element.key key) block.delta.elements)
+    (in_filter (λ (element : Element). bytes_eq element.key key) from.element block.delta.elements from.has from.keyed)) in
     let bound : (x : Ranked) → In x (ranked_in key block) → is_gt (rank_cmp x best) ≡ false = λ x i.
-        let made = from_map (λ (element : Element). (block.delta.priority, element.value)) x (filter (λ (element : Element). bytes_eq element.key key) block.delta.elements) i in
-        let kept = from_filter (λ (element : Element). bytes_eq element.key key) made.item block.delta.elements made.within in
-        ap (λ (z : Ranked). is_gt (rank_cmp z best)) made.is ∙ rank_of_value block.delta.priority made.item.value row.value (top made.item kept.0 kept.1) in
+    let made = from_map (λ (element : Element). (block.delta.priority, element.value)) x (filter (λ (element : Element). bytes_eq element.key key) block.delta.elements) i in
+    let kept = from_filter (λ (element : Element). bytes_eq element.key key) made.item block.delta.elements made.within in
+    ap (λ (z : Ranked). is_gt (rank_cmp z best)) made.is ∙ rank_of_value block.delta.priority made.item.value row.value (top made.item kept.0 kept.1) in
     let found : greatest (ranked_in key block ++ []) ≡ Some best = ap greatest (append-nil (ranked_in key block)) ∙ greatest_is (ranked_in key block) best member bound in
     let cid : row.cid ≡ block.cid = ap (λ (r : ElementRow). r.cid) from.is in
     let priority : row.priority ≡ block.delta.priority = ap (λ (r : ElementRow). r.priority) from.is in
@@ -151,9 +151,9 @@ pair_is blocks key row from top =
 element_of_pair : (blocks : List Block) (key : List ℕ) (block : Block) (pair : Pair) → pair_in blocks key block ≡ Some pair → (element : Element) × In element block.delta.elements × (bytes_eq element.key key ≡ true)
 element_of_pair blocks key block pair e = (elim (is_hidden blocks key block) as (λ t. option_map (λ (ranked : Ranked). record { priority = ranked.0; value = ranked.1; cid = block.cid }) (greatest (cond t [] (ranked_in key block) ++ [])) ≡ Some pair
     → (element : Element) × In element block.delta.elements × (bytes_eq element.key key ≡ true)) [
-  | true ↦ λ f. absurd (let g : None ≡ Some pair = f in cc)
-  | false ↦ λ f. first (filter (λ (element : Element). bytes_eq element.key key) block.delta.elements) refl f
-]) e
+      | true ↦ λ f. absurd (let g : None ≡ Some pair = f in cc)
+      | false ↦ λ f. first (filter (λ (element : Element). bytes_eq element.key key) block.delta.elements) refl f
+    ]) e
   where
     first : (elements : List Element) → filter (λ (element : Element). bytes_eq element.key key) block.delta.elements ≡ elements
         → option_map (λ (ranked : Ranked). record { priority = ranked.0; value = ranked.1; cid = block.cid }) (greatest (map (λ (element : Element). (block.delta.priority, element.value)) elements ++ [])) ≡ Some pair
@@ -202,8 +202,8 @@ module _ (graph : List Stored) (order : List Cid) (key : List ℕ) (rows : List 
         let own : block_in graph row.cid ≡ from.block = ap (block_in graph) cid ∙ is_own graph order from.block from.within in
         let same : (element : Element) → same_block row (element_row from.block element) ≡ true = λ element. subst (λ (c : Cid). same_cid c from.block.cid ≡ true) (sym cid) (own_same from.block.cid) in
         ap (pair_in (blocks_in graph order) key) own ∙ pair_is (blocks_in graph order) key row from (λ element j e.
-            let other = element_row from.block element in
-            value_up_to other row (last_tops (reverse rows) descends row other i (forth other (has_row (blocks_in graph order) key from.block element from.within j e)) (same element)) (same element))
+        let other = element_row from.block element in
+        value_up_to other row (last_tops (reverse rows) descends row other i (forth other (has_row (blocks_in graph order) key from.block element from.within j e)) (same element)) (same element))
       where
         own_same : (c : Cid) → same_cid c c ≡ true
         own_same c = cid_itself c
@@ -224,7 +224,7 @@ module _ (graph : List Stored) (order : List Cid) (key : List ℕ) (rows : List 
         let kept = from_filter shown made.item (last_rows rows) made.within in
         let free : has_tomb (blocks_in graph order) key (id_text made.item.cid.0) ≡ false = not_false (has_tomb (blocks_in graph order) key (id_text made.item.cid.0)) kept.1 in
         let gives : pair_in (blocks_in graph order) key (block_in graph made.item.cid) ≡ Some found.item =
-            kept_pair made.item kept.0 ∙ ap (λ (t : Bool). cond t None (Some (row_pair made.item))) free ∙ ap (λ (z : Pair). Some z) (sym made.is) in
+        kept_pair made.item kept.0 ∙ ap (λ (t : Bool). cond t None (Some (row_pair made.item))) free ∙ ap (λ (z : Pair). Some z) (sym made.is) in
         any_from_in test found.item (filter_map (pair_in (blocks_in graph order) key) (blocks_in graph order))
         (in_filter_map (pair_in (blocks_in graph order) key) (block_in graph made.item.cid) found.item (blocks_in graph order) (kept_within made.item kept.0) gives) found.passes
 
@@ -239,7 +239,7 @@ module _ (graph : List Stored) (order : List Cid) (key : List ℕ) (rows : List 
         let cid : row.cid ≡ block.cid = cid_is row.cid block.cid last.2 in
         let own : block_in graph row.cid ≡ block = ap (block_in graph) cid ∙ is_own graph order block given.within in
         let gives : cond (has_tomb (blocks_in graph order) key (id_text row.cid.0)) None (Some (row_pair row)) ≡ Some found.item =
-            sym (kept_pair row last.1) ∙ ap (pair_in (blocks_in graph order) key) own ∙ given.gives in
+        sym (kept_pair row last.1) ∙ ap (pair_in (blocks_in graph order) key) own ∙ given.gives in
         (elim (has_tomb (blocks_in graph order) key (id_text row.cid.0)) as (λ t. has_tomb (blocks_in graph order) key (id_text row.cid.0) ≡ t → cond t None (Some (row_pair row)) ≡ Some found.item → list_any test (map row_pair (filter shown (last_rows rows))) ≡ true) [
           | true ↦ λ s g. absurd (let h : None ≡ Some found.item = g in cc)
           | false ↦ λ s g.

@@ -73,7 +73,12 @@ impl Batch {
         ensures cause { KeepCause (K.faults keeper.old) (K.faults keeper.new) result }
     {
         let pairs = seen_pairs(keeper, self.alloc, key.as_str())?;
-        add_pairs(self.alloc, &mut self.dropped, key.as_str(), pairs.as_slice())?;
+        add_pairs(
+            self.alloc,
+            &mut self.dropped,
+            key.as_str(),
+            pairs.as_slice(),
+        )?;
         drop_element(&mut self.elements, key.as_str());
         Ok(())
     }

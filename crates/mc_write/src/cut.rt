@@ -119,8 +119,9 @@ fn after(priority: Option<u64>) -> Option<u64>
     priority?.checked_add(1)
 }
 
-/// One more than the greatest height of a head, or none where that passes `u64::MAX`.
-pub(crate) fn next_priority(heads: &[HeadRow]) -> Option<u64>
+/// The priority of a block that links to these heads: one more than the greatest height of a head, 1 where there is no
+/// head, and none where it would pass `u64::MAX`.
+pub fn next_priority(heads: &[HeadRow]) -> Option<u64>
     ensures { number result ≡ greatest_height (heads_in_rows heads.now) + 1 }
 {
     after(Some(greatest_height(heads)))

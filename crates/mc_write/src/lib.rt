@@ -13,6 +13,10 @@ mod put;
 mod seen;
 
 pub use batch::Batch;
+pub use cut::next_priority;
 pub use delete::delete_deltas;
 pub use error::WriteError;
 pub use put::put_delta;
+
+#[cfg(test)]
+mod tests;

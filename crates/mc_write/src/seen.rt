@@ -68,7 +68,8 @@ fn shown_pairs<K: Keeper>(
     Ok(pairs)
 }
 
-fn push_pair(pairs: &mut Vec<Pair>, row: ElementRow) -> Result<(), AllocError>
+// Adds the pair of a row.
+pub(crate) fn push_pair(pairs: &mut Vec<Pair>, row: ElementRow) -> Result<(), AllocError>
     ensures pairs { OnOk result (all_seen pairs.new.items ≡ all_seen pairs.old.items ++ row_pair row ∷ []) }
     ensures digests { OnOk result (have_digests (all_seen pairs.old.items) ≡ true → have_digests (all_seen pairs.new.items) ≡ true) }
 {

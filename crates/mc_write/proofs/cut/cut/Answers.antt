@@ -12,9 +12,9 @@ returns-in_err-delta-clause-refused c =
     let any : 0 < length l.rest.now = grind (arith, nat_tests, c.is_empty.ensures, c.loop-rest-test.true) in
     let p = err_from_is_err_and c.from_residual.result c.from_residual.ensures.1 in
     rw (p.1, p.2) (λ cids len.
-        let cutting = l.invariant.cutting cids len in
-        cutting_refused cids (number c.args.priority) c.args.key.now (all_seen c.args.pairs.now) l.links (number l.priority) (all_seen l.rest.now) l.deltas c.in_err-delta.field-0.0 cutting
-        c.tomb_len-tomb.ensures.some c.tomb_len-tomb.ensures.short l.invariant.digests (some_seen l.rest.now any) (c.in_err-delta.ensures.refused cutting.links cutting.len_is))
+    let cutting = l.invariant.cutting cids len in
+    cutting_refused cids (number c.args.priority) c.args.key.now (all_seen c.args.pairs.now) l.links (number l.priority) (all_seen l.rest.now) l.deltas c.in_err-delta.field-0.0 cutting
+    c.tomb_len-tomb.ensures.some c.tomb_len-tomb.ensures.short l.invariant.digests (some_seen l.rest.now any) (c.in_err-delta.ensures.refused cutting.links cutting.len_is))
 
 pub loop-rest-preserved : goal.loop-rest-preserved
 loop-rest-preserved c =
