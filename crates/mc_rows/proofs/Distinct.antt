@@ -1,5 +1,5 @@
 -- Blocks of a test, over a keeper that has none.
-use Rattle.std.proofs.Common.{◌≡◌, Bool, true, false, not, List, [], ◌∷◌, map, ◌&&◌, ◌||◌, sym, refl, ap, ◌∙◌, subst}
+use Rattle.std.proofs.Common.{◌≡◌, true, false, List, [], ◌∷◌, map, refl, ap, ◌∙◌}
 use Rattle.std.specs.List.{list_any}
 use Rattle.mc_base.specs.declared.cid.Cid.{Cid}
 use Rattle.mc_model.specs.declared.block.Block.{Block}
@@ -14,7 +14,3 @@ new_over_nothing kept blocks none once = (once, ap (λ (k : Kept). list_any (is_
     nowhere : (cids : List Cid) → list_any (is_among []) cids ≡ false
     nowhere [] = refl
     nowhere (c ∷ cids) = nowhere cids
-
-pub three_apart : (a b c : Cid) → same_cid a b ≡ false → same_cid a c ≡ false → same_cid b c ≡ false → is_once same_cid (a ∷ b ∷ c ∷ []) ≡ true
-three_apart a b c e f g =
-    ap (λ t. not (t || (same_cid a c || false)) && is_once same_cid (b ∷ c ∷ [])) e ∙ ap (λ t. not (t || false) && is_once same_cid (b ∷ c ∷ [])) f ∙ ap (λ t. not (t || false) && true) g

@@ -9,7 +9,6 @@ use Rattle.std.proofs.lemmas.Map.Views.{any-filter_same}
 use lib.Pointwise.{bytes_decides}
 use denote.Ref.{Bor}
 use Rattle.mc_model.specs.declared.block.Block.{Block}
-use Rattle.mc_model.specs.declared.delta.Tomb.{Tomb}
 use Rattle.mc_model.specs.SameMembers.{SameMembers}
 use Rattle.mc_model.specs.Ascending.{is_once}
 use Rattle.mc_model.specs.Front.{same_cid}
@@ -29,7 +28,7 @@ use Rattle.mc_rows.specs.declared.elements.NewElement.{NewElement}
 use Rattle.mc_rows.specs.declared.tombs.NewTomb.{NewTomb}
 use Rattle.mc_rows.specs.Rows.{rows_of, tombs_of, tomb_row, tomb_rows, new_element_cmp, new_tomb_cmp}
 use Rattle.mc_rows.specs.Live.{is_unknown, hides, has_element_of, has_tomb_of, new_row}
-use Rattle.mc_rows.specs.Values.{has_key, has_change_of, ValuesFit}
+use Rattle.mc_rows.specs.Values.{has_key, ValuesFit}
 use Rattle.mc_rows.proofs.Lives.{new_row_is, new_row_untouched}
 use Rattle.mc_rows.proofs.OnceRows.{tombs_stand_once, elements_stand_once}
 use Rattle.mc_rows.proofs.Step.{unspoken}

@@ -1,7 +1,7 @@
 -- What lives of the rows of a key, against what lives of the blocks that the rows are of.
-use Rattle.std.proofs.Common.{◌≡◌, ℕ, Bool, true, false, cond, not, List, [], ◌∷◌, ◌++◌, map, ◌||◌, ◌&&◌, ◌⊎◌, inl, inr, sym, refl, ap, ◌∙◌, subst}
-use Rattle.std.specs.Prelude.{filter, fold, Option, Some, None}
-use Rattle.std.specs.List.{list_any, flat_map}
+use Rattle.std.proofs.Common.{◌≡◌, ℕ, Bool, true, false, cond, List, [], ◌∷◌, ◌++◌, map, ◌||◌, ◌&&◌, ◌⊎◌, inl, inr, sym, refl, ap, ◌∙◌, subst}
+use Rattle.std.specs.Prelude.{filter, fold, Option, None}
+use Rattle.std.specs.List.{list_any}
 use Rattle.std.specs.Str.{bytes_eq}
 use Rattle.std.proofs.lemmas.List.Folds.{list_any-append}
 use Rattle.std.proofs.lemmas.List.Concat.{flat_map-append}
@@ -16,7 +16,6 @@ use Rattle.mc_model.specs.Value.{ranked_elements}
 use Rattle.mc_model.specs.Live.{has_tomb, is_hidden, ranked_in, live_among, live, value_row}
 use Rattle.mc_model.proofs.Counts.{or_none}
 use Rattle.mc_model.proofs.Greatest.{greatest_same, greatest_is_greatest, greatest-append}
-use Rattle.mc_model.proofs.Live.{live_among-append}
 use Rattle.mc_model.proofs.Members.{list_any-filter, same_flat_map}
 use Rattle.mc_keep.specs.declared.rows.ElementRow.{ElementRow}
 use Rattle.mc_keep.specs.declared.rows.TombRow.{TombRow}

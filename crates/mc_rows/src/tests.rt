@@ -12,7 +12,7 @@ use mc_model::{Block, Delta, Element, Tomb, id_of};
 use std::alloc::Global;
 use std::test::Fail;
 
-const ORDERS: [[usize; 3]; 6] = [
+const ORDERS: [[u8; 3]; 6] = [
     [0, 1, 2],
     [0, 2, 1],
     [1, 0, 2],
@@ -113,7 +113,7 @@ fn new_value<'a>(changes: &'a Changes, key: &str) -> Option<(u64, &'a [u8])> {
     None
 }
 
-fn example(alloc: Global, which: usize) -> Result<Block, Fail> {
+fn example(alloc: Global, which: u8) -> Result<Block, Fail> {
     let low = Put {
         key: "/k",
         value: 1,
@@ -134,7 +134,7 @@ fn example(alloc: Global, which: usize) -> Result<Block, Fail> {
     }
 }
 
-fn examples(alloc: Global, order: [usize; 3]) -> Result<Vec<Block>, Fail> {
+fn examples(alloc: Global, order: [u8; 3]) -> Result<Vec<Block>, Fail> {
     let mut blocks = Vec::new(alloc);
     for which in order {
         blocks.push(example(alloc, which)?)?;
@@ -145,7 +145,7 @@ fn examples(alloc: Global, order: [usize; 3]) -> Result<Vec<Block>, Fail> {
 // The new value of the key `/k` of the examples, and how many rows there are.
 fn has_rows(
     alloc: Global,
-    order: [usize; 3],
+    order: [u8; 3],
     value: u8,
     elements: usize,
     tombs: usize,
@@ -219,12 +219,13 @@ struct Dice {
 }
 
 impl Dice {
-    fn roll(&mut self, sides: u64) -> u64 {
+    fn roll(&mut self, sides: u8) -> u8 {
         self.state = self
             .state
             .wrapping_mul(6364136223846793005)
             .wrapping_add(1442695040888963407);
-        (self.state >> 33).checked_rem(sides).unwrap_or(0)
+        let high = u8::try_from(self.state >> 56).unwrap_or(0);
+        high.checked_rem(sides).unwrap_or(0)
     }
 
     fn key(&mut self) -> &'static str {
@@ -233,36 +234,36 @@ impl Dice {
 }
 
 // A block of a random group. A fourth digest names no block of the group.
-fn random_block(alloc: Global, seed: u64, which: usize) -> Result<Block, Fail> {
+fn random_block(alloc: Global, seed: u64, which: u8) -> Result<Block, Fail> {
     let mut dice = Dice {
-        state: seed.wrapping_mul(3).wrapping_add(which as u64),
+        state: seed.wrapping_mul(3).wrapping_add(u64::from(which)),
     };
     dice.roll(2);
-    let priority = 1 + dice.roll(2);
+    let priority = u64::from(dice.roll(2)).saturating_add(1);
     let mut puts = Vec::new(alloc);
     for _ in 0..dice.roll(4) {
         puts.push(Put {
             key: dice.key(),
-            value: dice.roll(3) as u8,
+            value: dice.roll(3),
         })?;
     }
     let mut deletes = Vec::new(alloc);
     for _ in 0..dice.roll(3) {
         deletes.push(Delete {
             key: dice.key(),
-            digest: 1 + dice.roll(4) as u8,
+            digest: dice.roll(4).saturating_add(1),
         })?;
     }
     block(
         alloc,
-        1 + which as u8,
+        which.saturating_add(1),
         priority,
         puts.as_slice(),
         deletes.as_slice(),
     )
 }
 
-fn random_blocks(alloc: Global, seed: u64, order: [usize; 3]) -> Result<Vec<Block>, Fail> {
+fn random_blocks(alloc: Global, seed: u64, order: [u8; 3]) -> Result<Vec<Block>, Fail> {
     let mut blocks = Vec::new(alloc);
     for which in order {
         blocks.push(random_block(alloc, seed, which)?)?;
@@ -270,7 +271,7 @@ fn random_blocks(alloc: Global, seed: u64, order: [usize; 3]) -> Result<Vec<Bloc
     Ok(blocks)
 }
 
-fn follows_the_rule(alloc: Global, seed: u64, order: [usize; 3]) -> Result<bool, Fail> {
+fn follows_the_rule(alloc: Global, seed: u64, order: [u8; 3]) -> Result<bool, Fail> {
     let blocks = random_blocks(alloc, seed, order)?;
     let changes = merged(alloc, blocks.as_slice())?;
     let a = new_value(&changes, "/a") == plain_value(alloc, blocks.as_slice(), "/a")?;

@@ -1,5 +1,5 @@
 -- Sorted and rid of repeats.
-use Rattle.std.proofs.Common.{◌≡◌, List, ℕ}
+use Rattle.std.proofs.Common.{List, ℕ}
 use Rattle.std.specs.Cmp.Lexicographic.{on_texts, texts_ties}
 use Rattle.std.specs.Str.{bytes_eq}
 use Rattle.std.proofs.lemmas.List.Filters.{dedup_is}

@@ -1,5 +1,5 @@
 -- The told blocks stay over the calls, so that the lemma joins what each of them says.
-use Rattle.std.proofs.Common.{◌≡◌, ◌∙◌, ap}
+use Rattle.std.proofs.Common.{◌∙◌, ap}
 use Rattle.mc_rows.specs.Rows.{blocks_of, rows_of, tombs_of}
 use Rattle.mc_rows.proofs.FitAll.{rows_fit_told}
 use Rattle.mc_rows.proofs.merging.merge.Goals as goal

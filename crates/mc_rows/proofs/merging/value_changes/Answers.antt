@@ -1,5 +1,5 @@
 -- One more key, over the same told blocks.
-use Rattle.std.proofs.Common.{◌≡◌, ◌∙◌, arith}
+use Rattle.std.proofs.Common.{◌∙◌, arith}
 use Rattle.std.proofs.lemmas.List.{get_or_default}
 use Rattle.mc_rows.specs.Rows.{rows_of, tombs_of}
 use Rattle.mc_rows.proofs.Step.{fit_more_told}

@@ -1,4 +1,4 @@
-use Rattle.std.proofs.Common.{◌≡◌, ◌∙◌}
+use Rattle.std.proofs.Common.{◌∙◌}
 use Rattle.mc_rows.specs.declared.tombs.NewTomb.{NewTomb}
 use Rattle.mc_rows.proofs.Finds.{tomb_found}
 use Rattle.mc_rows.proofs.search.has_tomb.Goals as goal

@@ -1,5 +1,5 @@
 -- One more tombstone, over the same told blocks.
-use Rattle.std.proofs.Common.{◌≡◌, ◌∙◌, arith}
+use Rattle.std.proofs.Common.{◌∙◌, arith}
 use Rattle.mc_rows.specs.Rows.{tombs_of}
 use Rattle.mc_rows.proofs.Sorts.{tombs_more}
 use Rattle.mc_rows.proofs.tombs.gather_of.Goals as goal

@@ -1,7 +1,6 @@
 -- The told blocks stay over the calls, so that the lemma joins what each of them says.
-use Rattle.std.proofs.Common.{◌≡◌, ◌∙◌}
+use Rattle.std.proofs.Common.{◌∙◌}
 use Rattle.mc_rows.specs.Rows.{rows_of, tombs_of}
-use Rattle.mc_rows.specs.Values.{ranked_best}
 use Rattle.mc_rows.proofs.OneKey.{anew_told}
 use Rattle.mc_rows.proofs.values.change_anew.Goals as goal
 
