@@ -1,5 +1,0 @@
-pub mod EventFacts
-pub mod CommitFacts
-pub mod PlanFacts
-pub mod PartFacts
-pub mod TestFacts

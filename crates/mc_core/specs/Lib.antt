@@ -1,4 +1,0 @@
-pub mod Calls
-pub mod Events
-pub mod Plans
-pub mod Replica
