@@ -1,5 +1,5 @@
 -- Changes that only store and changes that only process fit.
-use Rattle.std.proofs.Common.{◌≡◌, Bool, true, false, List, [], ◌∷◌, ◌++◌, ◌||◌, map, Some, None, sym, refl, ap, subst, ◌∙◌}
+use Rattle.std.proofs.Common.{◌≡◌, Bool, true, false, List, [], ◌∷◌, ◌++◌, ◌||◌, map, sym, refl, ap, subst, ◌∙◌}
 use Rattle.std.specs.List.{list_any, list_all}
 use Rattle.std.proofs.lemmas.List.{append-nil}
 use Rattle.mc_base.specs.declared.cid.Cid.{Cid}
@@ -13,7 +13,7 @@ use Rattle.mc_model.specs.Offer.{is_good}
 use Rattle.mc_keep.specs.declared.changes.Changes.{Changes}
 use Rattle.mc_keep.specs.Changes.{changed, newly_processed, no_changes}
 use Rattle.mc_keep.specs.New.{AreNew}
-use Rattle.mc_keep.specs.Tables.{StoreFits, MarksFit, RowsFit, FrontFits, ChangesFit}
+use Rattle.mc_keep.specs.Tables.{StoreFits, RowsFit, FrontFits, ChangesFit}
 use Rattle.mc_keep.proofs.Processed.{processed_after}
 
 abbrev storing : List Stored → Changes
@@ -79,5 +79,6 @@ process_fits kept blocks changes none marks new stored are rows front = record {
   where
     same : kept.graph ++ changes.store ≡ kept.graph
     same = ap (λ store. kept.graph ++ store) none ∙ append-nil kept.graph
+
     newly : newly_processed kept changes ≡ blocks
     newly = ap (λ graph. blocks_in graph changes.marks) same ∙ ap (λ cids. blocks_in kept.graph cids) marks ∙ are

@@ -1,5 +1,5 @@
 -- What is processed after changes.
-use Rattle.std.proofs.Common.{◌≡◌, Bool, true, false, cond, List, [], ◌∷◌, ◌++◌, map, Some, ◌&&◌, sym, refl, ap, ◌∙◌}
+use Rattle.std.proofs.Common.{◌≡◌, Bool, true, false, cond, List, [], ◌∷◌, ◌++◌, map, Some, ◌&&◌, refl, ap, ◌∙◌}
 use Rattle.std.specs.Prelude.{is_some, find}
 use Rattle.std.specs.List.{list_all}
 use Rattle.std.specs.Option.{option_map}

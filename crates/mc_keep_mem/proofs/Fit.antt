@@ -1,18 +1,15 @@
 -- The tables stay those of the processed blocks.
-use Rattle.std.proofs.Common.{◌≡◌, ℕ, Bool, true, false, not, cond, List, [], ◌∷◌, ◌++◌, map, Some, ◌||◌, ◌&&◌, sym, refl, ap, ◌∙◌}
-use Rattle.std.specs.Prelude.{fold, is_some, find}
-use Rattle.std.specs.List.{list_any, list_all}
-use Rattle.std.specs.Option.{option_map}
+use Rattle.std.proofs.Common.{◌≡◌, ℕ, Bool, true, false, not, cond, List, [], ◌∷◌, ◌++◌, ◌||◌, ◌&&◌, sym, refl, ap, ◌∙◌}
+use Rattle.std.specs.Prelude.{fold}
+use Rattle.std.specs.List.{list_any}
 use Rattle.std.specs.Str.{bytes_eq}
 use Rattle.mc_base.specs.declared.cid.Cid.{Cid}
-use Rattle.mc_model.specs.declared.block.Stored.{Stored}
 use Rattle.mc_model.specs.Front.{same_cid, is_among}
-use Rattle.mc_model.specs.Kept.{Kept, IsKept, processed, blocks_in, block_in, block_under, bytes_at, is_stored}
+use Rattle.mc_model.specs.Kept.{processed}
 use Rattle.mc_model.proofs.Counts.{cid_is}
 use Rattle.mc_keep.specs.declared.rows.ElementRow.{ElementRow}
 use Rattle.mc_keep.specs.declared.rows.TombRow.{TombRow}
-use Rattle.mc_keep.specs.declared.changes.Changes.{Changes}
-use Rattle.mc_keep.specs.Changes.{changed, newly_processed, has_tomb_row, is_tomb_row}
+use Rattle.mc_keep.specs.Changes.{has_tomb_row, is_tomb_row}
 use Rattle.mc_keep_mem.specs.Chains.{with_element}
 use Rattle.mc_keep_mem.specs.Front.{closed_by, opened_by}
 use Rattle.mc_keep_mem.specs.Tombs.{with_tomb}

@@ -1,7 +1,6 @@
 -- A made block links to processed blocks alone.
-use Rattle.std.proofs.Common.{◌≡◌, Bool, true, not, sym, ◌∙◌}
+use Rattle.std.proofs.Common.{◌≡◌, true, not, sym, ◌∙◌}
 use Rattle.std.specs.List.{list_all}
-use Rattle.mc_base.specs.declared.cid.Cid.{Cid}
 use Rattle.mc_model.specs.Front.{is_among}
 use Rattle.mc_model.specs.Graph.{has, all_links}
 use Rattle.mc_model.specs.Kept.{Kept, IsKept, processed}
