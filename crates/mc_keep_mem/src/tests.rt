@@ -7,6 +7,7 @@ use mc_base::{Bytes, Cid, Counted, List, Text};
 use mc_keep::{ElementRow, KeepError, Keeper, KeeperPlan, Keepers, TombRow};
 use std::alloc::Global;
 use std::collections::{HashMap, HashSet};
+use std::sync::Wait;
 use std::test::Fail;
 
 const CID: Cid = Cid([7; 32]);
@@ -79,74 +80,114 @@ fn tombstones(rt: HostRuntime) -> Result<(), Fail> {
     Ok(())
 }
 
+// Whether the keeper has no block, and then no row, and then no value.
+fn has_no_block<K: Keeper>(keeper: &mut K, alloc: Global) -> Result<bool, KeepError> {
+    Ok(
+        keeper.block(alloc, &CID)?.is_none()
+            && !keeper.stored(&CID)?
+            && keeper.position(&CID)?.is_none()
+            && keeper.at(0)?.is_none(),
+    )
+}
+
+fn has_no_row<K: Keeper>(keeper: &mut K, alloc: Global) -> Result<bool, KeepError> {
+    Ok(
+        !keeper.linked(&CID)?
+            && keeper.heads(alloc)?.as_slice().is_empty()
+            && keeper.elements(alloc, "/a")?.as_slice().is_empty()
+            && !keeper.hidden("/a", "/X")?,
+    )
+}
+
+fn has_no_value<K: Keeper>(keeper: &mut K, alloc: Global) -> Result<bool, KeepError> {
+    Ok(
+        keeper.value(alloc, "/a")?.is_none()
+            && !keeper.has("/a")?
+            && keeper.value_from(alloc, "", true)?.is_none(),
+    )
+}
+
+// Whether its numbers are all 0.
+fn has_zeros<K: Keeper>(keeper: &mut K) -> Result<bool, KeepError> {
+    keeper.reserve(100)?;
+    let summary = keeper.summary()?;
+    Ok(
+        summary.processed == 0
+            && summary.stored == 0
+            && summary.gaps == 0
+            && !summary.mark
+            && keeper.faults() == 0
+            && keeper.own_faults() == 0,
+    )
+}
+
+// Whether just the second of three reads fails, and is counted.
+fn fails_second<K: Keeper>(keeper: &mut K) -> bool {
+    keeper.has("/a").is_ok()
+        && keeper.has("/a").is_err()
+        && keeper.faults() == 1
+        && keeper.has("/a").is_ok()
+        && keeper.faults() == 1
+}
+
+// Whether just the first of two reads through a new desk fails, and is counted at the desk.
+fn desk_fails_first<W: Wait + Sync, K: Keeper>(
+    rt: &W,
+    keeper: &mut K,
+    alloc: Global,
+) -> Result<bool, KeepError>
+where
+    K::Desk: Drop,
+{
+    let mut desk = keeper.desk(alloc)?;
+    Ok(
+        keeper.peer_block(alloc, &mut desk, &CID, rt).is_err()
+            && desk.faults() == 1
+            && keeper.faults() == 0
+            && keeper.peer_block(alloc, &mut desk, &CID, rt).is_ok()
+            && desk.faults() == 1,
+    )
+}
+
 #[test]
 fn an_empty_keeper_has_no_block(rt: HostRuntime) -> Result<(), Fail> {
-    let alloc = rt.alloc();
-    let mut keeper = empty(alloc)?;
-    assert!(rt; keeper.block(alloc, &CID)?.is_none());
-    assert!(rt; !keeper.stored(&CID)?);
-    assert_eq!(rt; keeper.position(&CID)?, None);
-    assert_eq!(rt; keeper.at(0)?, None);
+    let mut keeper = empty(rt.alloc())?;
+    assert!(rt; has_no_block(&mut keeper, rt.alloc())?);
     Ok(())
 }
 
 #[test]
 fn an_empty_keeper_has_no_row(rt: HostRuntime) -> Result<(), Fail> {
-    let alloc = rt.alloc();
-    let mut keeper = empty(alloc)?;
-    assert!(rt; !keeper.linked(&CID)?);
-    assert!(rt; keeper.heads(alloc)?.as_slice().is_empty());
-    assert!(rt; keeper.elements(alloc, "/a")?.as_slice().is_empty());
-    assert!(rt; !keeper.hidden("/a", "/X")?);
+    let mut keeper = empty(rt.alloc())?;
+    assert!(rt; has_no_row(&mut keeper, rt.alloc())?);
     Ok(())
 }
 
 #[test]
 fn an_empty_keeper_has_no_value(rt: HostRuntime) -> Result<(), Fail> {
-    let alloc = rt.alloc();
-    let mut keeper = empty(alloc)?;
-    assert!(rt; keeper.value(alloc, "/a")?.is_none());
-    assert!(rt; !keeper.has("/a")?);
-    assert!(rt; keeper.value_from(alloc, "", true)?.is_none());
+    let mut keeper = empty(rt.alloc())?;
+    assert!(rt; has_no_value(&mut keeper, rt.alloc())?);
     Ok(())
 }
 
 #[test]
 fn an_empty_keeper_has_zeros(rt: HostRuntime) -> Result<(), Fail> {
-    let alloc = rt.alloc();
-    let mut keeper = empty(alloc)?;
-    keeper.reserve(100)?;
-    let summary = keeper.summary()?;
-    assert_eq!(rt;
-        (summary.processed, summary.stored, summary.gaps),
-        (0, 0, 0)
-    );
-    assert!(rt; !summary.mark);
-    assert_eq!(rt; (keeper.faults(), keeper.own_faults()), (0, 0));
+    let mut keeper = empty(rt.alloc())?;
+    assert!(rt; has_zeros(&mut keeper)?);
     Ok(())
 }
 
 #[test]
 fn a_planned_read_fails(rt: HostRuntime) -> Result<(), Fail> {
-    let alloc = rt.alloc();
-    let mut keeper = failing(alloc)?;
-    assert!(rt; keeper.has("/a").is_ok());
-    assert!(rt; keeper.has("/a").is_err());
-    assert_eq!(rt; keeper.faults(), 1);
-    assert!(rt; keeper.has("/a").is_ok());
-    assert_eq!(rt; keeper.faults(), 1);
+    let mut keeper = failing(rt.alloc())?;
+    assert!(rt; fails_second(&mut keeper));
     Ok(())
 }
 
 #[test]
 fn a_planned_read_of_a_desk_fails(rt: HostRuntime) -> Result<(), Fail> {
-    let alloc = rt.alloc();
-    let mut keeper = failing(alloc)?;
-    let mut desk = keeper.desk(alloc)?;
-    assert!(rt; keeper.peer_block(alloc, &mut desk, &CID, &rt).is_err());
-    assert_eq!(rt; (desk.faults(), keeper.faults()), (1, 0));
-    assert!(rt; keeper.peer_block(alloc, &mut desk, &CID, &rt).is_ok());
-    assert_eq!(rt; desk.faults(), 1);
+    let mut keeper = failing(rt.alloc())?;
+    assert!(rt; desk_fails_first(&rt, &mut keeper, rt.alloc())?);
     Ok(())
 }
 
