@@ -1,4 +1,4 @@
-// Each call once, and the deltas of worked examples.
+// The deltas of worked examples.
 ghost use Rattle.std.specs.Prelude.{◌≡◌, IfOk, true};
 ghost use Rattle.mc_write.specs.Seen.{all_seen, have_digests};
 
@@ -6,12 +6,11 @@ use crate::cut::cut;
 use crate::length::block_len;
 use crate::pair::Pair;
 use crate::seen::push_pair;
-use crate::{Batch, delete_deltas, next_priority, put_delta};
+use crate::{Batch, next_priority, put_delta};
 use mc_base::{Bytes, Cid, List, Text};
 use mc_dagpb::write_node;
 use mc_delta::{len_delta, write_delta};
 use mc_keep::{ElementRow, HeadRow};
-use mc_keep_mem::{FaultPlan, MemKeeper};
 use mc_key::Key;
 use mc_model::Delta;
 use std::alloc::{AllocError, Global};
@@ -55,20 +54,6 @@ fn the_next_priority_is_one_more(rt: HostRuntime) {
     assert_eq!(rt; next_priority(&[]), Some(1));
     assert_eq!(rt; next_priority(&[head(4), head(9), head(2)]), Some(10));
     assert_eq!(rt; next_priority(&[head(u64::MAX)]), None);
-}
-
-fn delete_of_nothing(alloc: Global) -> Result<usize, Fail> {
-    let mut keeper = MemKeeper::new(alloc, FaultPlan::nothing(alloc))?;
-    match delete_deltas(&mut keeper, alloc, &key("/a")?) {
-        Ok(deltas) => Ok(deltas.len()),
-        Err(_) => Err(Fail::new("the delete is refused")),
-    }
-}
-
-#[test]
-fn a_delete_of_nothing_has_no_deltas(rt: HostRuntime) -> Result<(), Fail> {
-    assert_eq!(rt; delete_of_nothing(rt.alloc())?, 0);
-    Ok(())
 }
 
 // Pairs of so many blocks.
@@ -140,21 +125,12 @@ fn put_k(batch: &mut Batch, value: u8) -> Result<(), Fail> {
     Ok(())
 }
 
-fn delete_k(batch: &mut Batch, alloc: Global) -> Result<(), Fail> {
-    let mut keeper = MemKeeper::new(alloc, FaultPlan::nothing(alloc))?;
-    match batch.delete(&key("/k")?, &mut keeper) {
-        Ok(()) => Ok(()),
-        Err(_) => Err(Fail::new("the delete is refused")),
-    }
-}
-
 #[test]
 fn a_batch_has_the_last_value_of_a_key(rt: HostRuntime) -> Result<(), Fail> {
     let mut batch = Batch::new(rt.alloc());
+    assert!(rt; batch.is_empty());
     put_k(&mut batch, 1)?;
     assert!(rt; !batch.is_empty());
-    delete_k(&mut batch, rt.alloc())?;
-    assert!(rt; batch.is_empty());
     put_k(&mut batch, 2)?;
     let made = batch_block(&batch, rt.alloc())?;
     let want = [10, 11, 10, 7, 10, 2, 47, 107, 26, 1, 2, 24, 1];
