@@ -1,0 +1,5 @@
+pub mod EventFacts
+pub mod CommitFacts
+pub mod PlanFacts
+pub mod PartFacts
+pub mod OpenFacts

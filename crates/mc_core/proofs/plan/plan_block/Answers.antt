@@ -1,0 +1,10 @@
+use Rattle.mc_core.proofs.PlanFacts.{plan_is, plan_shape}
+use Rattle.mc_core.proofs.plan.plan_block.Goals as goal
+
+pub returns-clause-plan : goal.returns-clause-plan
+returns-clause-plan g c =
+    plan_is _ _ _ _ c.args.known _ _ c.requires.new c.requires.stored c.in_ok-store.ensures.stored c.in_ok-store.ensures.new (rw (c.one.ensures) at c.in_ok-process.ensures.process)
+
+pub returns-clause-shape : goal.returns-clause-shape
+returns-clause-shape g c =
+    plan_shape c.args.known _ _ _ _ c.in_ok-store.ensures.stored c.in_ok-store.ensures.new c.in_ok-process.ensures.only (rw (c.one.ensures) at c.in_ok-process.ensures.marks)

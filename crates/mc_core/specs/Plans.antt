@@ -1,0 +1,80 @@
+-- The commits that take up a block.
+use Rattle.std.specs.Prelude.{◌≡◌, ◌≢◌, IfSome, ⊤, ℕ, ◌+◌, Bool, true, false, List, [], ◌∷◌, ◌++◌, Option, Some, None, unwrap_or, Ok, if◌then◌else◌}
+use Rattle.std.specs.List.{list_all}
+use Rattle.mc_base.specs.declared.cid.Cid.{Cid}
+use Rattle.mc_model.specs.declared.block.Block.{Block}
+use Rattle.mc_model.specs.declared.block.Stored.{Stored}
+use Rattle.mc_model.specs.Events.{Event, Store, Process, processed_mark, processed_queue}
+use Rattle.mc_model.specs.Front.{is_among}
+use Rattle.mc_model.specs.Kept.{Kept, processed, bytes_at, is_stored}
+use Rattle.mc_model.specs.Offer.{offer}
+use Rattle.mc_model.specs.State.{durable_of, vertices}
+use Rattle.mc_model.specs.Wanted.{no_queue}
+use Rattle.mc_keep.specs.declared.changes.Changes.{Changes}
+use Rattle.mc_keep.specs.Changes.{no_changes, row_count}
+use Rattle.mc_keep.specs.Tables.{RowsFit, FrontFits, ChangesFit}
+use Rattle.mc_front.specs.Front.{mark_over}
+use Rattle.mc_core.specs.declared.plan.Plan.{Plan}
+
+-- nothing, or just these bytes
+abbrev pub IsNoOther : Option (List ℕ) → List ℕ → Type 0
+IsNoOther None bytes = ⊤
+IsNoOther (Some other) bytes = other ≡ bytes
+
+-- the block is good and not processed, no other bytes are stored under its identifier, and all its links are processed
+pub record IsNew (kept : Kept) (block : Block) (bytes : List ℕ) : Type 0 where
+  pub good : offer block.cid bytes ≡ Ok block
+  pub new : is_among kept.order block.cid ≡ false
+  pub known : IsNoOther (bytes_at kept.graph block.cid) bytes
+  pub linked : list_all (is_among kept.order) block.links ≡ true
+
+-- the changes that store these bytes, unless they are stored
+abbrev pub store_change : List Stored → Cid → List ℕ → Option Changes
+store_change graph cid bytes = if is_stored graph cid then None else Some (record no_changes { store = record { cid = cid; bytes = bytes } ∷ [] })
+
+-- the changes process these blocks and nothing else, where `whole` says whether every gap is wanted
+pub record Processes (kept : Kept) (whole : Bool) (blocks : List Block) (cids : List Cid) (changes : Changes) : Type 0 where
+  pub only : changes.store ≡ []
+  pub marks : changes.marks ≡ cids
+  pub rows : RowsFit (processed kept) blocks changes
+  pub front : FrontFits (processed kept) blocks changes
+  pub mark : unwrap_or changes.mark kept.mark ≡ mark_over whole kept.mark (processed kept ++ blocks)
+
+-- the plan stores the block, unless it is stored, and processes it
+pub record IsPlan (kept : Kept) (whole : Bool) (block : Block) (bytes : List ℕ) (plan : Plan) : Type 0 where
+  pub block_is_new : IsNew kept block bytes
+  pub store : plan.store ≡ store_change kept.graph block.cid bytes
+  pub process : Processes kept whole (block ∷ []) (block.cid ∷ []) plan.process
+
+-- a plan for some block
+pub record IsSomePlan (kept : Kept) (whole : Bool) (plan : Plan) : Type 0 where
+  pub block : Block
+  pub bytes : List ℕ
+  pub plans : IsPlan kept whole block bytes plan
+
+-- what holds of a plan over every keeper
+pub record IsShaped (plan : Plan) : Type 0 where
+  pub store : IfSome plan.store (λ store. (store.marks ≡ []) × (store.mark ≡ None) × (row_count store ≡ 1))
+  pub only : plan.process.store ≡ []
+  pub marks : plan.process.marks ≢ []
+
+-- the changes may be committed, and leave the mark that the definitions give
+pub record IsReady (kept : Kept) (whole : Bool) (changes : Changes) : Type 0 where
+  pub fits : ChangesFit kept changes
+  pub mark : unwrap_or changes.mark kept.mark ≡ processed_mark whole (durable_of kept) (kept.order ++ changes.marks)
+
+-- all links of these blocks are processed
+abbrev pub HasLinks : Kept → List Cid → Type 0
+HasLinks kept cids = processed_queue (durable_of kept) no_queue cids ≡ no_queue
+
+-- the rows of a plan
+abbrev pub plan_rows : Plan → ℕ
+plan_rows plan = row_count plan.process + 1
+
+-- the events of a plan
+abbrev pub with_store : Option Changes → List Event → List Event
+with_store None events = events
+with_store (Some store) events = Store (vertices store.store) ∷ events
+
+abbrev pub plan_events : Plan → List Event
+plan_events plan = with_store plan.store (Process plan.process.marks ∷ [])

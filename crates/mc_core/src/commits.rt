@@ -1,0 +1,122 @@
+// The commits of a replica: each is one event, or it breaks and the replica stops.
+ghost use Rattle.std.specs.Prelude.{◌≡◌, ◌≢◌, ◌≤◌, ◌+◌, false, [], ◌∷◌, None, IfSome, OnOk};
+ghost use Rattle.mc_base.specs.Causes.{Rose, HasCause};
+ghost use Rattle.mc_base.specs.Told.{Told};
+ghost use Rattle.mc_model.specs.Events.{Store, Process};
+ghost use Rattle.mc_model.specs.Kept.{IsKept};
+ghost use Rattle.mc_model.specs.State.{vertices};
+ghost use Rattle.mc_keep.specs.Changes.{changed, row_count};
+ghost use Rattle.mc_keep.specs.Tables.{ChangesFit};
+ghost use Rattle.mc_core.specs.Events.{Part};
+ghost use Rattle.mc_core.specs.Plans.{IsReady, HasLinks, IsShaped, IsSomePlan, plan_rows, plan_events};
+ghost use Rattle.mc_core.specs.Replica.{replica_state};
+
+use crate::plan::Plan;
+use crate::replica::Replica;
+use mc_base::Failed;
+use mc_keep::{Changes, Keeper, changes_fit, commits_are_events};
+use mc_model::{kept_changes_are_events, kept_is_durable};
+
+impl<K: Keeper> Replica<K> {
+    // Stores blocks.
+    pub(crate) fn commit_store(&mut self, store: Changes) -> Result<(), Failed>
+        requires up { self.old.stopped ≡ false }
+        requires room { row_count store ≤ K.spare self.old.keeper }
+        requires only { (store.marks ≡ []) × (store.mark ≡ None) }
+        requires fits { IfSome (K.told self.old.keeper) (λ kept. ChangesFit kept store) }
+        ensures part { Told (replica_state K.told K.fuse self.old) (replica_state K.told K.fuse self.new) (λ s new.
+            Part (Store (vertices store.store) ∷ []) (Rose (K.own self.old.keeper) (K.own self.new.keeper)) result s new) }
+        ensures silent { K.told self.old.keeper ≡ None → K.told self.new.keeper ≡ None }
+        ensures told { OnOk result (Told (K.told self.old.keeper) (K.told self.new.keeper) (λ kept new. new ≡ changed kept store)) }
+        ensures up { OnOk result (self.new.stopped ≡ false) }
+        ensures whole { self.new.whole ≡ self.old.whole }
+        ensures spare { K.spare self.old.keeper ≤ K.spare self.new.keeper + row_count store }
+        ensures own { K.own self.old.keeper ≤ K.own self.new.keeper }
+        ensures cause { HasCause (K.faults self.old.keeper) (K.faults self.new.keeper) result }
+    {
+        commits_are_events();
+        is_sound(&self.keeper);
+        match self.keeper.commit(store) {
+            Ok(()) => Ok(()),
+            Err(Failed) => {
+                self.stopped = true;
+                Err(Failed)
+            }
+        }
+    }
+
+    // Processes stored blocks, whose links are all processed.
+    pub(crate) fn commit_process(&mut self, process: Changes) -> Result<(), Failed>
+        requires up { self.old.stopped ≡ false }
+        requires room { row_count process ≤ K.spare self.old.keeper }
+        requires only { (process.store ≡ []) × (process.marks ≢ []) }
+        requires ready { IfSome (K.told self.old.keeper) (λ kept. IsReady kept self.old.whole process × HasLinks kept process.marks) }
+        ensures part { Told (replica_state K.told K.fuse self.old) (replica_state K.told K.fuse self.new) (λ s new.
+            Part (Process process.marks ∷ []) (Rose (K.own self.old.keeper) (K.own self.new.keeper)) result s new) }
+        ensures up { OnOk result (self.new.stopped ≡ false) }
+        ensures whole { self.new.whole ≡ self.old.whole }
+        ensures own { K.own self.old.keeper ≤ K.own self.new.keeper }
+        ensures cause { HasCause (K.faults self.old.keeper) (K.faults self.new.keeper) result }
+    {
+        commits_are_events();
+        is_sound(&self.keeper);
+        match self.keeper.commit(process) {
+            Ok(()) => Ok(()),
+            Err(Failed) => {
+                self.stopped = true;
+                Err(Failed)
+            }
+        }
+    }
+
+    // Stores blocks, and then processes them.
+    fn commit_both(&mut self, store: Changes, process: Changes) -> Result<(), Failed>
+        requires up { self.old.stopped ≡ false }
+        requires room { row_count store + row_count process ≤ K.spare self.old.keeper }
+        requires only_store { (store.marks ≡ []) × (store.mark ≡ None) }
+        requires only_process { (process.store ≡ []) × (process.marks ≢ []) }
+        requires fits { IfSome (K.told self.old.keeper) (λ kept. ChangesFit kept store) }
+        requires ready { IfSome (K.told self.old.keeper) (λ kept. IsReady (changed kept store) self.old.whole process × HasLinks (changed kept store) process.marks) }
+        ensures part { Told (replica_state K.told K.fuse self.old) (replica_state K.told K.fuse self.new) (λ s new.
+            Part (Store (vertices store.store) ∷ Process process.marks ∷ []) (Rose (K.own self.old.keeper) (K.own self.new.keeper)) result s new) }
+        ensures up { OnOk result (self.new.stopped ≡ false) }
+        ensures whole { self.new.whole ≡ self.old.whole }
+        ensures own { K.own self.old.keeper ≤ K.own self.new.keeper }
+        ensures cause { HasCause (K.faults self.old.keeper) (K.faults self.new.keeper) result }
+    {
+        match self.commit_store(store) {
+            Ok(()) => self.commit_process(process),
+            Err(Failed) => Err(Failed),
+        }
+    }
+
+    // The commits of a plan. They take no memory.
+    pub(crate) fn carry_out(&mut self, plan: Plan) -> Result<(), Failed>
+        requires up { self.old.stopped ≡ false }
+        requires room { plan_rows plan ≤ K.spare self.old.keeper }
+        requires shape { IsShaped plan }
+        requires plan { IfSome (K.told self.old.keeper) (λ kept. IsSomePlan kept self.old.whole plan) }
+        ensures part { Told (replica_state K.told K.fuse self.old) (replica_state K.told K.fuse self.new) (λ s new.
+            Part (plan_events plan) (Rose (K.own self.old.keeper) (K.own self.new.keeper)) result s new) }
+        ensures up { OnOk result (self.new.stopped ≡ false) }
+        ensures whole { self.new.whole ≡ self.old.whole }
+        ensures own { K.own self.old.keeper ≤ K.own self.new.keeper }
+        ensures cause { HasCause (K.faults self.old.keeper) (K.faults self.new.keeper) result }
+    {
+        commits_are_events();
+        changes_fit();
+        kept_is_durable();
+        kept_changes_are_events();
+        is_sound(&self.keeper);
+        let Plan { store, process } = plan;
+        match store {
+            Some(store) => self.commit_both(store, process),
+            None => self.commit_process(process),
+        }
+    }
+}
+
+// What the keeper tells is sound.
+pub(crate) fn is_sound<K: Keeper>(keeper: &K)
+    ensures { IfSome (K.told keeper.now) IsKept }
+{}

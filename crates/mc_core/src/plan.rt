@@ -1,0 +1,109 @@
+// The commits that take up a block, with all their memory taken.
+ghost use Rattle.std.specs.Prelude.{◌≡◌, ◌≤◌, ◌∷◌, [], Ok, true, false, map, List, IfSome, IfOk, OnOk, IfErr};
+ghost use Rattle.std.specs.List.{list_all};
+ghost use Rattle.mc_model.specs.declared.block.Block.{Block};
+ghost use Rattle.mc_model.specs.Front.{is_among};
+ghost use Rattle.mc_model.specs.Kept.{Kept, bytes_at, is_stored};
+ghost use Rattle.mc_keep.specs.Causes.{IfTold, KeepCause, StaysQuiet};
+ghost use Rattle.mc_keep.specs.Changes.{no_changes};
+ghost use Rattle.mc_keep.specs.New.{AreNew};
+ghost use Rattle.mc_core.specs.Plans.{IsNew, IsPlan, IsShaped, Processes, plan_rows};
+
+use mc_base::{Bytes, Cid, List};
+use mc_front::front_changes;
+use mc_keep::{Changes, KeepError, Keeper, Stored};
+use mc_model::Block;
+use mc_rows::merge;
+use std::alloc::{AllocError, Global};
+use std::slice;
+
+// The commits that take up one block: it is stored, unless it is, and then processed.
+#[derive(Drop)]
+pub(crate) struct Plan {
+    pub(crate) store: Option<Changes>,
+    pub(crate) process: Changes,
+}
+
+// The changes that process these blocks, of which none is processed. Where `whole`, every gap is wanted.
+pub(crate) fn process_changes<K: Keeper>(
+    keeper: &mut K,
+    alloc: Global,
+    blocks: &[Block],
+    whole: bool,
+) -> Result<Changes, KeepError>
+    requires { IfSome (K.told keeper.old) (λ kept. AreNew kept blocks.now) }
+    ensures process { IfTold (K.told keeper.old) result (λ kept changes. Processes kept whole blocks.now (map (λ (block : Block). block.cid) blocks.now) changes) }
+    ensures only { IfOk result (λ changes. changes.store ≡ []) }
+    ensures marks { IfOk result (λ changes. changes.marks ≡ map (λ (block : Block). block.cid) blocks.now) }
+    ensures told { K.told keeper.new ≡ K.told keeper.old }
+    ensures fuse { K.fuse keeper.new ≡ K.fuse keeper.old }
+    ensures spare { K.spare keeper.old ≤ K.spare keeper.new }
+    ensures own { KeepCause (K.own keeper.old) (K.own keeper.new) result }
+    ensures quiet { StaysQuiet (K.quiet keeper.old) (K.quiet keeper.new) (K.own keeper.old) (K.own keeper.new) }
+    ensures cause { KeepCause (K.faults keeper.old) (K.faults keeper.new) result }
+{
+    let mut changes = Changes::new(alloc);
+    merge(keeper, alloc, blocks, &mut changes)?;
+    front_changes(keeper, alloc, blocks, whole, &mut changes)?;
+    Ok(changes)
+}
+
+// The changes that store these bytes, unless they are stored.
+fn store_changes(
+    alloc: Global,
+    cid: Cid,
+    bytes: Bytes,
+    known: bool,
+) -> Result<Option<Changes>, AllocError>
+    ensures stored { known ≡ true → IfOk result (λ store. store ≡ Rattle.std.specs.Prelude.None) }
+    ensures new { known ≡ false → IfOk result (λ store. store ≡ Rattle.std.specs.Prelude.Some (record no_changes { store = record { cid = cid; bytes = bytes } ∷ [] })) }
+{
+    if known {
+        return Ok(None);
+    }
+    Ok(Some(store_of(alloc, cid, bytes)?))
+}
+
+pub(crate) fn store_of(alloc: Global, cid: Cid, bytes: Bytes) -> Result<Changes, AllocError>
+    ensures { IfOk result (λ changes. changes ≡ record no_changes { store = record { cid = cid; bytes = bytes } ∷ [] }) }
+{
+    let mut changes = Changes::new(alloc);
+    changes.store.push(Stored { cid, bytes })?;
+    Ok(changes)
+}
+
+// Plans to take up a block with these bytes, and takes all the memory that it needs.
+pub(crate) fn plan_block<K: Keeper>(
+    keeper: &mut K,
+    alloc: Global,
+    block: &Block,
+    bytes: Bytes,
+    known: bool,
+    whole: bool,
+) -> Result<Plan, KeepError>
+    requires new { IfSome (K.told keeper.old) (λ kept. IsNew kept block.now bytes) }
+    requires stored { IfSome (K.told keeper.old) (λ kept. known ≡ is_stored kept.graph block.now.cid) }
+    ensures plan { IfTold (K.told keeper.old) result (λ kept plan. IsPlan kept whole block.now bytes plan) }
+    ensures shape { IfOk result IsShaped }
+    ensures room { IfOk result (λ plan. plan_rows plan ≤ K.spare keeper.new) }
+    ensures told { K.told keeper.new ≡ K.told keeper.old }
+    ensures fuse { K.fuse keeper.new ≡ K.fuse keeper.old }
+    ensures own { KeepCause (K.own keeper.old) (K.own keeper.new) result }
+    ensures quiet { StaysQuiet (K.quiet keeper.old) (K.quiet keeper.new) (K.own keeper.old) (K.own keeper.new) }
+    ensures cause { KeepCause (K.faults keeper.old) (K.faults keeper.new) result }
+{
+    let process = process_changes(keeper, alloc, one(block), whole)?;
+    let store = store_changes(alloc, block.cid, bytes, known)?;
+    let rows = process.rows().saturating_add(1);
+    if rows == u64::MAX {
+        return Err(KeepError::Memory);
+    }
+    keeper.reserve(rows)?;
+    Ok(Plan { store, process })
+}
+
+fn one(block: &Block) -> &[Block]
+    ensures { result.now ≡ block.now ∷ [] }
+{
+    slice::from_ref(block)
+}

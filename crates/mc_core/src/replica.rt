@@ -1,0 +1,70 @@
+// One replica.
+ghost use Rattle.std.specs.Prelude.{◌≡◌, IfOk, IfErr};
+ghost use Rattle.mc_base.specs.Causes.{Rose};
+ghost use Rattle.mc_core.specs.Replica.{replica_state, opened_state};
+
+use mc_base::Failed;
+use mc_keep::Keeper;
+
+/// One replica over its keeper: the stored blocks, the order of the processed ones and the dirty mark are the keeper's;
+/// what is lost at a stop is the replica's. What it does is a list of events of the replica; where the keeper fails, these
+/// are cut short, and the replica has stopped.
+#[derive(Drop)]
+pub struct Replica<K: Keeper> {
+    pub(crate) keeper: K,
+    pub(crate) whole: bool,
+    pub(crate) stopped: bool,
+}
+
+/// Why a replica was not opened.
+#[derive(Clone, Copy, Debug, PartialEq, Eq)]
+pub enum OpenCause {
+    /// The keeper failed, and counted it.
+    KeeperFault,
+}
+
+/// A replica that was not opened: why, and its keeper.
+#[derive(Drop)]
+pub struct OpenError<K: Keeper> {
+    /// Why.
+    pub cause: OpenCause,
+    /// The keeper, which tells what it told before.
+    pub keeper: K,
+}
+
+impl<K: Keeper> Replica<K> {
+    /// Opens the replica of a keeper: nothing is wanted, and every gap counts as wanted exactly where the dirty mark is
+    /// clear. Takes no memory.
+    pub fn open(keeper: K) -> Result<Replica<K>, OpenError<K>>
+        ensures opened { IfOk result (λ replica. replica_state K.told K.fuse replica ≡ opened_state (K.told keeper) (K.fuse keeper)) }
+        ensures refused { IfErr result (λ error. (K.told error.keeper ≡ K.told keeper) × (K.fuse error.keeper ≡ K.fuse keeper)) }
+        ensures cause { IfErr result (λ error. Rose (K.faults keeper) (K.faults error.keeper)) }
+    {
+        let mut keeper = keeper;
+        match keeper.summary() {
+            Ok(summary) => Ok(Replica {
+                keeper,
+                whole: !summary.mark,
+                stopped: false,
+            }),
+            Err(Failed) => Err(OpenError {
+                cause: OpenCause::KeeperFault,
+                keeper,
+            }),
+        }
+    }
+
+    /// The keeper.
+    pub fn keeper(&self) -> &K
+        ensures { result.now ≡ self.now.keeper }
+    {
+        &self.keeper
+    }
+
+    /// Stops the replica, and hands its keeper back.
+    pub fn stop(self) -> K
+        ensures { result ≡ self.keeper }
+    {
+        self.keeper
+    }
+}
