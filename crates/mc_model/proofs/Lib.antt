@@ -18,6 +18,7 @@ pub mod Heads
 pub mod Bridge
 pub mod OnceLength
 pub mod Same
+pub mod SameAnswers
 pub mod Commits
 pub mod Found
 pub mod Recall

@@ -4,7 +4,9 @@ ghost use Rattle.mc_base.specs.declared.cid.Cid.{Cid};
 ghost use Rattle.mc_model.specs.declared.block.Block.{Block};
 ghost use Rattle.mc_model.specs.declared.delta.Delta.{Delta};
 ghost use Rattle.mc_model.specs.Front.{is_processed, is_linked, is_gap, gaps, heads, head_at};
+ghost use Rattle.mc_model.specs.Answers.{SameAnswers, joined, processed_in_groups};
 ghost use Rattle.mc_model.specs.Live.{has_tomb, value_row};
+ghost use Rattle.mc_model.specs.State.{Durable, Running};
 ghost use Rattle.mc_model.specs.Rank.{Ranked, greatest, IsGreatestOf};
 ghost use Rattle.mc_model.specs.SameMembers.{SameMembers};
 ghost use Rattle.mc_model.specs.Value.{value};
@@ -21,9 +23,11 @@ pub fn same_deltas_same_value()
     ensures { (xs ys : List Delta) (key : List ℕ) → SameMembers xs ys → value xs key ≡ value ys key }
 {}
 
-/// The same blocks, in any order, number or groups, give the same answers: the same value to every key, the same heads,
-/// and the same gaps.
+/// The same blocks, in any order and number, and processed in any groups, give the same answers: the same value to every
+/// key, the same rows to every query, the same heads, and the same gaps.
 pub fn same_blocks_same_answers()
+    ensures answers { (xs ys : List Block) → SameMembers xs ys → SameAnswers xs ys }
+    ensures groups { (durable : Durable) (run : Running) (xs ys : List (List Cid)) → SameMembers (joined xs) (joined ys) → SameAnswers (processed_in_groups durable run xs) (processed_in_groups durable run ys) }
     ensures value { (xs ys : List Block) → SameMembers xs ys → (key : List ℕ) → value_row xs key ≡ value_row ys key }
     ensures hidden { (xs ys : List Block) → SameMembers xs ys → (key id : List ℕ) → has_tomb xs key id ≡ has_tomb ys key id }
     ensures processed { (xs ys : List Block) → SameMembers xs ys → (cid : Cid) → is_processed xs cid ≡ is_processed ys cid }

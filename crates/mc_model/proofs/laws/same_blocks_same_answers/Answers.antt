@@ -1,3 +1,4 @@
+use Rattle.mc_model.proofs.SameAnswers.{same_answers, same_groups}
 use Rattle.mc_model.proofs.Same.{same_value, same_hidden, same_processed, same_linked, same_gap, same_gaps, same_gap_count, same_heads, same_head}
 use Rattle.mc_model.proofs.laws.same_blocks_same_answers.Goals as goal
 
@@ -27,3 +28,9 @@ returns-clause-head c = same_head
 
 pub returns-clause-gap_count : goal.returns-clause-gap_count
 returns-clause-gap_count c = same_gap_count
+
+pub returns-clause-answers : goal.returns-clause-answers
+returns-clause-answers c = same_answers
+
+pub returns-clause-groups : goal.returns-clause-groups
+returns-clause-groups c = same_groups
