@@ -15,7 +15,7 @@ use Rattle.mc_model.proofs.Members.{list_any-map}
 use Rattle.mc_keep.specs.declared.rows.HeadRow.{HeadRow}
 use Rattle.mc_keep.specs.HeadOrder.{head_row_cmp, head_row_total}
 use Rattle.mc_keep.specs.Changes.{head_in_row, heads_in_rows}
-use Rattle.mc_keep_mem.proofs.SortFacts.{sorted_once}
+use Rattle.mc_model.proofs.SortFacts.{sorted_once}
 
 then_equal : (a b : Ordering) → ordering_then a b ≡ Equal → (a ≡ Equal) × (b ≡ Equal)
 then_equal Less b e = absurd (cc)

@@ -5,7 +5,6 @@ pub mod GraphFacts
 pub mod ValueFacts
 pub mod TombFacts
 pub mod ChainFacts
-pub mod SortFacts
 pub mod HeadFacts
 pub mod Reordered
 pub mod Fit

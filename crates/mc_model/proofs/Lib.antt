@@ -2,6 +2,7 @@ pub mod Greatest
 pub mod Members
 pub mod Live
 pub mod Ascending
+pub mod SortFacts
 pub mod Back
 pub mod Counts
 pub mod Held

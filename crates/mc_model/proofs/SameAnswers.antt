@@ -1,7 +1,7 @@
 -- The same blocks give the same answers, in whatever groups they are processed.
-use Rattle.std.proofs.Common.{◌≡◌, ℕ, Bool, true, false, List, [], ◌∷◌, ◌++◌, ◌||◌, ◌&&◌, map, Some, Option, sym, refl, ap, ◌∙◌, subst, take, drop}
+use Rattle.std.proofs.Common.{◌≡◌, ℕ, Bool, List, [], ◌∷◌, ◌++◌, ◌||◌, ◌&&◌, map, Option, sym, refl, ap, ◌∙◌, subst, take, drop}
 use Rattle.std.specs.Prelude.{is_some, filter, unwrap_or}
-use Rattle.std.specs.List.{list_any, flat_map}
+use Rattle.std.specs.List.{list_any}
 use Rattle.std.specs.Option.{option_map}
 use Rattle.std.specs.Ordering.{nat_cmp}
 use Rattle.std.specs.Cmp.Lexicographic.{slice_cmp}
@@ -12,12 +12,12 @@ use Rattle.mc_base.specs.declared.cid.Cid.{Cid}
 use Rattle.mc_model.specs.declared.block.Block.{Block}
 use Rattle.mc_model.specs.declared.delta.Element.{Element}
 use Rattle.mc_model.specs.Answers.{has_value, element_keys, valued_keys, with_value, query, SameAnswers, joined, processed_in_groups}
-use Rattle.mc_model.specs.Events.{Process, after, with_processed, processed_queue}
+use Rattle.mc_model.specs.Events.{with_processed, processed_queue}
 use Rattle.mc_model.specs.Kept.{block_in, blocks_in}
 use Rattle.mc_model.specs.Live.{value}
 use Rattle.mc_model.specs.Rank.{Ranked}
 use Rattle.mc_model.specs.SameMembers.{SameMembers}
-use Rattle.mc_model.specs.State.{Durable, Running, stored_of, blocks_of}
+use Rattle.mc_model.specs.State.{Durable, Running, stored_of}
 use Rattle.mc_model.proofs.Ascending.{ascending_fixed, ascending_ascends}
 use Rattle.mc_model.proofs.Members.{list_any-filter, list_any-map, same_flat_map}
 use Rattle.mc_model.proofs.Same.{same_value}

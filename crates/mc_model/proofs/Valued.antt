@@ -1,13 +1,12 @@
 -- The keys that have a value.
 use Rattle.std.proofs.Common.{◌≡◌, ℕ, Bool, true, false, cond, List, [], ◌∷◌, ◌++◌, ◌||◌, ◌&&◌, map, refl, ap, sym, ◌∙◌}
 use Rattle.std.specs.Prelude.{filter, is_some}
-use Rattle.std.specs.List.{list_any, flat_map}
+use Rattle.std.specs.List.{list_any}
 use Rattle.std.specs.List.Sorted.{IsStrictlySortedBy}
 use Rattle.std.specs.Ordering.{is_eq, nat_cmp}
 use Rattle.std.specs.Cmp.Lexicographic.{slice_cmp}
 use Rattle.std.specs.Option.{option_map}
 use Rattle.std.specs.Str.{bytes_eq}
-use Rattle.std.specs.declared.cmp.Ordering.{Ordering}
 use Rattle.std.specs.declared.cmp.Ordering.TheVariants.{Equal}
 use Rattle.std.proofs.lemmas.Cmp.{nat_list_cmp_total}
 use Rattle.std.proofs.lemmas.List.Folds.{list_any-append}
@@ -16,8 +15,7 @@ use lib.Pointwise.{bytes_decides}
 use Rattle.mc_model.specs.declared.block.Block.{Block}
 use Rattle.mc_model.specs.declared.delta.Element.{Element}
 use Rattle.mc_model.specs.Answers.{has_value, element_keys, valued_keys}
-use Rattle.mc_model.specs.Ascending.{ascending}
-use Rattle.mc_model.specs.Live.{value, value_row, live_among, is_hidden, ranked_in}
+use Rattle.mc_model.specs.Live.{live_among, is_hidden}
 use Rattle.mc_model.specs.Rank.{Ranked, greatest}
 use Rattle.mc_model.specs.Value.{ranked_elements}
 use Rattle.mc_model.proofs.Ascending.{ascending_ascends}

@@ -1,5 +1,5 @@
 -- The answers over blocks: which keys have a value, and queries of them.
-use Rattle.std.specs.Prelude.{◌≡◌, ℕ, Bool, List, [], map, filter, take, drop, is_some, unwrap_or, Option, Some}
+use Rattle.std.specs.Prelude.{◌≡◌, ℕ, Bool, List, [], map, filter, take, drop, is_some, unwrap_or, Some}
 use Rattle.std.specs.List.{flat_map}
 use Rattle.std.specs.Ordering.{nat_cmp}
 use Rattle.std.specs.Cmp.Lexicographic.{slice_cmp}

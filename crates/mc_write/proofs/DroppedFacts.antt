@@ -32,7 +32,7 @@ use Rattle.mc_write.specs.declared.pair.Pair.{Pair as Own}
 use Rattle.mc_write.specs.Seen.{all_seen}
 use Rattle.mc_write.specs.Held.{Put, elements_in, Dropped, deleted_of, deleted_in, cid_cmp, AreHeld}
 use Rattle.mc_write.proofs.ElementFacts.{bytes_tied, bytes_same}
-use Rattle.mc_write.proofs.SortFacts.{sorted_once}
+use Rattle.mc_model.proofs.SortFacts.{sorted_once}
 
 -- orders
 

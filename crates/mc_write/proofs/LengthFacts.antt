@@ -5,7 +5,7 @@ use Rattle.std.specs.Prelude.{nat_le, codes}
 use Rattle.std.proofs.Math.Dec.{ltb, leb}
 use Rattle.std.proofs.lemmas.Bool.{leb-true, leb-false, ltb-true, ltb-false, eqb-true, ne_eqb}
 use Rattle.std.specs.List.{flat_map, list_all, slice_index}
-use Rattle.sha2.proofs.Facts256.{length-sha256}
+use Rattle.mc_base.proofs.Digest.{digest_length}
 use Rattle.mc_base.specs.Base32.{byte_bits, fives, base32_of, alphabet32}
 use Rattle.mc_base.specs.Node.{link_bytes, node_bytes}
 use Rattle.mc_base.specs.Wire.{varint_bytes, part_field_bytes}
@@ -121,7 +121,7 @@ size_is links priority key taken some digests =
 pub made_link : (links : List Cid) (delta : Delta) → links_length (made_cid links delta ∷ []) ≡ 44
 made_link links delta =
     let link : Cid = made_cid links delta in
-    ap length (append-nil (link_bytes link)) ∙ omega (arith, length-append link.0 (0x12 ∷ 0x00 ∷ 0x18 ∷ 0x00 ∷ []), length-sha256 (made_bytes links delta))
+    ap length (append-nil (link_bytes link)) ∙ omega (arith, length-append link.0 (0x12 ∷ 0x00 ∷ 0x18 ∷ 0x00 ∷ []), digest_length (made_bytes links delta))
 
 -- a block with one link has room for a tombstone
 

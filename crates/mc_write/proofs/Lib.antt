@@ -7,5 +7,4 @@ pub mod LengthFacts
 pub mod Membership
 pub mod PairFacts
 pub mod RowOrder
-pub mod SortFacts
 pub mod TakenFacts

@@ -15,7 +15,7 @@ use Rattle.mc_model.proofs.Members.{list_any-map}
 use Rattle.mc_write.specs.declared.pair.Pair.{Pair as Own}
 use Rattle.mc_write.specs.PairOrder.{own_cmp, own_total}
 use Rattle.mc_write.specs.Seen.{seen, all_seen}
-use Rattle.mc_write.proofs.SortFacts.{sorted_once}
+use Rattle.mc_model.proofs.SortFacts.{sorted_once}
 
 then_equal : (a b : Ordering) → ordering_then a b ≡ Equal → (a ≡ Equal) × (b ≡ Equal)
 then_equal Less b e = absurd (cc)

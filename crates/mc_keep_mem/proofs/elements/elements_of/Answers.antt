@@ -5,7 +5,7 @@ use Rattle.mc_model.specs.Ascending.{Ascends}
 use Rattle.mc_keep.specs.declared.rows.ElementRow.{ElementRow}
 use Rattle.mc_keep.specs.ElementOrder.{element_cmp, element_total}
 use Rattle.mc_keep.proofs.ElementTies.{element_tied}
-use Rattle.mc_keep_mem.proofs.SortFacts.{sorted_once}
+use Rattle.mc_model.proofs.SortFacts.{sorted_once}
 use Rattle.mc_keep_mem.proofs.elements.elements_of.Goals as goal
 
 pub returns : goal.returns
