@@ -1,5 +1,7 @@
-pub mod EventFacts
+pub mod CallFacts
 pub mod CommitFacts
-pub mod PlanFacts
-pub mod PartFacts
+pub mod EventFacts
 pub mod OpenFacts
+pub mod PartFacts
+pub mod PlanFacts
+pub mod RefusalFacts

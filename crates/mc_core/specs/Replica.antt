@@ -19,7 +19,7 @@ run_of false batch whole = Some (running_with batch whole)
 
 -- a replica, where its keeper tells
 abbrev pub replica_state : {K Desk : Type 0} → (K → Option Kept) → (K → Option Fuse) → Replica K Desk → Option ReplicaState
-replica_state told fuse replica = state_of (told replica.keeper) (fuse replica.keeper) (run_of replica.stopped None replica.whole)
+replica_state told fuse replica = state_of (told replica.keeper) (fuse replica.keeper) (run_of replica.stopped replica.batch replica.whole)
 
 -- a replica that was opened over what a keeper tells
 abbrev pub opened_state : Option Kept → Option Fuse → Option ReplicaState

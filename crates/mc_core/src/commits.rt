@@ -30,6 +30,7 @@ impl<K: Keeper> Replica<K> {
         ensures told { OnOk result (Told (K.told self.old.keeper) (K.told self.new.keeper) (λ kept new. new ≡ changed kept store)) }
         ensures up { OnOk result (self.new.stopped ≡ false) }
         ensures whole { self.new.whole ≡ self.old.whole }
+        ensures batch { self.new.batch ≡ self.old.batch }
         ensures spare { K.spare self.old.keeper ≤ K.spare self.new.keeper + row_count store }
         ensures own { K.own self.old.keeper ≤ K.own self.new.keeper }
         ensures cause { HasCause (K.faults self.old.keeper) (K.faults self.new.keeper) result }
@@ -55,6 +56,7 @@ impl<K: Keeper> Replica<K> {
             Part (Process process.marks ∷ []) (Rose (K.own self.old.keeper) (K.own self.new.keeper)) result s new) }
         ensures up { OnOk result (self.new.stopped ≡ false) }
         ensures whole { self.new.whole ≡ self.old.whole }
+        ensures batch { self.new.batch ≡ self.old.batch }
         ensures own { K.own self.old.keeper ≤ K.own self.new.keeper }
         ensures cause { HasCause (K.faults self.old.keeper) (K.faults self.new.keeper) result }
     {
@@ -81,6 +83,7 @@ impl<K: Keeper> Replica<K> {
             Part (Store (vertices store.store) ∷ Process process.marks ∷ []) (Rose (K.own self.old.keeper) (K.own self.new.keeper)) result s new) }
         ensures up { OnOk result (self.new.stopped ≡ false) }
         ensures whole { self.new.whole ≡ self.old.whole }
+        ensures batch { self.new.batch ≡ self.old.batch }
         ensures own { K.own self.old.keeper ≤ K.own self.new.keeper }
         ensures cause { HasCause (K.faults self.old.keeper) (K.faults self.new.keeper) result }
     {
@@ -100,6 +103,7 @@ impl<K: Keeper> Replica<K> {
             Part (plan_events plan) (Rose (K.own self.old.keeper) (K.own self.new.keeper)) result s new) }
         ensures up { OnOk result (self.new.stopped ≡ false) }
         ensures whole { self.new.whole ≡ self.old.whole }
+        ensures batch { self.new.batch ≡ self.old.batch }
         ensures own { K.own self.old.keeper ≤ K.own self.new.keeper }
         ensures cause { HasCause (K.faults self.old.keeper) (K.faults self.new.keeper) result }
     {

@@ -5,6 +5,7 @@ ghost use Rattle.mc_core.specs.Replica.{replica_state, opened_state};
 
 use mc_base::Failed;
 use mc_keep::Keeper;
+use mc_write::Batch;
 
 /// One replica over its keeper: the stored blocks, the order of the processed ones and the dirty mark are the keeper's;
 /// what is lost at a stop is the replica's. What it does is a list of events of the replica; where the keeper fails, these
@@ -12,6 +13,7 @@ use mc_keep::Keeper;
 #[derive(Drop)]
 pub struct Replica<K: Keeper> {
     pub(crate) keeper: K,
+    pub(crate) batch: Option<Batch>,
     pub(crate) whole: bool,
     pub(crate) stopped: bool,
 }
@@ -44,6 +46,7 @@ impl<K: Keeper> Replica<K> {
         match keeper.summary() {
             Ok(summary) => Ok(Replica {
                 keeper,
+                batch: None,
                 whole: !summary.mark,
                 stopped: false,
             }),

@@ -1,0 +1,112 @@
+-- What a call of a replica does, from what its parts do.
+use Rattle.std.proofs.Common.{◌≡◌, ◌≤◌, ℕ, Bool, true, false, List, [], ◌∷◌, Option, Some, None, Result, Ok, Err, refl, sym, ◌∙◌, ap, subst, arith, inl, inr}
+use Rattle.std.specs.Prelude.{IfSome, IfOk, IfErr}
+use Rattle.mc_base.specs.Causes.{Rose}
+use Rattle.mc_base.specs.Told.{Told}
+use Rattle.mc_model.specs.Events.{Event}
+use Rattle.mc_model.specs.Kept.{Kept}
+use Rattle.mc_model.specs.State.{OpenBatch, Running, durable_of}
+use Rattle.mc_keep.specs.declared.fuse.Fuse.{Fuse}
+use Rattle.mc_core.specs.declared.error.CoreError.{CoreError}
+use Rattle.mc_core.specs.declared.error.CoreError.TheVariants.{BadKey, ValueTooLong, BlockTooLarge, PriorityFull, Clash, KeeperFault, Stopped, NoBatch, BatchOpen, Memory}
+use Rattle.mc_core.specs.Calls.{Begins, Does, Faults, IsRefused, Call}
+use Rattle.mc_core.specs.Events.{ReplicaState, state_of, stopped, MayHappen, Goes, Breaks, Part}
+use Rattle.mc_core.specs.Refusals.{IsDue, IfFault, CoreCause, stops}
+use Rattle.mc_core.specs.Replica.{run_of, running_with}
+use Rattle.mc_core.proofs.EventFacts.{goes_nowhere, breaks_rose}
+
+-- a replica over what is told
+abbrev pub at : Kept → Option Fuse → Option Running → ReplicaState
+at kept fuse run = record { state = record { durable = durable_of kept; run = run }; fuse = fuse }
+
+-- a fault before the first commit
+pub nothing_done : {T : Type 0} (Plan : List Event → T → Type 0) (rose : Type 0) (s : ReplicaState) → rose → Faults Plan rose s (stopped s)
+nothing_done Plan rose s r = record {
+  events = [];
+  begins = inl refl;
+  breaks = record { so_far = []; rest = []; split = refl; may = tt; fate = (r, refl) };
+}
+
+module _ {T : Type 0} (Refusal : ReplicaState → Option CoreError → Type 0) (Plan : ReplicaState → List Event → T → Type 0) where
+  abbrev pub Calls : Type 0 → Result T CoreError → ReplicaState → ReplicaState → Type 0
+  Calls rose result s new = Call (Refusal s) (Plan s) (λ left. left ≡ s) rose result s new
+
+  -- a call on a replica that has stopped
+  pub stopped_call : (told : Option Kept) (fuse : Option Fuse) (stop : Bool) (batch : Option OpenBatch) (whole : Bool) (rose : Type 0) → stop ≡ true
+      → ((kept : Kept) → Refusal (at kept fuse None) (Some Stopped))
+      → Told (state_of told fuse (run_of stop batch whole)) (state_of told fuse (run_of stop batch whole)) (Calls rose (Err Stopped))
+  stopped_call None fuse stop batch whole rose is due = tt
+  stopped_call (Some kept) fuse stop batch whole rose is due =
+      subst (λ b. Calls rose (Err Stopped) (at kept fuse (run_of b batch whole)) (at kept fuse (run_of b batch whole))) (sym is) (due kept, refl)
+
+  early : (error : CoreError) (rose : Type 0) (kept : Kept) (fuse : Option Fuse) (batch : Option OpenBatch) (whole : Bool) → IfFault error rose
+      → IsDue (Refusal (at kept fuse (run_of false batch whole))) error
+      → Calls rose (Err error) (at kept fuse (run_of false batch whole)) (at kept fuse (run_of (stops error false) batch whole))
+  early KeeperFault rose kept fuse batch whole r due = nothing_done (Plan (at kept fuse (run_of false batch whole))) rose (at kept fuse (run_of false batch whole)) r
+  early Memory rose kept fuse batch whole r due = refl
+  early (BadKey fault) rose kept fuse batch whole r due = (due, refl)
+  early ValueTooLong rose kept fuse batch whole r due = (due, refl)
+  early (BlockTooLarge len) rose kept fuse batch whole r due = (due, refl)
+  early PriorityFull rose kept fuse batch whole r due = (due, refl)
+  early (Clash cid) rose kept fuse batch whole r due = (due, refl)
+  early Stopped rose kept fuse batch whole r due = (due, refl)
+  early NoBatch rose kept fuse batch whole r due = (due, refl)
+  early BatchOpen rose kept fuse batch whole r due = (due, refl)
+
+  -- a call that ended before its first commit
+  pub early_call : (told told_new : Option Kept) (fuse fuse_new : Option Fuse) (stop stop_new : Bool) (batch : Option OpenBatch) (whole : Bool) (rose : Type 0) (error : CoreError)
+      → stop ≡ false → told_new ≡ told → fuse_new ≡ fuse → stop_new ≡ stops error stop → IfFault error rose
+      → IfSome told (λ kept. IsDue (Refusal (at kept fuse (run_of false batch whole))) error)
+      → Told (state_of told fuse (run_of stop batch whole)) (state_of told_new fuse_new (run_of stop_new batch whole)) (Calls rose (Err error))
+  early_call None told_new fuse fuse_new stop stop_new batch whole rose error up e f g r due = tt
+  early_call (Some kept) told_new fuse fuse_new stop stop_new batch whole rose error up e f g r due =
+      subst (λ t. Told (state_of (Some kept) fuse (run_of stop batch whole)) (state_of t fuse_new (run_of stop_new batch whole)) (Calls rose (Err error))) (sym e)
+      (subst (λ x. Calls rose (Err error) (at kept fuse (run_of stop batch whole)) (at kept x (run_of stop_new batch whole))) (sym f)
+      (subst (λ b. Calls rose (Err error) (at kept fuse (run_of stop batch whole)) (at kept fuse (run_of b batch whole))) (sym g)
+      (subst (λ b. Calls rose (Err error) (at kept fuse (run_of b batch whole)) (at kept fuse (run_of (stops error b) batch whole))) (sym up)
+      (early error rose kept fuse batch whole r due))))
+
+  part_is : (events : List Event) (value : T) (rose : Type 0) (result : Result T CoreError) (s new : ReplicaState) → Refusal s None → Plan s events value
+      → IfOk result (λ answer. answer ≡ value) → IfErr result (λ error. error ≡ KeeperFault) → Part events rose result s new → Calls rose result s new
+  part_is events value rose (Ok answer) s new allowed plan is only part = record { allowed = allowed; events = events; plan = subst (Plan s events) (sym is) plan; goes = part }
+  part_is events value rose (Err error) s new allowed plan is only part =
+      subst (λ e. Calls rose (Err e) s new) (sym only) (record { events = events; begins = inr (value, plan); breaks = part })
+
+  part_rose : {E : Type 0} (events : List Event) (P Q : Type 0) (result : Result T E) (s new : ReplicaState) → (P → Q) → Part events P result s new → Part events Q result s new
+  part_rose events P Q (Ok value) s new f p = p
+  part_rose events P Q (Err error) s new f p = breaks_rose events P Q s new f p
+
+  -- a call that is this part, after reads
+  pub part_call : (told mid : Option Kept) (fuse fuse_mid : Option Fuse) (stop : Bool) (batch : Option OpenBatch) (whole : Bool) (new : Option ReplicaState) (own own_mid own_new : ℕ)
+      (events : List Event) (value : T) (result : Result T CoreError) → stop ≡ false → mid ≡ told → fuse_mid ≡ fuse → own ≤ own_mid
+      → IfSome told (λ kept. Refusal (at kept fuse (run_of false batch whole)) None × Plan (at kept fuse (run_of false batch whole)) events value)
+      → IfOk result (λ answer. answer ≡ value) → IfErr result (λ error. error ≡ KeeperFault)
+      → Told (state_of mid fuse_mid (run_of stop batch whole)) new (λ s after. Part events (Rose own_mid own_new) result s after)
+      → Told (state_of told fuse (run_of stop batch whole)) new (Calls (Rose own own_new) result)
+  part_call None mid fuse fuse_mid stop batch whole new own own_mid own_new events value result up e f later plan is only part = tt
+  part_call (Some kept) mid fuse fuse_mid stop batch whole new own own_mid own_new events value result up e f later plan is only part =
+      ends new (subst (λ b. Told (at_told b) new (λ s after. Part events (Rose own_mid own_new) result s after)) up
+      (subst (λ x. Told (state_of (Some kept) x (run_of stop batch whole)) new (λ s after. Part events (Rose own_mid own_new) result s after)) f
+      (subst (λ t. Told (state_of t fuse_mid (run_of stop batch whole)) new (λ s after. Part events (Rose own_mid own_new) result s after)) e part)))
+    where
+      at_told : Bool → Option ReplicaState
+      at_told b = Some (at kept fuse (run_of b batch whole))
+
+      ends : (new : Option ReplicaState) → Told (at_told false) new (λ s after. Part events (Rose own_mid own_new) result s after) → Told (at_told stop) new (Calls (Rose own own_new) result)
+      ends None p = absurd p
+      ends (Some after) p =
+          subst (λ b. Calls (Rose own own_new) result (at kept fuse (run_of b batch whole)) after) (sym up)
+          (part_is events value (Rose own own_new) result (at kept fuse (run_of false batch whole)) after plan.0 plan.1 is only
+          (part_rose events (Rose own_mid own_new) (Rose own own_new) result (at kept fuse (run_of false batch whole)) after (λ r. omega (arith, r, later)) p))
+
+  -- a call that only reads
+  pub read_call : (told told_new : Option Kept) (fuse fuse_new : Option Fuse) (stop : Bool) (batch : Option OpenBatch) (whole : Bool) (rose : Type 0) (value : T)
+      → stop ≡ false → told_new ≡ told → fuse_new ≡ fuse
+      → IfSome told (λ kept. Refusal (at kept fuse (run_of false batch whole)) None × Plan (at kept fuse (run_of false batch whole)) [] value)
+      → Told (state_of told fuse (run_of stop batch whole)) (state_of told_new fuse_new (run_of stop batch whole)) (Calls rose (Ok value))
+  read_call None told_new fuse fuse_new stop batch whole rose value up e f plan = tt
+  read_call (Some kept) told_new fuse fuse_new stop batch whole rose value up e f plan =
+      subst (λ t. Told (state_of (Some kept) fuse (run_of stop batch whole)) (state_of t fuse_new (run_of stop batch whole)) (Calls rose (Ok value))) (sym e)
+      (subst (λ x. Calls rose (Ok value) (at kept fuse (run_of stop batch whole)) (at kept x (run_of stop batch whole))) (sym f)
+      (subst (λ b. Calls rose (Ok value) (at kept fuse (run_of b batch whole)) (at kept fuse (run_of b batch whole))) (sym up)
+      (record { allowed = plan.0; events = []; plan = plan.1; goes = goes_nowhere (at kept fuse (run_of false batch whole)) })))

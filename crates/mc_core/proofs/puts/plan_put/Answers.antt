@@ -1,0 +1,12 @@
+use Rattle.mc_core.specs.Refusals.{key_refusal, value_refusal}
+use Rattle.mc_core.specs.Puts.{put_made_refusal}
+use Rattle.std.specs.Option.{option_or}
+use Rattle.mc_core.proofs.RefusalFacts.{result_second, told_always}
+use Rattle.mc_core.proofs.puts.plan_put.Goals as goal
+
+pub returns-clause-refused : goal.returns-clause-refused
+returns-clause-refused g c =
+    result_second _ (λ kept. key_refusal c.args.key.now) (λ kept. option_or (value_refusal c.args.value.now) (put_made_refusal kept c.args.key.now c.args.value.now)) _
+    (told_always _ _ (λ kept. c.in_ok-key.ensures.ok))
+    (result_second _ (λ kept. value_refusal c.args.value.now) (λ kept. put_made_refusal kept c.args.key.now c.args.value.now) _ (told_always _ _ (λ kept. c.in_ok-check_value.ensures.ok))
+    (rw (c.in_ok-key.ensures.key) at c.plan_made_put.ensures.refused))

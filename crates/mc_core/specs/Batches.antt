@@ -1,0 +1,66 @@
+-- What the calls on a batch do.
+use Rattle.std.specs.Prelude.{◌≡◌, ⊥, ℕ, Bool, true, false, List, [], ◌∷◌, ◌++◌, Option, Some, None, if◌then◌else◌}
+use Rattle.std.specs.Option.{option_or}
+use Rattle.mc_model.specs.declared.delta.Delta.{Delta}
+use Rattle.mc_model.specs.Batch.{empty_batch, is_empty_batch, batch_put, batch_delete, batch_delta}
+use Rattle.mc_model.specs.Cuts.{pairs}
+use Rattle.mc_model.specs.Events.{Event, Batch}
+use Rattle.mc_model.specs.Kept.{Kept, processed}
+use Rattle.mc_model.specs.Made.{next_priority}
+use Rattle.mc_model.specs.State.{OpenBatch, Running, kept_of}
+use Rattle.mc_core.specs.declared.error.CoreError.{CoreError}
+use Rattle.mc_core.specs.declared.made.Written.{Written}
+use Rattle.mc_core.specs.Events.{ReplicaState}
+use Rattle.mc_core.specs.Puts.{made_events, written_of, next_links}
+use Rattle.mc_core.specs.Refusals.{key_refusal, value_refusal, priority_refusal, made_refusal, running_refusal, no_batch_refusal, open_batch_refusal}
+
+-- what holds of the batch that is open
+abbrev pub OfBatch : Option OpenBatch → (OpenBatch → Type 0) → Type 0
+OfBatch None P = ⊥
+OfBatch (Some batch) P = P batch
+
+abbrev pub OfRun : Option Running → (OpenBatch → Type 0) → Type 0
+OfRun None P = ⊥
+OfRun (Some run) P = OfBatch run.batch P
+
+-- a batch is begun
+abbrev pub begin_refusal : ReplicaState → Option CoreError
+begin_refusal s = running_refusal s.state.run (λ run. open_batch_refusal run.batch)
+
+abbrev pub BeginPlan : {T : Type 0} → List Event → T → Type 0
+BeginPlan events answer = events ≡ Batch (Some empty_batch) ∷ []
+
+-- a put comes into the batch
+abbrev pub batch_put_refusal : ReplicaState → List ℕ → List ℕ → Option CoreError
+batch_put_refusal s key value = running_refusal s.state.run (λ run. no_batch_refusal run.batch (λ batch. option_or (key_refusal key) (value_refusal value)))
+
+abbrev pub BatchPutPlan : {T : Type 0} → ReplicaState → List ℕ → List ℕ → List Event → T → Type 0
+BatchPutPlan s key value events answer = OfRun s.state.run (λ batch. events ≡ Batch (Some (batch_put key value batch)) ∷ [])
+
+-- a delete comes into the batch
+abbrev pub batch_delete_refusal : ReplicaState → List ℕ → Option CoreError
+batch_delete_refusal s key = running_refusal s.state.run (λ run. no_batch_refusal run.batch (λ batch. key_refusal key))
+
+abbrev pub BatchDeletePlan : {T : Type 0} → ReplicaState → List ℕ → List Event → T → Type 0
+BatchDeletePlan s key events answer = OfRun s.state.run (λ batch. events ≡ Batch (Some (batch_delete key (pairs (processed (kept_of s.state.durable)) key) batch)) ∷ [])
+
+-- the batch becomes one block, or none where it is empty
+abbrev pub delta_of_batch : Kept → OpenBatch → Delta
+delta_of_batch kept batch = batch_delta (next_priority (processed kept)) batch
+
+abbrev pub batch_made_refusal : Kept → OpenBatch → Option CoreError
+batch_made_refusal kept batch = option_or (priority_refusal kept) (made_refusal kept (next_links kept) (delta_of_batch kept batch))
+
+abbrev pub commit_kept_refusal : Kept → OpenBatch → Option CoreError
+commit_kept_refusal kept batch = if is_empty_batch batch then None else batch_made_refusal kept batch
+
+abbrev pub commit_refusal : ReplicaState → Option CoreError
+commit_refusal s = running_refusal s.state.run (λ run. no_batch_refusal run.batch (commit_kept_refusal (kept_of s.state.durable)))
+
+abbrev pub BatchBecomes : Kept → OpenBatch → Bool → List Event → Option Written → Type 0
+BatchBecomes kept batch true events answer = (events ≡ Batch None ∷ []) × (answer ≡ None)
+BatchBecomes kept batch false events answer =
+    (events ≡ made_events kept (next_links kept) (delta_of_batch kept batch) ++ Batch None ∷ []) × (answer ≡ Some (written_of kept (next_links kept) (delta_of_batch kept batch)))
+
+abbrev pub CommitPlan : ReplicaState → List Event → Option Written → Type 0
+CommitPlan s events answer = OfRun s.state.run (λ batch. BatchBecomes (kept_of s.state.durable) batch (is_empty_batch batch) events answer)

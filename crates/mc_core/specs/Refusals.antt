@@ -1,0 +1,128 @@
+-- Why a replica refuses: the causes, and the order in which they are looked at.
+use Rattle.std.specs.Prelude.{◌≡◌, ⊤, ℕ, Bool, true, ◌-◌, ◌^◌, ◌≤◌, min, nat_le, nat_lt, List, [], ◌∷◌, length, Option, Some, None, Result, Ok, Err, if◌then◌else◌}
+use Rattle.std.specs.Option.{option_or, option_map}
+use Rattle.std.specs.Str.{bytes_eq}
+use Rattle.mc_base.specs.Causes.{Rose}
+use Rattle.mc_base.specs.declared.cid.Cid.{Cid}
+use Rattle.mc_key.specs.KeyRule.{key_fault}
+use Rattle.mc_key.specs.declared.fault.KeyFault.{KeyFault}
+use Rattle.mc_keep.specs.declared.error.KeepError.{KeepError}
+use Rattle.mc_keep.specs.declared.error.KeepError.TheVariants.{Failed, Memory as KeepMemory}
+use Rattle.mc_model.specs.declared.delta.Delta.{Delta}
+use Rattle.mc_model.specs.Front.{is_among}
+use Rattle.mc_model.specs.Kept.{Kept, processed, bytes_at}
+use Rattle.mc_model.specs.Made.{made_bytes, made_cid, next_priority}
+use Rattle.mc_model.specs.Offer.{block_max}
+use Rattle.mc_model.specs.State.{OpenBatch, Running}
+use Rattle.mc_write.specs.declared.error.WriteError.{WriteError}
+use Rattle.mc_write.specs.declared.error.WriteError.TheVariants as write
+use Rattle.mc_core.specs.declared.error.CoreError.{CoreError}
+use Rattle.mc_core.specs.declared.error.CoreError.TheVariants.{BadKey, ValueTooLong, BlockTooLarge, PriorityFull, Clash, KeeperFault, Stopped, NoBatch, BatchOpen, Memory}
+
+-- a keeper's refusal, and that of a delete's deltas, as a replica's
+abbrev pub OfKeeper : KeepError → CoreError → Type 0
+OfKeeper Failed error = error ≡ CoreError.KeeperFault
+OfKeeper KeepMemory error = error ≡ CoreError.Memory
+
+abbrev pub OfDelete : WriteError → CoreError → Type 0
+OfDelete (write.BlockTooLarge len) error = error ≡ CoreError.BlockTooLarge len
+OfDelete write.PriorityFull error = error ≡ CoreError.PriorityFull
+OfDelete write.Failed error = error ≡ CoreError.KeeperFault
+OfDelete write.Memory error = error ≡ CoreError.Memory
+
+-- the bytes of a value that a replica writes
+abbrev pub value_max : ℕ
+value_max = 262144
+
+-- a refusal of the key, and of the value
+abbrev pub key_refusal : List ℕ → Option CoreError
+key_refusal key = option_map (λ (fault : KeyFault). BadKey fault) (key_fault key)
+
+abbrev pub value_refusal : List ℕ → Option CoreError
+value_refusal value = if nat_lt value_max (length value) then Some ValueTooLong else None
+
+-- no priority is left for a block over what is processed
+abbrev pub priority_refusal : Kept → Option CoreError
+priority_refusal kept = if nat_lt (next_priority (processed kept)) (2 ^ 64) then None else Some PriorityFull
+
+-- a made block has too many bytes
+abbrev pub size_refusal : List ℕ → Option CoreError
+size_refusal bytes = if nat_lt block_max (length bytes) then Some (BlockTooLarge (min (length bytes) (2 ^ 64 - 1))) else None
+
+-- it is processed already, or other bytes are stored under its identifier
+abbrev pub other_refusal : Cid → List ℕ → Option (List ℕ) → Option CoreError
+other_refusal cid bytes None = None
+other_refusal cid bytes (Some other) = if bytes_eq other bytes then None else Some (Clash cid)
+
+abbrev pub clash_refusal : Kept → Cid → List ℕ → Option CoreError
+clash_refusal kept cid bytes = if is_among kept.order cid then Some (Clash cid) else other_refusal cid bytes (bytes_at kept.graph cid)
+
+-- the refusal of a block that is made with these links and this delta
+abbrev pub made_refusal : Kept → List Cid → Delta → Option CoreError
+made_refusal kept links delta = option_or (size_refusal (made_bytes links delta)) (clash_refusal kept (made_cid links delta) (made_bytes links delta))
+
+-- a replica that doesn't run refuses every call, and before all else
+abbrev pub running_refusal : Option Running → (Running → Option CoreError) → Option CoreError
+running_refusal None refusal = Some Stopped
+running_refusal (Some run) refusal = refusal run
+
+-- no batch is open, or one is
+abbrev pub no_batch_refusal : Option OpenBatch → (OpenBatch → Option CoreError) → Option CoreError
+no_batch_refusal None refusal = Some NoBatch
+no_batch_refusal (Some batch) refusal = refusal batch
+
+abbrev pub open_batch_refusal : Option OpenBatch → Option CoreError
+open_batch_refusal None = None
+open_batch_refusal (Some batch) = Some BatchOpen
+
+-- the refusal that is due is this one, or none
+abbrev pub Is : Option CoreError → Option CoreError → Type 0
+Is due refusal = refusal ≡ due
+
+-- what holds of a refusal: a fault of the keeper, and want of memory, are none
+abbrev pub IsDue : (Option CoreError → Type 0) → CoreError → Type 0
+IsDue Refusal KeeperFault = ⊤
+IsDue Refusal Memory = ⊤
+IsDue Refusal (BadKey fault) = Refusal (Some (BadKey fault))
+IsDue Refusal ValueTooLong = Refusal (Some ValueTooLong)
+IsDue Refusal (BlockTooLarge len) = Refusal (Some (BlockTooLarge len))
+IsDue Refusal PriorityFull = Refusal (Some PriorityFull)
+IsDue Refusal (Clash cid) = Refusal (Some (Clash cid))
+IsDue Refusal Stopped = Refusal (Some Stopped)
+IsDue Refusal NoBatch = Refusal (Some NoBatch)
+IsDue Refusal BatchOpen = Refusal (Some BatchOpen)
+
+-- whether a replica has stopped after this error, where it had or had not
+abbrev pub stops : CoreError → Bool → Bool
+stops KeeperFault stop = true
+stops Memory stop = stop
+stops (BadKey fault) stop = stop
+stops ValueTooLong stop = stop
+stops (BlockTooLarge len) stop = stop
+stops PriorityFull stop = stop
+stops (Clash cid) stop = stop
+stops Stopped stop = stop
+stops NoBatch stop = stop
+stops BatchOpen stop = stop
+
+-- what holds where the keeper failed
+abbrev pub IfFault : CoreError → Type 0 → Type 0
+IfFault KeeperFault P = P
+IfFault Memory P = ⊤
+IfFault (BadKey fault) P = ⊤
+IfFault ValueTooLong P = ⊤
+IfFault (BlockTooLarge len) P = ⊤
+IfFault PriorityFull P = ⊤
+IfFault (Clash cid) P = ⊤
+IfFault Stopped P = ⊤
+IfFault NoBatch P = ⊤
+IfFault BatchOpen P = ⊤
+
+abbrev pub OnFault : {T : Type 0} → Result T CoreError → Type 0 → Type 0
+OnFault (Ok value) P = ⊤
+OnFault (Err error) P = IfFault error P
+
+-- a count never falls, and has risen where the call answers KeeperFault
+pub record CoreCause {T : Type 0} (before now : ℕ) (result : Result T CoreError) : Type 0 where
+  pub later : before ≤ now
+  pub failed : OnFault result (Rose before now)

@@ -1,0 +1,160 @@
+// The calls of a replica on its batch.
+ghost use Rattle.std.specs.Prelude.{◌≡◌, ◌≤◌, ◌++◌, ◌∷◌, [], false, None, Some, IfOk, IfSome, IfErr};
+ghost use Rattle.mc_base.specs.Causes.{Rose};
+ghost use Rattle.mc_base.specs.Told.{Told};
+ghost use Rattle.mc_keep.specs.Causes.{IfTold, StaysQuiet};
+ghost use Rattle.mc_model.specs.Events.{Batch as Closed};
+ghost use Rattle.mc_core.specs.declared.error.CoreError.{CoreError as Refused};
+ghost use Rattle.mc_core.specs.Batches.{BeginPlan, BatchDeletePlan, BatchPutPlan, CommitPlan, batch_delete_refusal, batch_made_refusal, batch_put_refusal, begin_refusal, commit_refusal, delta_of_batch};
+ghost use Rattle.mc_core.specs.Calls.{Call};
+ghost use Rattle.mc_core.specs.Events.{Part};
+ghost use Rattle.mc_core.specs.Plans.{IsShaped, IsSomePlan, plan_events, plan_rows};
+ghost use Rattle.mc_core.specs.Puts.{IsPlanned, next_links};
+ghost use Rattle.mc_core.specs.Refusals.{CoreCause, Is, IsDue};
+ghost use Rattle.mc_core.specs.Replica.{replica_state};
+
+use crate::commits::is_sound;
+use crate::made::{Planned, Written, next_block, plan_made};
+use crate::puts::{check_key, check_value};
+use crate::{CoreError, Replica};
+use mc_keep::Keeper;
+use mc_model::kept_is_durable;
+use mc_write::Batch;
+use std::alloc::Global;
+
+impl<K: Keeper> Replica<K> {
+    /// Opens a batch, with nothing in it. Takes no memory. Refusals in their order: `Stopped`, `BatchOpen`.
+    pub fn batch_begin(&mut self, alloc: Global) -> Result<(), CoreError>
+        ensures call { Told (replica_state K.told K.fuse self.old) (replica_state K.told K.fuse self.new) (λ s new.
+            Call (Is (begin_refusal s)) BeginPlan (λ left. left ≡ s) (Rose (K.own self.old.keeper) (K.own self.new.keeper)) result s new) }
+        ensures own { K.own self.old.keeper ≤ K.own self.new.keeper }
+        ensures cause { CoreCause (K.faults self.old.keeper) (K.faults self.new.keeper) result }
+    {
+        if self.stopped {
+            return Err(CoreError::Stopped);
+        }
+        if self.batch.is_some() {
+            return Err(CoreError::BatchOpen);
+        }
+        self.batch = Some(Batch::new(alloc));
+        Ok(())
+    }
+
+    /// Puts a value into the open batch, in the place of the batch's element of the key. Refusals in their order:
+    /// `Stopped`, `NoBatch`, `BadKey`, `ValueTooLong`; these and `Memory` leave the replica as it was.
+    pub fn batch_put(&mut self, key: &str, value: &[u8]) -> Result<(), CoreError>
+        ensures call { Told (replica_state K.told K.fuse self.old) (replica_state K.told K.fuse self.new) (λ s new.
+            Call (Is (batch_put_refusal s key.now value.now)) (BatchPutPlan s key.now value.now) (λ left. left ≡ s) (Rose (K.own self.old.keeper) (K.own self.new.keeper)) result s new) }
+        ensures own { K.own self.old.keeper ≤ K.own self.new.keeper }
+        ensures cause { CoreCause (K.faults self.old.keeper) (K.faults self.new.keeper) result }
+    {
+        if self.stopped {
+            return Err(CoreError::Stopped);
+        }
+        let Some(batch) = self.batch.as_mut() else {
+            return Err(CoreError::NoBatch);
+        };
+        let key = check_key(key)?;
+        check_value(value)?;
+        match batch.put(&key, value) {
+            Ok(()) => Ok(()),
+            Err(_) => Err(CoreError::Memory),
+        }
+    }
+
+    /// Drops the batch's element of a key, and adds the blocks with a live element of it that a delete would take now.
+    /// Refusals in their order: `Stopped`, `NoBatch`, `BadKey`; these and `Memory` leave the replica as it was.
+    pub fn batch_delete(&mut self, key: &str) -> Result<(), CoreError>
+        ensures call { Told (replica_state K.told K.fuse self.old) (replica_state K.told K.fuse self.new) (λ s new.
+            Call (Is (batch_delete_refusal s key.now)) (BatchDeletePlan s key.now) (λ left. left ≡ s) (Rose (K.own self.old.keeper) (K.own self.new.keeper)) result s new) }
+        ensures own { K.own self.old.keeper ≤ K.own self.new.keeper }
+        ensures cause { CoreCause (K.faults self.old.keeper) (K.faults self.new.keeper) result }
+    {
+        kept_is_durable();
+        if self.stopped {
+            return Err(CoreError::Stopped);
+        }
+        let Some(batch) = self.batch.as_mut() else {
+            return Err(CoreError::NoBatch);
+        };
+        let key = check_key(key)?;
+        match batch.delete(&key, &mut self.keeper) {
+            Ok(()) => Ok(()),
+            Err(error) => Err(self.fail(CoreError::from(error))),
+        }
+    }
+
+    /// Makes one block of the open batch, over the heads, stores it unless it is stored, processes it, and closes the
+    /// batch. An empty batch is closed without a block. All memory is taken before the first commit. Refusals in their
+    /// order: `Stopped`, `NoBatch`, `PriorityFull`, `BlockTooLarge`, `Clash`; these and `Memory` leave the batch open and
+    /// the replica as it was.
+    pub fn batch_commit(&mut self, alloc: Global) -> Result<Option<Written>, CoreError>
+        ensures call { Told (replica_state K.told K.fuse self.old) (replica_state K.told K.fuse self.new) (λ s new.
+            Call (Is (commit_refusal s)) (CommitPlan s) (λ left. left ≡ s) (Rose (K.own self.old.keeper) (K.own self.new.keeper)) result s new) }
+        ensures own { K.own self.old.keeper ≤ K.own self.new.keeper }
+        ensures cause { CoreCause (K.faults self.old.keeper) (K.faults self.new.keeper) result }
+    {
+        kept_is_durable();
+        if self.stopped {
+            return Err(CoreError::Stopped);
+        }
+        let Some(batch) = self.batch.as_ref() else {
+            return Err(CoreError::NoBatch);
+        };
+        if batch.is_empty() {
+            self.batch = None;
+            return Ok(None);
+        }
+        match plan_batch(&mut self.keeper, alloc, batch, self.whole) {
+            Ok(planned) => self.take_up_batch(planned),
+            Err(error) => Err(self.fail(error)),
+        }
+    }
+
+    // The commits of the batch's block, and then no batch is open.
+    fn take_up_batch(&mut self, planned: Planned) -> Result<Option<Written>, CoreError>
+        requires up { self.old.stopped ≡ false }
+        requires room { plan_rows planned.plan ≤ K.spare self.old.keeper }
+        requires shape { IsShaped planned.plan }
+        requires plan { IfSome (K.told self.old.keeper) (λ kept. IsSomePlan kept self.old.whole planned.plan) }
+        ensures part { Told (replica_state K.told K.fuse self.old) (replica_state K.told K.fuse self.new) (λ s new.
+            Part (plan_events planned.plan ++ Closed None ∷ []) (Rose (K.own self.old.keeper) (K.own self.new.keeper)) result s new) }
+        ensures answer { IfOk result (λ written. written ≡ Some planned.written) }
+        ensures only { IfErr result (λ error. error ≡ Refused.KeeperFault) }
+        ensures own { K.own self.old.keeper ≤ K.own self.new.keeper }
+        ensures cause { CoreCause (K.faults self.old.keeper) (K.faults self.new.keeper) result }
+    {
+        match self.take_up(planned) {
+            Ok(written) => {
+                self.batch = None;
+                Ok(Some(written))
+            }
+            Err(error) => Err(error),
+        }
+    }
+}
+
+// Plans to take up the block of a batch, and takes all the memory that it needs.
+fn plan_batch<K: Keeper>(
+    keeper: &mut K,
+    alloc: Global,
+    batch: &Batch,
+    whole: bool,
+) -> Result<Planned, CoreError>
+    ensures allowed { IfTold (K.told keeper.old) result (λ kept planned. batch_made_refusal kept batch.now ≡ None) }
+    ensures planned { IfTold (K.told keeper.old) result (λ kept planned. IsPlanned kept whole (next_links kept) (delta_of_batch kept batch.now) planned) }
+    ensures refused { IfSome (K.told keeper.old) (λ kept. IfErr result (IsDue (Is (batch_made_refusal kept batch.now)))) }
+    ensures shape { IfOk result (λ planned. IsShaped planned.plan) }
+    ensures room { IfOk result (λ planned. plan_rows planned.plan ≤ K.spare keeper.new) }
+    ensures told { K.told keeper.new ≡ K.told keeper.old }
+    ensures fuse { K.fuse keeper.new ≡ K.fuse keeper.old }
+    ensures own { CoreCause (K.own keeper.old) (K.own keeper.new) result }
+    ensures quiet { StaysQuiet (K.quiet keeper.old) (K.quiet keeper.new) (K.own keeper.old) (K.own keeper.new) }
+    ensures cause { CoreCause (K.faults keeper.old) (K.faults keeper.new) result }
+{
+    is_sound(keeper);
+    kept_is_durable();
+    let next = next_block(keeper, alloc)?;
+    let delta = batch.delta(alloc, next.priority)?;
+    plan_made(keeper, alloc, next.links, delta, whole)
+}

@@ -1,0 +1,176 @@
+// Blocks that a replica makes.
+ghost use Rattle.std.specs.Prelude.{◌≡◌, ◌≤◌, None, Some, true, false, length, map, IfOk, IfSome, IfErr, OnOk, is_some};
+ghost use Rattle.std.specs.List.{list_all};
+ghost use Rattle.mc_base.specs.Causes.{HasCause};
+ghost use Rattle.mc_model.specs.Front.{is_among};
+ghost use Rattle.mc_model.specs.Kept.{processed, is_stored, bytes_at};
+ghost use Rattle.mc_model.specs.Made.{head_cids, next_priority};
+ghost use Rattle.mc_keep.specs.Causes.{IfTold, StaysQuiet};
+ghost use Rattle.mc_write.specs.Seen.{row_cids};
+ghost use Rattle.mc_core.specs.Plans.{IsShaped, plan_rows};
+ghost use Rattle.mc_core.specs.Puts.{IsPlanned, next_links};
+ghost use Rattle.mc_core.specs.Refusals.{CoreCause, Is, IsDue, clash_refusal, made_refusal, other_refusal, priority_refusal, size_refusal};
+
+use crate::CoreError;
+use crate::plan::{Plan, plan_block};
+use mc_base::{Cid, Failed, List};
+use mc_block::write_block;
+use mc_keep::{HeadRow, Keeper};
+use mc_model::{Block, Delta};
+use mc_write::next_priority;
+use std::alloc::{AllocError, Global};
+
+const BLOCK_MAX: usize = 1_048_576;
+
+/// A block that was made, stored and processed.
+#[derive(Clone, Copy, Debug, PartialEq, Eq)]
+pub struct Written {
+    /// Its content identifier.
+    pub cid: Cid,
+    /// The priority of its delta.
+    pub priority: u64,
+    /// Its position in the order of processing, from 0.
+    pub position: u64,
+}
+
+// The commits of a made block, with all their memory taken, and the answer for it.
+#[derive(Drop)]
+pub(crate) struct Planned {
+    pub(crate) plan: Plan,
+    pub(crate) written: Written,
+}
+
+// What the next block has over the heads.
+#[derive(Drop)]
+pub(crate) struct Next {
+    pub(crate) links: List<Cid>,
+    pub(crate) priority: u64,
+}
+
+// The links to the heads, and one more than their greatest height.
+pub(crate) fn next_block<K: Keeper>(keeper: &mut K, alloc: Global) -> Result<Next, CoreError>
+    ensures next { IfTold (K.told keeper.old) result (λ kept next. (next.links ≡ next_links kept) × (next.priority ≡ next_priority (processed kept))) }
+    ensures left { IfTold (K.told keeper.old) result (λ kept next. priority_refusal kept ≡ None) }
+    ensures refused { IfSome (K.told keeper.old) (λ kept. IfErr result (IsDue (Is (priority_refusal kept)))) }
+    ensures told { K.told keeper.new ≡ K.told keeper.old }
+    ensures fuse { K.fuse keeper.new ≡ K.fuse keeper.old }
+    ensures own { CoreCause (K.own keeper.old) (K.own keeper.new) result }
+    ensures quiet { StaysQuiet (K.quiet keeper.old) (K.quiet keeper.new) (K.own keeper.old) (K.own keeper.new) }
+    ensures cause { CoreCause (K.faults keeper.old) (K.faults keeper.new) result }
+{
+    let heads = keeper.heads(alloc)?;
+    let Some(priority) = next_priority(heads.as_slice()) else {
+        return Err(CoreError::PriorityFull);
+    };
+    let links = cids_of(alloc, heads.as_slice())?;
+    Ok(Next { links, priority })
+}
+
+fn cids_of(alloc: Global, heads: &[HeadRow]) -> Result<List<Cid>, AllocError>
+    ensures { IfOk result (λ cids. cids ≡ row_cids heads.now) }
+{
+    let mut cids = List::with_capacity(alloc, heads.len())?;
+    for head in heads {
+        cids.push(head.cid)?;
+    }
+    Ok(cids)
+}
+
+fn check_size(bytes: &[u8]) -> Result<(), CoreError>
+    ensures ok { OnOk result (size_refusal bytes.now ≡ None) }
+    ensures refused { IfErr result (λ error. size_refusal bytes.now ≡ Some error) }
+{
+    if bytes.len() > BLOCK_MAX {
+        return Err(CoreError::BlockTooLarge {
+            len: bytes.len() as u64,
+        });
+    }
+    Ok(())
+}
+
+fn is_processed<K: Keeper>(keeper: &mut K, cid: &Cid) -> Result<bool, Failed>
+    ensures found { IfTold (K.told keeper.old) result (λ kept found. found ≡ is_among kept.order cid.now) }
+    ensures told { K.told keeper.new ≡ K.told keeper.old }
+    ensures fuse { K.fuse keeper.new ≡ K.fuse keeper.old }
+    ensures own { HasCause (K.own keeper.old) (K.own keeper.new) result }
+    ensures quiet { StaysQuiet (K.quiet keeper.old) (K.quiet keeper.new) (K.own keeper.old) (K.own keeper.new) }
+    ensures cause { HasCause (K.faults keeper.old) (K.faults keeper.new) result }
+{
+    Ok(keeper.position(cid)?.is_some())
+}
+
+// Refuses bytes where other ones are stored.
+fn check_same(cid: &Cid, other: &[u8], bytes: &[u8]) -> Result<(), CoreError>
+    ensures ok { OnOk result (other_refusal cid.now bytes.now (Some other.now) ≡ None) }
+    ensures refused { IfErr result (λ error. other_refusal cid.now bytes.now (Some other.now) ≡ Some error) }
+{
+    if other != bytes {
+        return Err(CoreError::Clash { cid: *cid });
+    }
+    Ok(())
+}
+
+// Whether the block is stored already, where it doesn't clash.
+fn check_clash<K: Keeper>(
+    keeper: &mut K,
+    alloc: Global,
+    cid: &Cid,
+    bytes: &[u8],
+) -> Result<bool, CoreError>
+    ensures known { IfTold (K.told keeper.old) result (λ kept known. known ≡ is_stored kept.graph cid.now) }
+    ensures allowed { IfTold (K.told keeper.old) result (λ kept known. clash_refusal kept cid.now bytes.now ≡ None) }
+    ensures refused { IfSome (K.told keeper.old) (λ kept. IfErr result (IsDue (Is (clash_refusal kept cid.now bytes.now)))) }
+    ensures told { K.told keeper.new ≡ K.told keeper.old }
+    ensures fuse { K.fuse keeper.new ≡ K.fuse keeper.old }
+    ensures own { CoreCause (K.own keeper.old) (K.own keeper.new) result }
+    ensures quiet { StaysQuiet (K.quiet keeper.old) (K.quiet keeper.new) (K.own keeper.old) (K.own keeper.new) }
+    ensures cause { CoreCause (K.faults keeper.old) (K.faults keeper.new) result }
+{
+    if is_processed(keeper, cid)? {
+        return Err(CoreError::Clash { cid: *cid });
+    }
+    match keeper.block(alloc, cid)? {
+        Some(other) => {
+            check_same(cid, other.as_slice(), bytes)?;
+            Ok(true)
+        }
+        None => Ok(false),
+    }
+}
+
+// Plans to take up the block with these links and this delta, and takes all the memory that it needs.
+pub(crate) fn plan_made<K: Keeper>(
+    keeper: &mut K,
+    alloc: Global,
+    links: List<Cid>,
+    delta: Delta,
+    whole: bool,
+) -> Result<Planned, CoreError>
+    requires { IfSome (K.told keeper.old) (λ kept. list_all (is_among kept.order) links ≡ true) }
+    ensures planned { IfTold (K.told keeper.old) result (λ kept planned. IsPlanned kept whole links delta planned) }
+    ensures refused { IfSome (K.told keeper.old) (λ kept. IfErr result (IsDue (Is (made_refusal kept links delta)))) }
+    ensures shape { IfOk result (λ planned. IsShaped planned.plan) }
+    ensures room { IfOk result (λ planned. plan_rows planned.plan ≤ K.spare keeper.new) }
+    ensures told { K.told keeper.new ≡ K.told keeper.old }
+    ensures fuse { K.fuse keeper.new ≡ K.fuse keeper.old }
+    ensures own { CoreCause (K.own keeper.old) (K.own keeper.new) result }
+    ensures quiet { StaysQuiet (K.quiet keeper.old) (K.quiet keeper.new) (K.own keeper.old) (K.own keeper.new) }
+    ensures cause { CoreCause (K.faults keeper.old) (K.faults keeper.new) result }
+{
+    let made = write_block(alloc, links.as_slice(), &delta)?;
+    check_size(made.bytes.as_slice())?;
+    let known = check_clash(keeper, alloc, &made.cid, made.bytes.as_slice())?;
+    let position = keeper.summary()?.processed;
+    let written = Written {
+        cid: made.cid,
+        priority: delta.priority,
+        position,
+    };
+    let block = Block {
+        cid: made.cid,
+        links,
+        delta,
+    };
+    let plan = plan_block(keeper, alloc, &block, made.bytes, known, whole)?;
+    Ok(Planned { plan, written })
+}

@@ -1,0 +1,89 @@
+// Puts, up to their commits.
+ghost use Rattle.std.specs.Prelude.{◌≡◌, ◌≤◌, None, Some, IfOk, IfSome, IfErr, OnOk};
+ghost use Rattle.mc_keep.specs.Causes.{IfTold, StaysQuiet};
+ghost use Rattle.mc_core.specs.Plans.{IsShaped, plan_rows};
+ghost use Rattle.mc_core.specs.Puts.{IsPlanned, next_links, delta_of_put, put_made_refusal, put_kept_refusal};
+ghost use Rattle.mc_core.specs.Refusals.{CoreCause, Is, IsDue, key_refusal, value_refusal};
+
+use crate::CoreError;
+use crate::commits::is_sound;
+use crate::made::{Planned, next_block, plan_made};
+use mc_keep::Keeper;
+use mc_key::Key;
+use mc_model::kept_is_durable;
+use mc_write::put_delta;
+use std::alloc::Global;
+
+const VALUE_MAX: usize = 262_144;
+
+// The text as a key.
+pub(crate) fn check_key(text: &str) -> Result<Key<'_>, CoreError>
+    ensures key { IfOk result (λ key. key ≡ text.now) }
+    ensures ok { OnOk result (key_refusal text.now ≡ None) }
+    ensures refused { IfErr result (λ error. key_refusal text.now ≡ Some error) }
+{
+    match Key::read(text) {
+        Ok(key) => Ok(key),
+        Err(fault) => Err(CoreError::BadKey { fault }),
+    }
+}
+
+pub(crate) fn check_value(value: &[u8]) -> Result<(), CoreError>
+    ensures ok { OnOk result (value_refusal value.now ≡ None) }
+    ensures refused { IfErr result (λ error. value_refusal value.now ≡ Some error) }
+{
+    if value.len() > VALUE_MAX {
+        return Err(CoreError::ValueTooLong);
+    }
+    Ok(())
+}
+
+// Plans a put of a key and a value that may be put.
+fn plan_made_put<K: Keeper>(
+    keeper: &mut K,
+    alloc: Global,
+    key: &Key<'_>,
+    value: &[u8],
+    whole: bool,
+) -> Result<Planned, CoreError>
+    ensures allowed { IfTold (K.told keeper.old) result (λ kept planned. put_made_refusal kept key.now value.now ≡ None) }
+    ensures planned { IfTold (K.told keeper.old) result (λ kept planned. IsPlanned kept whole (next_links kept) (delta_of_put kept key.now value.now) planned) }
+    ensures refused { IfSome (K.told keeper.old) (λ kept. IfErr result (IsDue (Is (put_made_refusal kept key.now value.now)))) }
+    ensures shape { IfOk result (λ planned. IsShaped planned.plan) }
+    ensures room { IfOk result (λ planned. plan_rows planned.plan ≤ K.spare keeper.new) }
+    ensures told { K.told keeper.new ≡ K.told keeper.old }
+    ensures fuse { K.fuse keeper.new ≡ K.fuse keeper.old }
+    ensures own { CoreCause (K.own keeper.old) (K.own keeper.new) result }
+    ensures quiet { StaysQuiet (K.quiet keeper.old) (K.quiet keeper.new) (K.own keeper.old) (K.own keeper.new) }
+    ensures cause { CoreCause (K.faults keeper.old) (K.faults keeper.new) result }
+{
+    is_sound(keeper);
+    kept_is_durable();
+    let next = next_block(keeper, alloc)?;
+    let delta = put_delta(alloc, key, value, next.priority)?;
+    plan_made(keeper, alloc, next.links, delta, whole)
+}
+
+// Plans a put, and takes all the memory that it needs.
+pub(crate) fn plan_put<K: Keeper>(
+    keeper: &mut K,
+    alloc: Global,
+    key: &str,
+    value: &[u8],
+    whole: bool,
+) -> Result<Planned, CoreError>
+    ensures allowed { IfTold (K.told keeper.old) result (λ kept planned. put_kept_refusal kept key.now value.now ≡ None) }
+    ensures planned { IfTold (K.told keeper.old) result (λ kept planned. IsPlanned kept whole (next_links kept) (delta_of_put kept key.now value.now) planned) }
+    ensures refused { IfSome (K.told keeper.old) (λ kept. IfErr result (IsDue (Is (put_kept_refusal kept key.now value.now)))) }
+    ensures shape { IfOk result (λ planned. IsShaped planned.plan) }
+    ensures room { IfOk result (λ planned. plan_rows planned.plan ≤ K.spare keeper.new) }
+    ensures told { K.told keeper.new ≡ K.told keeper.old }
+    ensures fuse { K.fuse keeper.new ≡ K.fuse keeper.old }
+    ensures own { CoreCause (K.own keeper.old) (K.own keeper.new) result }
+    ensures quiet { StaysQuiet (K.quiet keeper.old) (K.quiet keeper.new) (K.own keeper.old) (K.own keeper.new) }
+    ensures cause { CoreCause (K.faults keeper.old) (K.faults keeper.new) result }
+{
+    let key = check_key(key)?;
+    check_value(value)?;
+    plan_made_put(keeper, alloc, &key, value, whole)
+}

@@ -1,0 +1,136 @@
+// The calls of a replica that only read.
+ghost use Rattle.std.specs.Prelude.{◌≡◌, ◌≤◌, map, length, slice_get};
+ghost use Rattle.std.specs.List.{position};
+ghost use Rattle.mc_base.specs.Causes.{Rose};
+ghost use Rattle.mc_base.specs.Told.{Told};
+ghost use Rattle.mc_key.specs.Prefix.{is_under};
+ghost use Rattle.mc_model.specs.Answers as answers;
+ghost use Rattle.mc_model.specs.Answers.{has_value};
+ghost use Rattle.mc_model.specs.Front.{heads, same_cid};
+ghost use Rattle.mc_model.specs.Kept.{processed};
+ghost use Rattle.mc_model.specs.Live.{value};
+ghost use Rattle.mc_keep.specs.Changes.{heads_in_rows};
+ghost use Rattle.mc_query.specs.Places.{pair_of};
+ghost use Rattle.mc_core.specs.Calls.{Call};
+ghost use Rattle.mc_core.specs.Reads.{Reads, read_refusal};
+ghost use Rattle.mc_core.specs.Refusals.{CoreCause, Is};
+ghost use Rattle.mc_core.specs.Replica.{replica_state};
+
+use crate::{CoreError, Replica};
+use mc_base::{Bytes, Cid, List};
+use mc_keep::{HeadRow, Keeper};
+use mc_model::kept_is_durable;
+use mc_query::Pair;
+use std::alloc::Global;
+
+impl<K: Keeper> Replica<K> {
+    /// The value of a key over the processed blocks, or none where it has none. The key is any text. Refusals: `Stopped`.
+    pub fn get(&mut self, alloc: Global, key: &str) -> Result<Option<Bytes>, CoreError>
+        ensures call { Told (replica_state K.told K.fuse self.old) (replica_state K.told K.fuse self.new) (λ s new.
+            Call (Is (read_refusal s)) (Reads (λ kept found. found ≡ value (processed kept) key.now) s) (λ left. left ≡ s) (Rose (K.own self.old.keeper) (K.own self.new.keeper)) result s new) }
+        ensures own { K.own self.old.keeper ≤ K.own self.new.keeper }
+        ensures cause { CoreCause (K.faults self.old.keeper) (K.faults self.new.keeper) result }
+    {
+        kept_is_durable();
+        if self.stopped {
+            return Err(CoreError::Stopped);
+        }
+        match mc_query::get(&mut self.keeper, alloc, key) {
+            Ok(found) => Ok(found),
+            Err(error) => Err(self.fail(CoreError::from(error))),
+        }
+    }
+
+    /// Whether a key has a value over the processed blocks. The key is any text. Takes no memory. Refusals: `Stopped`.
+    pub fn has(&mut self, key: &str) -> Result<bool, CoreError>
+        ensures call { Told (replica_state K.told K.fuse self.old) (replica_state K.told K.fuse self.new) (λ s new.
+            Call (Is (read_refusal s)) (Reads (λ kept found. found ≡ has_value (processed kept) key.now) s) (λ left. left ≡ s) (Rose (K.own self.old.keeper) (K.own self.new.keeper)) result s new) }
+        ensures own { K.own self.old.keeper ≤ K.own self.new.keeper }
+        ensures cause { CoreCause (K.faults self.old.keeper) (K.faults self.new.keeper) result }
+    {
+        kept_is_durable();
+        if self.stopped {
+            return Err(CoreError::Stopped);
+        }
+        match mc_query::has(&mut self.keeper, key) {
+            Ok(found) => Ok(found),
+            Err(error) => Err(self.fail(CoreError::from(error))),
+        }
+    }
+
+    /// The keys with a value that a prefix selects, ascending by their bytes, each with its value: those after the first
+    /// `skip` of them, and at most `count`. Refusals: `Stopped`.
+    pub fn query(
+        &mut self,
+        alloc: Global,
+        prefix: &str,
+        skip: u64,
+        count: u64,
+    ) -> Result<List<Pair>, CoreError>
+        ensures call { Told (replica_state K.told K.fuse self.old) (replica_state K.told K.fuse self.new) (λ s new.
+            Call (Is (read_refusal s)) (Reads (λ kept pairs. map pair_of pairs ≡ answers.query (processed kept) (is_under prefix.now) skip count) s) (λ left. left ≡ s) (Rose (K.own self.old.keeper) (K.own self.new.keeper)) result s new) }
+        ensures own { K.own self.old.keeper ≤ K.own self.new.keeper }
+        ensures cause { CoreCause (K.faults self.old.keeper) (K.faults self.new.keeper) result }
+    {
+        kept_is_durable();
+        if self.stopped {
+            return Err(CoreError::Stopped);
+        }
+        match mc_query::query(&mut self.keeper, alloc, prefix, skip, count) {
+            Ok(pairs) => Ok(pairs),
+            Err(error) => Err(self.fail(CoreError::from(error))),
+        }
+    }
+
+    /// The heads, ascending by the digest, each with its height. Refusals: `Stopped`.
+    pub fn heads(&mut self, alloc: Global) -> Result<List<HeadRow>, CoreError>
+        ensures call { Told (replica_state K.told K.fuse self.old) (replica_state K.told K.fuse self.new) (λ s new.
+            Call (Is (read_refusal s)) (Reads (λ kept rows. heads_in_rows rows ≡ heads (processed kept)) s) (λ left. left ≡ s) (Rose (K.own self.old.keeper) (K.own self.new.keeper)) result s new) }
+        ensures own { K.own self.old.keeper ≤ K.own self.new.keeper }
+        ensures cause { CoreCause (K.faults self.old.keeper) (K.faults self.new.keeper) result }
+    {
+        kept_is_durable();
+        if self.stopped {
+            return Err(CoreError::Stopped);
+        }
+        match self.keeper.heads(alloc) {
+            Ok(heads) => Ok(heads),
+            Err(error) => Err(self.fail(CoreError::from(error))),
+        }
+    }
+
+    /// The place of a block in the order of processing, from 0, or none where it is not processed. Takes no memory.
+    /// Refusals: `Stopped`.
+    pub fn position(&mut self, cid: &Cid) -> Result<Option<u64>, CoreError>
+        ensures call { Told (replica_state K.told K.fuse self.old) (replica_state K.told K.fuse self.new) (λ s new.
+            Call (Is (read_refusal s)) (Reads (λ kept place. place ≡ position (same_cid cid.now) kept.order) s) (λ left. left ≡ s) (Rose (K.own self.old.keeper) (K.own self.new.keeper)) result s new) }
+        ensures own { K.own self.old.keeper ≤ K.own self.new.keeper }
+        ensures cause { CoreCause (K.faults self.old.keeper) (K.faults self.new.keeper) result }
+    {
+        kept_is_durable();
+        if self.stopped {
+            return Err(CoreError::Stopped);
+        }
+        match self.keeper.position(cid) {
+            Ok(place) => Ok(place),
+            Err(error) => Err(self.fail(CoreError::from(error))),
+        }
+    }
+
+    /// The block at a place in the order of processing, or none past its end. Takes no memory. Refusals: `Stopped`.
+    pub fn at(&mut self, position: u64) -> Result<Option<Cid>, CoreError>
+        ensures call { Told (replica_state K.told K.fuse self.old) (replica_state K.told K.fuse self.new) (λ s new.
+            Call (Is (read_refusal s)) (Reads (λ kept cid. cid ≡ slice_get kept.order position) s) (λ left. left ≡ s) (Rose (K.own self.old.keeper) (K.own self.new.keeper)) result s new) }
+        ensures own { K.own self.old.keeper ≤ K.own self.new.keeper }
+        ensures cause { CoreCause (K.faults self.old.keeper) (K.faults self.new.keeper) result }
+    {
+        kept_is_durable();
+        if self.stopped {
+            return Err(CoreError::Stopped);
+        }
+        match self.keeper.at(position) {
+            Ok(cid) => Ok(cid),
+            Err(error) => Err(self.fail(CoreError::from(error))),
+        }
+    }
+}

@@ -1,0 +1,77 @@
+// The calls of a replica that make one block.
+ghost use Rattle.std.specs.Prelude.{◌≡◌, ◌≤◌, false, IfOk, IfErr, IfSome};
+ghost use Rattle.mc_base.specs.Causes.{Rose};
+ghost use Rattle.mc_base.specs.Told.{Told};
+ghost use Rattle.mc_core.specs.declared.error.CoreError.{CoreError as Refused};
+ghost use Rattle.mc_core.specs.Calls.{Call};
+ghost use Rattle.mc_core.specs.Events.{Part};
+ghost use Rattle.mc_core.specs.Plans.{IsShaped, IsSomePlan, plan_events, plan_rows};
+ghost use Rattle.mc_core.specs.Puts.{PutPlan, put_refusal};
+ghost use Rattle.mc_core.specs.Refusals.{CoreCause, Is, stops};
+ghost use Rattle.mc_core.specs.Replica.{replica_state};
+
+use crate::made::{Planned, Written};
+use crate::puts::plan_put;
+use crate::{CoreError, Replica};
+use mc_base::Failed;
+use mc_keep::Keeper;
+use mc_model::kept_is_durable;
+use std::alloc::Global;
+
+impl<K: Keeper> Replica<K> {
+    /// Makes one block that sets a key to a value, over the heads, stores it unless it is stored, and processes it. All
+    /// memory is taken before the first commit. Refusals in their order: `Stopped`, `BadKey`, `ValueTooLong`,
+    /// `PriorityFull`, `BlockTooLarge`, `Clash`; these and `Memory` leave the replica as it was.
+    pub fn put(&mut self, alloc: Global, key: &str, value: &[u8]) -> Result<Written, CoreError>
+        ensures call { Told (replica_state K.told K.fuse self.old) (replica_state K.told K.fuse self.new) (λ s new.
+            Call (Is (put_refusal s key.now value.now)) (PutPlan s key.now value.now) (λ left. left ≡ s) (Rose (K.own self.old.keeper) (K.own self.new.keeper)) result s new) }
+        ensures own { K.own self.old.keeper ≤ K.own self.new.keeper }
+        ensures cause { CoreCause (K.faults self.old.keeper) (K.faults self.new.keeper) result }
+    {
+        kept_is_durable();
+        if self.stopped {
+            return Err(CoreError::Stopped);
+        }
+        match plan_put(&mut self.keeper, alloc, key, value, self.whole) {
+            Ok(planned) => self.take_up(planned),
+            Err(error) => Err(self.fail(error)),
+        }
+    }
+
+    // The commits of a planned block.
+    pub(crate) fn take_up(&mut self, planned: Planned) -> Result<Written, CoreError>
+        requires up { self.old.stopped ≡ false }
+        requires room { plan_rows planned.plan ≤ K.spare self.old.keeper }
+        requires shape { IsShaped planned.plan }
+        requires plan { IfSome (K.told self.old.keeper) (λ kept. IsSomePlan kept self.old.whole planned.plan) }
+        ensures part { Told (replica_state K.told K.fuse self.old) (replica_state K.told K.fuse self.new) (λ s new.
+            Part (plan_events planned.plan) (Rose (K.own self.old.keeper) (K.own self.new.keeper)) result s new) }
+        ensures answer { IfOk result (λ written. written ≡ planned.written) }
+        ensures only { IfErr result (λ error. error ≡ Refused.KeeperFault) }
+        ensures up { IfOk result (λ written. self.new.stopped ≡ false) }
+        ensures whole { self.new.whole ≡ self.old.whole }
+        ensures batch { self.new.batch ≡ self.old.batch }
+        ensures own { K.own self.old.keeper ≤ K.own self.new.keeper }
+        ensures cause { CoreCause (K.faults self.old.keeper) (K.faults self.new.keeper) result }
+    {
+        let Planned { plan, written } = planned;
+        match self.carry_out(plan) {
+            Ok(()) => Ok(written),
+            Err(Failed) => Err(CoreError::KeeperFault),
+        }
+    }
+
+    // Ends a call before its first commit: the replica has stopped where its keeper failed.
+    pub(crate) fn fail(&mut self, error: CoreError) -> CoreError
+        ensures error { result ≡ error }
+        ensures keeper { self.new.keeper ≡ self.old.keeper }
+        ensures stopped { self.new.stopped ≡ stops error self.old.stopped }
+        ensures whole { self.new.whole ≡ self.old.whole }
+        ensures batch { self.new.batch ≡ self.old.batch }
+    {
+        if let CoreError::KeeperFault = error {
+            self.stopped = true;
+        }
+        error
+    }
+}
