@@ -1,16 +1,16 @@
 // Reading a block.
-ghost use Rattle.std.specs.Prelude.{◌≡◌, Option, Ok, Err, IfOk, IfErr, OnOk};
+ghost use Rattle.std.specs.Prelude.{◌≡◌, map, Ok, Err, IfOk, IfErr, OnOk};
 ghost use Rattle.std.specs.Option.{option_map};
 ghost use Rattle.mc_base.specs.NodeRead.{node_of};
 ghost use Rattle.mc_model.specs.Offer as offers;
 ghost use Rattle.mc_model.specs.Offer.{offer, block_of_node, cid_of_bytes, links_from, data_of};
-ghost use Rattle.mc_dagpb.specs.Reads.{node_text};
+ghost use Rattle.mc_dagpb.specs.Reads.{view_text};
 ghost use Rattle.mc_block.specs.Seen.{damage_of};
 ghost use Rattle.mc_block.specs.Reads.{IsDamage};
 
 use crate::{BlockError, Damage};
-use mc_base::{Bytes, Cid, List};
-use mc_dagpb::{Node, read_node};
+use mc_base::{Cid, List};
+use mc_dagpb::{NodeView, view_node};
 use mc_delta::read_delta;
 use mc_model::{Block, Delta};
 use std::alloc::{AllocError, AllocFailed, Global};
@@ -19,13 +19,14 @@ use std::alloc::{AllocError, AllocFailed, Global};
 const BLOCK_MOST: usize = 1_048_576;
 
 /// The block that the bytes are under the content identifier. The first damage, in the order of `Damage`, is the answer
-/// for bytes that are none. A node without data has the empty delta, and a link may stand twice.
+/// for bytes that are none. A node without data has the empty delta, and a link may stand twice. Keys, ids and values are
+/// copied once, from the bytes into the block.
 pub fn read_block(alloc: Global, cid: &Cid, bytes: &[u8]) -> Result<Block, BlockError>
     ensures good { IfOk result (λ block. offer cid.now bytes.now ≡ Ok block) }
     ensures damaged { IfErr result (λ error. IsDamage (offer cid.now bytes.now) error) }
 {
     check_digest(cid, bytes)?;
-    let node = read_node(alloc, bytes)?;
+    let node = view_node(alloc, bytes)?;
     read_content(alloc, cid, &node)
 }
 
@@ -46,12 +47,12 @@ fn check_digest(cid: &Cid, bytes: &[u8]) -> Result<(), Damage>
     Ok(())
 }
 
-fn read_content(alloc: Global, cid: &Cid, node: &Node) -> Result<Block, BlockError>
-    ensures good { IfOk result (λ block. block_of_node cid.now (Ok (node_text node.now)) ≡ Ok block) }
-    ensures damaged { IfErr result (λ error. IsDamage (block_of_node cid.now (Ok (node_text node.now))) error) }
+fn read_content(alloc: Global, cid: &Cid, node: &NodeView<'_>) -> Result<Block, BlockError>
+    ensures good { IfOk result (λ block. block_of_node cid.now (Ok (view_text node.now)) ≡ Ok block) }
+    ensures damaged { IfErr result (λ error. IsDamage (block_of_node cid.now (Ok (view_text node.now))) error) }
 {
     let links = read_links(alloc, node.links.as_slice())?;
-    let delta = read_data(alloc, node.payload.as_ref())?;
+    let delta = read_data(alloc, node.payload)?;
     Ok(Block {
         cid: *cid,
         links,
@@ -59,9 +60,9 @@ fn read_content(alloc: Global, cid: &Cid, node: &Node) -> Result<Block, BlockErr
     })
 }
 
-fn read_links(alloc: Global, links: &[Bytes]) -> Result<List<Cid>, BlockError>
-    ensures good { IfOk result (λ cids. links_from 0 links.now ≡ Ok cids) }
-    ensures damaged { IfErr result (λ error. IsDamage (links_from 0 links.now) error) }
+fn read_links(alloc: Global, links: &[&[u8]]) -> Result<List<Cid>, BlockError>
+    ensures good { IfOk result (λ cids. links_from 0 (map (λ link. link.now) links.now) ≡ Ok cids) }
+    ensures damaged { IfErr result (λ error. IsDamage (links_from 0 (map (λ link. link.now) links.now)) error) }
 {
     let mut cids = List::with_capacity(alloc, links.len())?;
     for link in links {
@@ -77,19 +78,19 @@ fn read_links(alloc: Global, links: &[Bytes]) -> Result<List<Cid>, BlockError>
     Ok(cids)
 }
 
-fn read_cid(link: &Bytes) -> Option<Cid>
+fn read_cid(link: &[u8]) -> Option<Cid>
     ensures { result ≡ cid_of_bytes link.now }
 {
-    Cid::from_bytes(link.as_slice())
+    Cid::from_bytes(link)
 }
 
 // Data as a delta: none is the empty one.
-fn read_data(alloc: Global, payload: Option<&Bytes>) -> Result<Delta, BlockError>
+fn read_data(alloc: Global, payload: Option<&[u8]>) -> Result<Delta, BlockError>
     ensures good { IfOk result (λ delta. data_of (option_map (λ bytes. bytes.now) payload.entry) ≡ Ok delta) }
     ensures damaged { IfErr result (λ error. IsDamage (data_of (option_map (λ bytes. bytes.now) payload.entry)) error) }
 {
     match payload {
-        Some(bytes) => Ok(read_delta(alloc, bytes.as_slice())?),
+        Some(bytes) => Ok(read_delta(alloc, bytes)?),
         None => Ok(empty_delta(alloc)),
     }
 }

@@ -7,21 +7,20 @@ use Rattle.std.proofs.lemmas.List.Folds.{list_any-append}
 use Rattle.std.specs.List.{cons_option}
 use Rattle.std.specs.Option.{option_or}
 use Rattle.std.specs.Prelude.{is_some}
-use Rattle.mc_base.specs.NodeRead.{NodeFault, node_fault, node_key_fault, node_of, part_in, parts_in, first_of, link_hashes}
+use Rattle.mc_base.specs.NodeRead.{NodeFault, NodeText, node_fault, node_key_fault, node_of, part_in, parts_in, first_of, link_hashes}
 use Rattle.mc_base.specs.WireRead.{Front, Placed, Whole}
 use Rattle.mc_wire.specs.Seen.{fronts_at}
 use Rattle.mc_dagpb.specs.Before.{IsAfter, has_data}
-use Rattle.mc_dagpb.specs.Reads.{node_text, with_field}
+use Rattle.mc_dagpb.specs.Reads.{with_field}
 use Rattle.mc_dagpb.specs.Seen.{span_bytes}
 use Rattle.mc_dagpb.specs.Step.{StepAt, Says, number_of_field}
 use Rattle.mc_dagpb.specs.declared.step.NodeField.{NodeField}
 use Rattle.mc_dagpb.specs.declared.step.NodeField.TheVariants.{Data, Link}
 use Rattle.mc_dagpb.specs.declared.step.Step.{Step}
-use Rattle.mc_dagpb.specs.declared.node.Node.{Node}
 use Rattle.mc_dagpb.specs.declared.order.Order.{Order}
 
 -- the fields up to an offset are fine, and this is what they hold
-pub record IsReading (text : List ℕ) (at : ℕ) (order : Order) (node : Node) : Type 0 where
+pub record IsReading (text : List ℕ) (at : ℕ) (order : Order) (node : NodeText) : Type 0 where
   pub before : List ℕ
   pub within : at ≤ length text
   pub known : IsAfter before order
@@ -31,7 +30,7 @@ pub record IsReading (text : List ℕ) (at : ℕ) (order : Order) (node : Node) 
   pub payload : first_of (parts_in 1 (fronts_at text 0)) ≡ option_or node.payload (first_of (parts_in 1 (fronts_at text at)))
 
 -- a fault of the next field is that of the node
-pub bad_node : (text : List ℕ) (at : ℕ) (order : Order) (node : Node) (fault : NodeFault) → IsReading text at order node →
+pub bad_node : (text : List ℕ) (at : ℕ) (order : Order) (node : NodeText) (fault : NodeFault) → IsReading text at order node →
     ((before : List ℕ) → IsAfter before order → node_fault before (fronts_at text at) ≡ Some fault) → node_of text ≡ Err fault
 unfolding node_of
 bad_node text at order node fault reading bad = rw (reading.fault ∙ bad reading.before reading.known)
@@ -41,7 +40,7 @@ or_none None = refl
 or_none (Some bytes) = refl
 
 -- where no field is left, this is the node
-pub good_node : (text : List ℕ) (at : ℕ) (order : Order) (node : Node) → IsReading text at order node → fronts_at text at ≡ [] → node_of text ≡ Ok (node_text node)
+pub good_node : (text : List ℕ) (at : ℕ) (order : Order) (node : NodeText) → IsReading text at order node → fronts_at text at ≡ [] → node_of text ≡ Ok node
 unfolding node_of
 good_node text at order node reading ends =
     let fault : node_fault [] (fronts_at text 0) ≡ None = rw ends at reading.fault in
@@ -59,24 +58,24 @@ no_payload : (payload : Option (List ℕ)) → is_some payload ≡ false → pay
 no_payload None none = refl
 no_payload (Some bytes) none = absurd (true≢false none)
 
-told_after : (text : List ℕ) (field : NodeField) (node : Node) (before : List ℕ) → is_some node.payload ≡ has_data before →
+told_after : (text : List ℕ) (field : NodeField) (node : NodeText) (before : List ℕ) → is_some node.payload ≡ has_data before →
     is_some (with_field text field node).payload ≡ has_data (before ++ number_of_field field ∷ [])
 told_after text (Data span) node before told = sym (list_any-append (λ earlier. earlier == 1) before (1 ∷ []) ∙ or-true (has_data before))
 told_after text (Link span) node before told = told ∙ sym (list_any-append (λ earlier. earlier == 1) before (2 ∷ []) ∙ or-false (has_data before))
 
-links_after : (text : List ℕ) (field : NodeField) (node : Node) (front : Front) (rest : List Placed) → Says text field front →
+links_after : (text : List ℕ) (field : NodeField) (node : NodeText) (front : Front) (rest : List Placed) → Says text field front →
     node.links ++ link_hashes (cons_option (part_in 2 front) (parts_in 2 rest)) ≡ (with_field text field node).links ++ link_hashes (parts_in 2 rest)
 links_after text (Data span) node front rest says = rw says.1
 links_after text (Link span) node front rest (body, no_data, link, hash) = rw (link, hash) (sym (append_assoc node.links (span_bytes text span ∷ []) (link_hashes (parts_in 2 rest))))
 
-payload_after : (text : List ℕ) (field : NodeField) (node : Node) (front : Front) (rest : List Placed) (before : List ℕ) → Says text field front →
+payload_after : (text : List ℕ) (field : NodeField) (node : NodeText) (front : Front) (rest : List Placed) (before : List ℕ) → Says text field front →
     is_some node.payload ≡ has_data before → node_key_fault before (number_of_field field) 2 ≡ None →
     option_or node.payload (first_of (cons_option (part_in 1 front) (parts_in 1 rest))) ≡ option_or (with_field text field node).payload (first_of (parts_in 1 rest))
 payload_after text (Data span) node front rest before says told allowed = rw (no_payload node.payload (told ∙ none_before before allowed), says.0)
 payload_after text (Link span) node front rest before (body, no_data, link, hash) told allowed = rw no_data
 
 -- one field more
-pub next_node : (text : List ℕ) (at : ℕ) (order after : Order) (node : Node) (step : Step) → IsReading text at order node → StepAt text at order step →
+pub next_node : (text : List ℕ) (at : ℕ) (order after : Order) (node : NodeText) (step : Step) → IsReading text at order node → StepAt text at order step →
     ((before : List ℕ) → IsAfter before order → node_key_fault before (number_of_field step.field) 2 ≡ None → IsAfter (before ++ number_of_field step.field ∷ []) after) →
     IsReading text step.next after (with_field text step.field node)
 next_node text at order after node step reading stepped known =

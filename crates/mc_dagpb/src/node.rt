@@ -7,3 +7,10 @@ pub struct Node {
     pub links: List<Bytes>,
     pub payload: Option<Bytes>,
 }
+
+/// The same, borrowed from the bytes of the node.
+#[derive(Debug, Drop)]
+pub struct NodeView<'a> {
+    pub links: List<&'a [u8]>,
+    pub payload: Option<&'a [u8]>,
+}

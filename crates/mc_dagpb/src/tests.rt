@@ -181,6 +181,21 @@ fn faults_are_the_first_by_the_vectors(rt: HostRuntime) -> Result<(), Fail> {
 }
 
 #[test]
+fn a_view_has_the_links_and_the_data(rt: HostRuntime) -> Result<(), Fail> {
+    let parts: [&[u8]; 5] = [&[0x12, 0x26], &H, &[0x12, 0x26], &H, &[0x0a, 0x01, 0x61]];
+    let bytes = joined(rt.alloc(), &parts)?;
+    let Ok(view) = view_node(rt.alloc(), bytes.as_slice()) else {
+        return Err(Fail::new("a node is read"));
+    };
+    assert_eq!(rt; view.links.len(), 2);
+    for link in view.links.as_slice() {
+        assert_eq!(rt; *link, &H[2..]);
+    }
+    assert_eq!(rt; view.payload, Some([0x61].as_slice()));
+    Ok(())
+}
+
+#[test]
 fn a_node_of_a_thousand_links_is_read_back(rt: HostRuntime) -> Result<(), Fail> {
     let cid = Cid::of(&[]);
     let mut links = List::new(rt.alloc());
