@@ -55,7 +55,7 @@ module _ {T : Type 0} (Refusal : ReplicaState → Option CoreError → Type 0) (
 
   -- a call that ended before its first commit
   pub early_call : (told told_new : Option Kept) (fuse fuse_new : Option Fuse) (stop stop_new : Bool) (batch : Option OpenBatch) (whole : Bool) (rose : Type 0) (error : CoreError)
-      → stop ≡ false → told_new ≡ told → fuse_new ≡ fuse → stop_new ≡ stops error stop → IfFault error rose
+      → stop ≡ false → told_new ≡ told → fuse_new ≡ fuse → stop_new ≡ stops error false → IfFault error rose
       → IfSome told (λ kept. IsDue (Refusal (at kept fuse (run_of false batch whole))) error)
       → Told (state_of told fuse (run_of stop batch whole)) (state_of told_new fuse_new (run_of stop_new batch whole)) (Calls rose (Err error))
   early_call None told_new fuse fuse_new stop stop_new batch whole rose error up e f g r due = tt
@@ -63,7 +63,7 @@ module _ {T : Type 0} (Refusal : ReplicaState → Option CoreError → Type 0) (
       subst (λ t. Told (state_of (Some kept) fuse (run_of stop batch whole)) (state_of t fuse_new (run_of stop_new batch whole)) (Calls rose (Err error))) (sym e)
       (subst (λ x. Calls rose (Err error) (at kept fuse (run_of stop batch whole)) (at kept x (run_of stop_new batch whole))) (sym f)
       (subst (λ b. Calls rose (Err error) (at kept fuse (run_of stop batch whole)) (at kept fuse (run_of b batch whole))) (sym g)
-      (subst (λ b. Calls rose (Err error) (at kept fuse (run_of b batch whole)) (at kept fuse (run_of (stops error b) batch whole))) (sym up)
+      (subst (λ b. Calls rose (Err error) (at kept fuse (run_of b batch whole)) (at kept fuse (run_of (stops error false) batch whole))) (sym up)
       (early error rose kept fuse batch whole r due))))
 
   part_is : (events : List Event) (value : T) (rose : Type 0) (result : Result T CoreError) (s new : ReplicaState) → Refusal s None → Plan s events value

@@ -4,4 +4,5 @@ pub mod EventFacts
 pub mod OpenFacts
 pub mod PartFacts
 pub mod PlanFacts
+pub mod PutFacts
 pub mod RefusalFacts

@@ -16,6 +16,7 @@ ghost use Rattle.mc_core.specs.Replica.{replica_state};
 use crate::commits::is_sound;
 use crate::made::{Planned, Written, next_block, plan_made};
 use crate::puts::{check_key, check_value};
+use crate::error::stops;
 use crate::{CoreError, Replica};
 use mc_keep::Keeper;
 use mc_model::kept_is_durable;
@@ -80,7 +81,11 @@ impl<K: Keeper> Replica<K> {
         let key = check_key(key)?;
         match batch.delete(&key, &mut self.keeper) {
             Ok(()) => Ok(()),
-            Err(error) => Err(self.fail(CoreError::from(error))),
+            Err(error) => {
+                let error = CoreError::from(error);
+                self.stopped = stops(error);
+                Err(error)
+            }
         }
     }
 
@@ -107,7 +112,10 @@ impl<K: Keeper> Replica<K> {
         }
         match plan_batch(&mut self.keeper, alloc, batch, self.whole) {
             Ok(planned) => self.take_up_batch(planned),
-            Err(error) => Err(self.fail(error)),
+            Err(error) => {
+                self.stopped = stops(error);
+                Err(error)
+            }
         }
     }
 

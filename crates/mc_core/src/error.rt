@@ -1,4 +1,7 @@
 // What a call of a replica answers where it does nothing, or not all.
+ghost use Rattle.std.specs.Prelude.{◌≡◌, false};
+ghost use Rattle.mc_core.specs.Refusals.{stops};
+
 use mc_base::{Cid, Failed};
 use mc_keep::KeepError;
 use mc_key::KeyFault;
@@ -98,5 +101,15 @@ impl From<WriteError> for CoreError {
             WriteError::Failed => CoreError::KeeperFault,
             WriteError::Memory => CoreError::Memory,
         }
+    }
+}
+
+// Whether a replica stops with this error.
+pub(crate) fn stops(error: CoreError) -> bool
+    ensures { result ≡ stops error false }
+{
+    match error {
+        CoreError::KeeperFault => true,
+        _ => false,
     }
 }

@@ -159,7 +159,10 @@ pub(crate) fn plan_made<K: Keeper>(
 {
     let made = write_block(alloc, links.as_slice(), &delta)?;
     check_size(made.bytes.as_slice())?;
-    let known = check_clash(keeper, alloc, &made.cid, made.bytes.as_slice())?;
+    let known = match check_clash(keeper, alloc, &made.cid, made.bytes.as_slice()) {
+        Ok(known) => known,
+        Err(error) => return Err(error),
+    };
     let position = keeper.summary()?.processed;
     let written = Written {
         cid: made.cid,

@@ -16,6 +16,7 @@ ghost use Rattle.mc_core.specs.Reads.{Reads, read_refusal};
 ghost use Rattle.mc_core.specs.Refusals.{CoreCause, Is};
 ghost use Rattle.mc_core.specs.Replica.{replica_state};
 
+use crate::error::stops;
 use crate::{CoreError, Replica};
 use mc_base::{Bytes, Cid, List};
 use mc_keep::{HeadRow, Keeper};
@@ -37,7 +38,11 @@ impl<K: Keeper> Replica<K> {
         }
         match mc_query::get(&mut self.keeper, alloc, key) {
             Ok(found) => Ok(found),
-            Err(error) => Err(self.fail(CoreError::from(error))),
+            Err(error) => {
+                let error = CoreError::from(error);
+                self.stopped = stops(error);
+                Err(error)
+            }
         }
     }
 
@@ -54,7 +59,11 @@ impl<K: Keeper> Replica<K> {
         }
         match mc_query::has(&mut self.keeper, key) {
             Ok(found) => Ok(found),
-            Err(error) => Err(self.fail(CoreError::from(error))),
+            Err(error) => {
+                let error = CoreError::from(error);
+                self.stopped = stops(error);
+                Err(error)
+            }
         }
     }
 
@@ -78,7 +87,11 @@ impl<K: Keeper> Replica<K> {
         }
         match mc_query::query(&mut self.keeper, alloc, prefix, skip, count) {
             Ok(pairs) => Ok(pairs),
-            Err(error) => Err(self.fail(CoreError::from(error))),
+            Err(error) => {
+                let error = CoreError::from(error);
+                self.stopped = stops(error);
+                Err(error)
+            }
         }
     }
 
@@ -95,7 +108,11 @@ impl<K: Keeper> Replica<K> {
         }
         match self.keeper.heads(alloc) {
             Ok(heads) => Ok(heads),
-            Err(error) => Err(self.fail(CoreError::from(error))),
+            Err(error) => {
+                let error = CoreError::from(error);
+                self.stopped = stops(error);
+                Err(error)
+            }
         }
     }
 
@@ -113,7 +130,11 @@ impl<K: Keeper> Replica<K> {
         }
         match self.keeper.position(cid) {
             Ok(place) => Ok(place),
-            Err(error) => Err(self.fail(CoreError::from(error))),
+            Err(error) => {
+                let error = CoreError::from(error);
+                self.stopped = stops(error);
+                Err(error)
+            }
         }
     }
 
@@ -130,7 +151,11 @@ impl<K: Keeper> Replica<K> {
         }
         match self.keeper.at(position) {
             Ok(cid) => Ok(cid),
-            Err(error) => Err(self.fail(CoreError::from(error))),
+            Err(error) => {
+                let error = CoreError::from(error);
+                self.stopped = stops(error);
+                Err(error)
+            }
         }
     }
 }

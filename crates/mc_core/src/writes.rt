@@ -7,11 +7,12 @@ ghost use Rattle.mc_core.specs.Calls.{Call};
 ghost use Rattle.mc_core.specs.Events.{Part};
 ghost use Rattle.mc_core.specs.Plans.{IsShaped, IsSomePlan, plan_events, plan_rows};
 ghost use Rattle.mc_core.specs.Puts.{PutPlan, put_refusal};
-ghost use Rattle.mc_core.specs.Refusals.{CoreCause, Is, stops};
+ghost use Rattle.mc_core.specs.Refusals.{CoreCause, Is};
 ghost use Rattle.mc_core.specs.Replica.{replica_state};
 
 use crate::made::{Planned, Written};
 use crate::puts::plan_put;
+use crate::error::stops;
 use crate::{CoreError, Replica};
 use mc_base::Failed;
 use mc_keep::Keeper;
@@ -34,7 +35,10 @@ impl<K: Keeper> Replica<K> {
         }
         match plan_put(&mut self.keeper, alloc, key, value, self.whole) {
             Ok(planned) => self.take_up(planned),
-            Err(error) => Err(self.fail(error)),
+            Err(error) => {
+                self.stopped = stops(error);
+                Err(error)
+            }
         }
     }
 
@@ -59,19 +63,5 @@ impl<K: Keeper> Replica<K> {
             Ok(()) => Ok(written),
             Err(Failed) => Err(CoreError::KeeperFault),
         }
-    }
-
-    // Ends a call before its first commit: the replica has stopped where its keeper failed.
-    pub(crate) fn fail(&mut self, error: CoreError) -> CoreError
-        ensures error { result ≡ error }
-        ensures keeper { self.new.keeper ≡ self.old.keeper }
-        ensures stopped { self.new.stopped ≡ stops error self.old.stopped }
-        ensures whole { self.new.whole ≡ self.old.whole }
-        ensures batch { self.new.batch ≡ self.old.batch }
-    {
-        if let CoreError::KeeperFault = error {
-            self.stopped = true;
-        }
-        error
     }
 }
