@@ -2,7 +2,7 @@
 ghost use Rattle.std.specs.Prelude.{◌≡◌, IfOk, IsErrOf, Some, None};
 ghost use Rattle.std.specs.List.{list_all};
 ghost use Rattle.mc_script.specs.Words.{words_of, texts_of, is_word};
-ghost use Rattle.mc_script.specs.Line.{command_by_name, command_of_words, has_no_reply, line_of, line_of_text};
+ghost use Rattle.mc_script.specs.Line.{batch_by_name, command_by_name, command_of_words, has_no_reply, line_of, line_of_text};
 ghost use Rattle.mc_script.specs.declared.line.LineError.TheVariants.{Memory};
 
 use crate::Command;
@@ -105,22 +105,6 @@ fn read_by_name(alloc: Global, name: &str, words: &[&str]) -> Result<Command, Li
             let (r, key) = read_key_words(alloc, words)?;
             Ok(Command::Del { r, key })
         }
-        "begin" => {
-            let r = read_replica_words(words)?;
-            Ok(Command::Begin { r })
-        }
-        "bput" => {
-            let (r, key, bytes) = read_value_words(alloc, words)?;
-            Ok(Command::BatchPut { r, key, bytes })
-        }
-        "bdel" => {
-            let (r, key) = read_key_words(alloc, words)?;
-            Ok(Command::BatchDel { r, key })
-        }
-        "commit" => {
-            let r = read_replica_words(words)?;
-            Ok(Command::Commit { r })
-        }
         "get" => {
             let (r, key) = read_key_words(alloc, words)?;
             Ok(Command::Get { r, key })
@@ -141,6 +125,32 @@ fn read_by_name(alloc: Global, name: &str, words: &[&str]) -> Result<Command, Li
         "heads" => {
             let r = read_replica_words(words)?;
             Ok(Command::Heads { r })
+        }
+        _ => read_of_batch(alloc, name, words),
+    }
+}
+
+// The commands of a batch.
+fn read_of_batch(alloc: Global, name: &str, words: &[&str]) -> Result<Command, LineError>
+    ensures ok { IfOk result (λ command. batch_by_name name.now (texts_of words.now) ≡ Some command) }
+    ensures bad { IsErrOf result LineError.Bad → batch_by_name name.now (texts_of words.now) ≡ None }
+{
+    match name {
+        "begin" => {
+            let r = read_replica_words(words)?;
+            Ok(Command::Begin { r })
+        }
+        "bput" => {
+            let (r, key, bytes) = read_value_words(alloc, words)?;
+            Ok(Command::BatchPut { r, key, bytes })
+        }
+        "bdel" => {
+            let (r, key) = read_key_words(alloc, words)?;
+            Ok(Command::BatchDel { r, key })
+        }
+        "commit" => {
+            let r = read_replica_words(words)?;
+            Ok(Command::Commit { r })
         }
         _ => Err(LineError::Bad),
     }
