@@ -1,0 +1,227 @@
+// Lines that are commands and lines that are none, and the text of each reply.
+use crate::*;
+use mc_base::{Bytes, Cid, List, Text};
+use std::alloc::{AllocError, Global};
+use std::test::Fail;
+
+#[test]
+fn lines_that_are_no_command(rt: HostRuntime) -> Result<(), Fail> {
+    let alloc = rt.alloc();
+    let bad: [&[u8]; 58] = [
+        b" ",
+        b" #",
+        b"frob",
+        b"frob a /a",
+        b"PUT a /a 01",
+        b"put",
+        b"put a",
+        b"put a /a",
+        b"put a /a 01 02",
+        b"put a /a 01 ",
+        b" put a /a 01",
+        b"put  a /a 01",
+        b"put a  /a 01",
+        b"put a /a  01",
+        b"put a  01",
+        b"put\ta /a 01",
+        b"put a /a 01\r",
+        b"put i /a 01",
+        b"put A /a 01",
+        b"put aa /a 01",
+        b"put ` /a 01",
+        b"put 0 /a 01",
+        b"put a /a 0",
+        b"put a /a 010",
+        b"put a /a 0g",
+        b"put a /a 0x01",
+        b"put a /a --",
+        b"put a /a -01",
+        b"put a /\xff 01",
+        b"\xff",
+        b"#\xff",
+        b"del a",
+        b"del a /a 01",
+        b"begin",
+        b"begin a /a",
+        b"bput a /a",
+        b"bdel a",
+        b"commit",
+        b"commit a 1",
+        b"get a",
+        b"get a ",
+        b"get a /a 01",
+        b"has a",
+        b"has i /a",
+        b"heads",
+        b"heads a b",
+        b"heads ",
+        b"query a /",
+        b"query a / 0",
+        b"query a / 0 1 2",
+        b"query a / -1 1",
+        b"query a / +1 1",
+        b"query a / 0x1 1",
+        b"query a / 1.0 1",
+        b"query a / 0 18446744073709551616",
+        b"query a / 0 99999999999999999999",
+        b"query a / 0 000000000000000000001",
+        b"query a  0 1",
+    ];
+    for line in bad {
+        let answer = read_line(alloc, line);
+        assert!(rt; matches!(answer, Err(LineError::Bad)), "at {line:?}");
+    }
+    Ok(())
+}
+
+// The parts of a command: its name, its replica, its key or prefix, its value, and its numbers.
+fn parts(command: &Command) -> (&str, u64, &str, &[u8], u64, u64) {
+    match command {
+        Command::Put { r, key, bytes } => ("put", *r, key.as_str(), bytes.as_slice(), 0, 0),
+        Command::Del { r, key } => ("del", *r, key.as_str(), b"", 0, 0),
+        Command::Begin { r } => ("begin", *r, "", b"", 0, 0),
+        Command::BatchPut { r, key, bytes } => ("bput", *r, key.as_str(), bytes.as_slice(), 0, 0),
+        Command::BatchDel { r, key } => ("bdel", *r, key.as_str(), b"", 0, 0),
+        Command::Commit { r } => ("commit", *r, "", b"", 0, 0),
+        Command::Get { r, key } => ("get", *r, key.as_str(), b"", 0, 0),
+        Command::Has { r, key } => ("has", *r, key.as_str(), b"", 0, 0),
+        Command::Query {
+            r,
+            prefix,
+            skip,
+            take,
+        } => ("query", *r, prefix.as_str(), b"", *skip, *take),
+        Command::Heads { r } => ("heads", *r, "", b"", 0, 0),
+    }
+}
+
+#[test]
+fn lines_that_are_commands(rt: HostRuntime) -> Result<(), Fail> {
+    let alloc = rt.alloc();
+    let rows: [(&[u8], (&str, u64, &str, &[u8], u64, u64)); 17] = [
+        (b"put a /ab 0aFf", ("put", 0, "/ab", b"\x0a\xff", 0, 0)),
+        (b"put h / -", ("put", 7, "/", b"", 0, 0)),
+        (b"put b a ABCDEF", ("put", 1, "a", b"\xab\xcd\xef", 0, 0)),
+        (b"put c /\xc3\xa9% 00", ("put", 2, "/\u{e9}%", b"\0", 0, 0)),
+        (b"put d # 23", ("put", 3, "#", b"#", 0, 0)),
+        (b"del e /a/../b", ("del", 4, "/a/../b", b"", 0, 0)),
+        (b"begin f", ("begin", 5, "", b"", 0, 0)),
+        (b"bput g /a 01", ("bput", 6, "/a", b"\x01", 0, 0)),
+        (b"bdel h /a", ("bdel", 7, "/a", b"", 0, 0)),
+        (b"commit a", ("commit", 0, "", b"", 0, 0)),
+        (b"get a /a\0", ("get", 0, "/a\0", b"", 0, 0)),
+        (b"has b get", ("has", 1, "get", b"", 0, 0)),
+        (b"heads c", ("heads", 2, "", b"", 0, 0)),
+        (b"query a / 0 100", ("query", 0, "/", b"", 0, 100)),
+        (b"query a /a/ 5 6", ("query", 0, "/a/", b"", 5, 6)),
+        (
+            b"query a / 18446744073709551615 00000000000000000007",
+            ("query", 0, "/", b"", u64::MAX, 7),
+        ),
+        (
+            b"query a 1 09999999999999999999 0",
+            ("query", 0, "1", b"", 9_999_999_999_999_999_999, 0),
+        ),
+    ];
+    for (line, want) in rows {
+        let read = read_line(alloc, line)?;
+        let Some(command) = read else {
+            return Err(Fail::new("the line is a command"));
+        };
+        assert_eq!(rt; parts(&command), want);
+    }
+    Ok(())
+}
+
+#[test]
+fn lines_without_a_reply(rt: HostRuntime) -> Result<(), Fail> {
+    let alloc = rt.alloc();
+    let silent: [&[u8]; 5] = [b"", b"#", b"# put a /a 01", b"#  \r", b"#\xc3\xa9"];
+    for line in silent {
+        let answer = read_line(alloc, line);
+        assert!(rt; matches!(answer, Ok(None)), "at {line:?}");
+    }
+    Ok(())
+}
+
+// What is written for a reply, after one byte that stands there already.
+fn written(alloc: Global, reply: &Reply) -> Result<Bytes, AllocError> {
+    let mut out = Bytes::from_slice(alloc, b"\n")?;
+    write_reply(alloc, reply, &mut out)?;
+    Ok(out)
+}
+
+#[test]
+fn replies_of_one_line(rt: HostRuntime) -> Result<(), Fail> {
+    let alloc = rt.alloc();
+    let cid = Cid::of(b"");
+    let rows: [(Reply, &[u8]); 17] = [
+        (Reply::Done, b"\nok\n"),
+        (Reply::Priority { priority: 12 }, b"\nok 12\n"),
+        (Reply::Priority { priority: 0 }, b"\nok 0\n"),
+        (
+            Reply::Deleted { blocks: u64::MAX },
+            b"\ndeleted 18446744073709551615\n",
+        ),
+        (Reply::Value { value: None }, b"\nnone\n"),
+        (Reply::Has { yes: true }, b"\nyes\n"),
+        (Reply::Has { yes: false }, b"\nno\n"),
+        (Reply::Stopped, b"\nstopped\n"),
+        (Reply::FaultKeeper, b"\nfault keeper\n"),
+        (Reply::RefusedKey { number: 4 }, b"\nrefused key 4\n"),
+        (Reply::RefusedValue, b"\nrefused value\n"),
+        (
+            Reply::RefusedSize { len: 1_048_630 },
+            b"\nrefused size 1048630\n",
+        ),
+        (Reply::RefusedPriority, b"\nrefused priority\n"),
+        (
+            Reply::RefusedClash { cid },
+            b"\nrefused clash bafybeihdwdcefgh4dqkjv67uzcmw7ojee6xedzdetojuzjevtenxquvyku\n",
+        ),
+        (Reply::RefusedBatch, b"\nrefused batch\n"),
+        (value_of(Bytes::new(alloc)), b"\n-\n"),
+        (
+            value_of(Bytes::from_slice(alloc, b"\x0a\xff")?),
+            b"\n0aff\n",
+        ),
+    ];
+    for (reply, want) in &rows {
+        assert_eq!(rt; written(alloc, reply)?.as_slice(), *want);
+    }
+    Ok(())
+}
+
+fn value_of(bytes: Bytes) -> Reply {
+    Reply::Value { value: Some(bytes) }
+}
+
+#[test]
+fn replies_of_many_lines(rt: HostRuntime) -> Result<(), Fail> {
+    let alloc = rt.alloc();
+    let mut rows = List::new(alloc);
+    for (key, value) in [
+        ("/a", b"\x01".as_slice()),
+        ("", b""),
+        (" ~!%\u{7f}\u{e9}", b"\xab"),
+    ] {
+        rows.push((
+            Text::from_text(alloc, key)?,
+            Bytes::from_slice(alloc, value)?,
+        ))?;
+    }
+    let rows = Reply::Rows { rows };
+    assert_eq!(rt;
+        written(alloc, &rows)?.as_slice(),
+        b"\nrows 3\n/a 01\n% -\n%20~!%25%7F%C3%A9 ab\n".as_slice()
+    );
+    let mut heads = List::new(alloc);
+    heads.push((Cid::of(b""), 0))?;
+    heads.push((Cid::of(b"abc"), 7))?;
+    let heads = Reply::Heads { heads };
+    assert_eq!(rt;
+        written(alloc, &heads)?.as_slice(),
+        b"\nheads 2\nbafybeihdwdcefgh4dqkjv67uzcmw7ojee6xedzdetojuzjevtenxquvyku 0\nbafybeif2pall7dybz7vecqka3zo24irdwabwdi4wc55jznaq75q7eaavvu 7\n".as_slice()
+    );
+    Ok(())
+}
