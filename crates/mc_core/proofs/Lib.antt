@@ -1,3 +1,4 @@
+pub mod BatchFacts
 pub mod CallFacts
 pub mod CommitFacts
 pub mod EventFacts
