@@ -55,9 +55,9 @@ impl<K: Keeper> Replica<K> {
         let Some(batch) = &mut self.batch else {
             return Err(CoreError::NoBatch);
         };
-        let key = check_key(key)?;
+        let name = check_key(key)?;
         check_value(value)?;
-        match batch.put(&key, value) {
+        match batch.put(&name, value) {
             Ok(()) => Ok(()),
             Err(_) => Err(CoreError::Memory),
         }
