@@ -3,3 +3,4 @@ pub mod CommitFacts
 pub mod PlanFacts
 pub mod PartFacts
 pub mod OpenFacts
+pub mod TestFacts

@@ -6,3 +6,6 @@ mod plan;
 mod replica;
 
 pub use replica::{OpenCause, OpenError, Replica};
+
+#[cfg(test)]
+mod tests;
