@@ -2,6 +2,7 @@ pub mod BatchFacts
 pub mod CallFacts
 pub mod CommitFacts
 pub mod EventFacts
+pub mod NumberFacts
 pub mod OpenFacts
 pub mod PartFacts
 pub mod PlanFacts

@@ -6,3 +6,4 @@ pub mod Puts
 pub mod Reads
 pub mod Refusals
 pub mod Replica
+pub mod Reports

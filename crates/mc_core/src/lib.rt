@@ -9,11 +9,13 @@ mod plan;
 mod puts;
 mod reads;
 mod replica;
+mod report;
 mod writes;
 
 pub use error::CoreError;
 pub use made::Written;
 pub use replica::{OpenCause, OpenError, Replica};
+pub use report::Report;
 
 #[cfg(test)]
 mod tests;
