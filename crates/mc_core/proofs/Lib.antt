@@ -2,6 +2,7 @@ pub mod BatchFacts
 pub mod CallFacts
 pub mod CommitFacts
 pub mod EventFacts
+pub mod GrowthFacts
 pub mod NumberFacts
 pub mod OpenFacts
 pub mod PartFacts

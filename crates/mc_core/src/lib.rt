@@ -4,6 +4,7 @@
 mod batches;
 mod commits;
 mod error;
+mod laws;
 mod made;
 mod plan;
 mod puts;
@@ -13,6 +14,7 @@ mod report;
 mod writes;
 
 pub use error::CoreError;
+pub use laws::{replicas_only_grow, written_blocks_stand};
 pub use made::Written;
 pub use replica::{OpenCause, OpenError, Replica};
 pub use report::Report;

@@ -1,0 +1,8 @@
+use Rattle.mc_core.proofs.GrowthFacts.{goes_grows, breaks_grows}
+use Rattle.mc_core.proofs.laws.replicas_only_grow.Goals as goal
+
+pub returns-clause-goes : goal.returns-clause-goes
+returns-clause-goes c = goes_grows c.order_and_store_grow.ensures
+
+pub returns-clause-breaks : goal.returns-clause-breaks
+returns-clause-breaks c = breaks_grows c.order_and_store_grow.ensures
