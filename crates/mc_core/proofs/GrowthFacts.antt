@@ -1,5 +1,5 @@
 -- What is processed and stored only grows.
-use Rattle.std.proofs.Common.{◌≡◌, ◌<◌, ◌+◌, ℕ, Bool, true, false, cond, List, [], ◌∷◌, ◌++◌, length, Option, Some, None, refl, sym, ◌∙◌, ap, subst, inl, inr, arith, length-append}
+use Rattle.std.proofs.Common.{◌≡◌, ℕ, Bool, true, false, cond, List, [], ◌∷◌, ◌++◌, length, Option, Some, None, refl, sym, ◌∙◌, ap, subst, inl, inr, arith, length-append}
 use Rattle.std.specs.Prelude.{slice_get}
 use Rattle.std.proofs.lemmas.List.{append_assoc, append-nil}
 use Rattle.std.proofs.lemmas.Option.{slice_get_read}
@@ -13,8 +13,8 @@ use Rattle.mc_model.specs.Made.{made_bytes, made_cid}
 use Rattle.mc_model.specs.State.{Durable, Running, State, kept_of}
 use Rattle.mc_keep.specs.declared.fuse.Fuse.{Fuse}
 use Rattle.mc_keep.specs.Causes.{fires, CommitFails}
-use Rattle.mc_core.specs.Events.{ReplicaState, goes_on, all_happen, MayHappen, Goes, IsCutShort, CommitBreaks, Breaks, stopped}
-use Rattle.mc_core.specs.Plans.{store_change, with_store}
+use Rattle.mc_core.specs.Events.{ReplicaState, goes_on, all_happen, MayHappen, Goes, IsCutShort, Breaks}
+use Rattle.mc_core.specs.Plans.{with_store}
 use Rattle.mc_core.specs.Puts.{made_events}
 
 -- the law of the events of a state

@@ -3,6 +3,7 @@ pub mod CallFacts
 pub mod CommitFacts
 pub mod EventFacts
 pub mod GrowthFacts
+pub mod HideFacts
 pub mod NumberFacts
 pub mod OpenFacts
 pub mod PartFacts

@@ -1,6 +1,7 @@
 pub mod Batches
 pub mod Calls
 pub mod Events
+pub mod Hidden
 pub mod Plans
 pub mod Puts
 pub mod Reads

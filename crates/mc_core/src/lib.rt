@@ -14,7 +14,7 @@ mod report;
 mod writes;
 
 pub use error::CoreError;
-pub use laws::{replicas_only_grow, written_blocks_stand};
+pub use laws::{deletes_hide_the_value_last, replicas_only_grow, written_blocks_stand};
 pub use made::Written;
 pub use replica::{OpenCause, OpenError, Replica};
 pub use report::Report;
