@@ -1,5 +1,6 @@
 pub mod CallFacts
 pub mod CommitFacts
+pub mod DeleteFacts
 pub mod EventFacts
 pub mod OpenFacts
 pub mod PartFacts

@@ -54,6 +54,7 @@ impl<K: Keeper> Replica<K> {
         requires ready { IfSome (K.told self.old.keeper) (λ kept. IsReady kept self.old.whole process × HasLinks kept process.marks) }
         ensures part { Told (replica_state K.told K.fuse self.old) (replica_state K.told K.fuse self.new) (λ s new.
             Part (Process process.marks ∷ []) (Rose (K.own self.old.keeper) (K.own self.new.keeper)) result s new) }
+        ensures silent { K.told self.old.keeper ≡ None → K.told self.new.keeper ≡ None }
         ensures up { OnOk result (self.new.stopped ≡ false) }
         ensures whole { self.new.whole ≡ self.old.whole }
         ensures batch { self.new.batch ≡ self.old.batch }
@@ -81,6 +82,7 @@ impl<K: Keeper> Replica<K> {
         requires ready { IfSome (K.told self.old.keeper) (λ kept. IsReady (changed kept store) self.old.whole process × HasLinks (changed kept store) process.marks) }
         ensures part { Told (replica_state K.told K.fuse self.old) (replica_state K.told K.fuse self.new) (λ s new.
             Part (Store (vertices store.store) ∷ Process process.marks ∷ []) (Rose (K.own self.old.keeper) (K.own self.new.keeper)) result s new) }
+        ensures silent { K.told self.old.keeper ≡ None → K.told self.new.keeper ≡ None }
         ensures up { OnOk result (self.new.stopped ≡ false) }
         ensures whole { self.new.whole ≡ self.old.whole }
         ensures batch { self.new.batch ≡ self.old.batch }
@@ -101,6 +103,7 @@ impl<K: Keeper> Replica<K> {
         requires plan { IfSome (K.told self.old.keeper) (λ kept. IsSomePlan kept self.old.whole plan) }
         ensures part { Told (replica_state K.told K.fuse self.old) (replica_state K.told K.fuse self.new) (λ s new.
             Part (plan_events plan) (Rose (K.own self.old.keeper) (K.own self.new.keeper)) result s new) }
+        ensures silent { K.told self.old.keeper ≡ None → K.told self.new.keeper ≡ None }
         ensures up { OnOk result (self.new.stopped ≡ false) }
         ensures whole { self.new.whole ≡ self.old.whole }
         ensures batch { self.new.batch ≡ self.old.batch }

@@ -3,6 +3,7 @@
 
 mod batches;
 mod commits;
+mod deletes;
 mod error;
 mod made;
 mod plan;
@@ -11,6 +12,7 @@ mod reads;
 mod replica;
 mod writes;
 
+pub use deletes::Deleted;
 pub use error::CoreError;
 pub use made::Written;
 pub use replica::{OpenCause, OpenError, Replica};
