@@ -7,3 +7,4 @@ pub mod PartFacts
 pub mod PlanFacts
 pub mod PutFacts
 pub mod RefusalFacts
+pub mod TakenFacts

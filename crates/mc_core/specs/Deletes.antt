@@ -165,9 +165,12 @@ abbrev pub IsOutside : CoreError → Type 0
 IsOutside error = OutsideIs ⊤ ⊤ error
 
 -- what happens where one made block is taken up, and where all are
+abbrev pub EndsOne : MadeBlock → Type 0 → CoreError → ReplicaState → ReplicaState → Type 0
+EndsOne made rose error s new = OutsideIs (Breaks (block_events (kept_of s.state.durable) made) rose s new) (new ≡ s) error
+
 abbrev pub TakesOne : {T : Type 0} → MadeBlock → Type 0 → Result T CoreError → ReplicaState → ReplicaState → Type 0
 TakesOne made rose (Ok done) s new = Goes (block_events (kept_of s.state.durable) made) s new
-TakesOne made rose (Err error) s new = OutsideIs (Breaks (block_events (kept_of s.state.durable) made) rose s new) (new ≡ s) error
+TakesOne made rose (Err error) s new = EndsOne made rose error s new
 
 abbrev pub Takes : List MadeBlock → Type 0 → Result Deleted CoreError → ReplicaState → ReplicaState → Type 0
 Takes blocks rose (Ok deleted) s new = Goes (all_events (kept_of s.state.durable) blocks) s new × (deleted.blocks ≡ length blocks)
