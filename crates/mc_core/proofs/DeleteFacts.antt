@@ -147,7 +147,7 @@ pub is_cid : (kept : Kept) (links : List Cid) (delta : Delta) (made : MadeBlock)
 is_cid kept links delta made is = ap (λ block. block.cid) is.is_block
 
 -- the blocks that were made don't clash
-clash_left : (deltas more : List Delta) (blocks : List MadeBlock) (kept : Kept) (links : List Cid) → AreMade kept links deltas blocks
+pub clash_left : (deltas more : List Delta) (blocks : List MadeBlock) (kept : Kept) (links : List Cid) → AreMade kept links deltas blocks
     → chain_clash kept links (deltas ++ more) ≡ chain_clash (with_all kept blocks) (links_after links blocks) more
 clash_left [] more [] kept links are = refl
 clash_left [] more (made ∷ blocks) kept links are = absurd are

@@ -1,6 +1,7 @@
 pub mod CallFacts
 pub mod CommitFacts
 pub mod DeleteFacts
+pub mod DeletedFacts
 pub mod EventFacts
 pub mod OpenFacts
 pub mod PartFacts

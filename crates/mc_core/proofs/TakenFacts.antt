@@ -66,7 +66,7 @@ made_is_new kept links delta made is fits linked =
 same_self : (cid : Cid) → same_cid cid cid ≡ true
 same_self cid = (bytes_eq-Decides cid.0 cid.0).1 refl
 
-next_all : (deltas : List Delta) (blocks : List MadeBlock) (kept : Kept) (links : List Cid) (priority : ℕ) (key : List ℕ) (pairs : List Pair) → IsCuts links priority key pairs deltas
+pub next_all : (deltas : List Delta) (blocks : List MadeBlock) (kept : Kept) (links : List Cid) (priority : ℕ) (key : List ℕ) (pairs : List Pair) → IsCuts links priority key pairs deltas
     → AreMade kept links deltas blocks → list_all (is_among kept.order) links ≡ true → AreNext kept blocks
 next_all [] [] kept links priority key pairs cuts are linked = tt
 next_all [] (made ∷ blocks) kept links priority key pairs cuts are linked = absurd are
