@@ -1,6 +1,8 @@
 pub mod BatchFacts
 pub mod CallFacts
 pub mod CommitFacts
+pub mod DeleteFacts
+pub mod DeletedFacts
 pub mod EventFacts
 pub mod GrowthFacts
 pub mod HideFacts
@@ -11,3 +13,4 @@ pub mod PlanFacts
 pub mod PutFacts
 pub mod RefusalFacts
 pub mod TestFacts
+pub mod TakenFacts

@@ -3,6 +3,7 @@
 
 mod batches;
 mod commits;
+mod deletes;
 mod error;
 mod laws;
 mod made;
@@ -13,6 +14,7 @@ mod replica;
 mod report;
 mod writes;
 
+pub use deletes::Deleted;
 pub use error::CoreError;
 pub use laws::{deletes_hide_the_value_last, replicas_only_grow, written_blocks_stand};
 pub use made::Written;
