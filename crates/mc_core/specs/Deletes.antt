@@ -3,7 +3,6 @@ use Rattle.std.specs.Prelude.{◌≡◌, ◌≤◌, ⊤, ◌⊎◌, ℕ, ◌^◌
 use Rattle.std.specs.List.{list_any, list_all}
 use Rattle.std.specs.Option.{option_or}
 use Rattle.mc_base.specs.declared.cid.Cid.{Cid}
-use Rattle.mc_model.specs.declared.block.Stored.{Stored}
 use Rattle.mc_model.specs.declared.delta.Delta.{Delta}
 use Rattle.mc_model.specs.Cuts.{IsCuts, IsTooLarge, IsPriorityFull, pairs}
 use Rattle.mc_model.specs.Events.{Event, Process}

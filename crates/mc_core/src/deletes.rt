@@ -12,6 +12,7 @@ ghost use Rattle.mc_core.specs.Deletes.{AreMade, AreNext, DeleteKeptRefusal, Del
 ghost use Rattle.mc_core.specs.Plans.{IsNew, IsPlan, IsShaped, plan_rows};
 ghost use Rattle.mc_core.specs.Puts.{next_links};
 ghost use Rattle.mc_core.specs.Refusals.{CoreCause, Is, IsDue, clash_refusal, key_refusal};
+ghost use Rattle.mc_core.specs.Reports.{StaysCounted};
 ghost use Rattle.mc_core.specs.Replica.{replica_state};
 
 use crate::commits::is_sound;
@@ -51,6 +52,7 @@ impl<K: Keeper> Replica<K> {
     pub fn delete(&mut self, alloc: Global, key: &str) -> Result<Deleted, CoreError>
         ensures call { Told (replica_state K.told K.fuse self.old) (replica_state K.told K.fuse self.new) (λ s new.
             Call (DeleteRefusal s key.now) (DeletePlan s key.now) (DeleteShort s key.now) (Rose (K.own self.old.keeper) (K.own self.new.keeper)) result s new) }
+        ensures counted { StaysCounted self.new.stopped (K.told self.old.keeper) self.old.numbers (K.told self.new.keeper) self.new.numbers }
         ensures own { K.own self.old.keeper ≤ K.own self.new.keeper }
         ensures cause { CoreCause (K.faults self.old.keeper) (K.faults self.new.keeper) result }
     {
@@ -69,15 +71,12 @@ impl<K: Keeper> Replica<K> {
     }
 
     // Takes up made blocks, one after another.
-    fn take_up_all(
-        &mut self,
-        alloc: Global,
-        blocks: List<MadeBlock>,
-    ) -> Result<Deleted, CoreError>
+    fn take_up_all(&mut self, alloc: Global, blocks: List<MadeBlock>) -> Result<Deleted, CoreError>
         requires up { self.old.stopped ≡ false }
         requires next { IfSome (K.told self.old.keeper) (λ kept. AreNext kept blocks) }
         ensures takes { Told (replica_state K.told K.fuse self.old) (replica_state K.told K.fuse self.new) (λ s new.
             Takes blocks (Rose (K.own self.old.keeper) (K.own self.new.keeper)) result s new) }
+        ensures counted { StaysCounted self.new.stopped (K.told self.old.keeper) self.old.numbers (K.told self.new.keeper) self.new.numbers }
         ensures own { K.own self.old.keeper ≤ K.own self.new.keeper }
         ensures cause { CoreCause (K.faults self.old.keeper) (K.faults self.new.keeper) result }
     {
@@ -103,6 +102,7 @@ impl<K: Keeper> Replica<K> {
         ensures up { OnOk result (self.new.stopped ≡ false) }
         ensures whole { self.new.whole ≡ self.old.whole }
         ensures batch { self.new.batch ≡ self.old.batch }
+        ensures counted { StaysCounted self.new.stopped (K.told self.old.keeper) self.old.numbers (K.told self.new.keeper) self.new.numbers }
         ensures own { K.own self.old.keeper ≤ K.own self.new.keeper }
         ensures cause { CoreCause (K.faults self.old.keeper) (K.faults self.new.keeper) result }
     {

@@ -1,5 +1,4 @@
-use Rattle.std.proofs.Common.{◌∙◌, ◌∷◌, sym, arith}
-use Rattle.std.specs.Prelude.{IfSome}
+use Rattle.std.proofs.Common.{◌∙◌, sym, arith}
 use Rattle.std.proofs.lemmas.Iterator.Adapters.{YieldsList-from_vec}
 use Rattle.std.proofs.lemmas.Iterator.Consumers.{YieldsList-turn, YieldsList-so_far}
 use Rattle.mc_core.proofs.DeleteFacts.{rest_of}
@@ -27,6 +26,7 @@ loop-made-preserved g c = record {
   taken = taken_goes_on c.kept_is_durable.ensures.back _ _ _ _ _ _ _ _ c.in-Some.made c.requires.up c.loop-made.invariant.taken c.in-Ok.ensures.takes;
   silent = λ e. c.in-Ok.ensures.silent (c.loop-made.invariant.silent e);
   up = c.in-Ok.ensures.up;
+  counted = λ n. c.in-Ok.ensures.counted c.in-Ok.ensures.up (c.loop-made.invariant.counted n);
   own = omega (arith, c.loop-made.invariant.own, c.in-Ok.ensures.own);
   cause = omega (arith, c.loop-made.invariant.cause, c.in-Ok.ensures.cause.later);
 }
@@ -38,3 +38,6 @@ returns-in-Err-clause-takes g c =
     let so_far = YieldsList-so_far road c.loop-made.yielded c.loop-made.made-iterator c.loop-made.yielded_by in
     let rest = rest_of c.loop-made.yielded c.into_vec-made-items.result.items c.in-Some.made so_far turn.0 turn.1 in
     taken_ends c.kept_is_durable.ensures.back _ _ _ _ _ _ _ _ c.in-Some.made rest.0 c.args.blocks _ _ _ c.in-Err.error c.requires.up c.loop-made.invariant.own (sym c.into_vec-made-items.ensures ∙ rest.1) c.loop-made.invariant.taken c.in-Err.ensures.takes
+
+pub returns-in-Err-clause-counted : goal.returns-in-Err-clause-counted
+returns-in-Err-clause-counted g c = λ up n. c.in-Err.ensures.counted up (c.loop-made.invariant.counted n)
