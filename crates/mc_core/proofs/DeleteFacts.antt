@@ -257,7 +257,7 @@ delete_is (Some kept) key links deltas blocks left cuts first are =
 -- where an item was yielded, it stands after those before
 pub rest_of : {A : Type 0} (xs all : List A) (x : A) → map (λ y. y) xs ≡ take (length xs) all → length xs < length all → x ≡ get_or all (length xs) x → (rest : List A) × (all ≡ xs ++ x ∷ rest)
 rest_of xs all x so_far within is = (
-    drop (length xs + 1) all,
-    sym (take-append-drop (length xs) all) ∙ ap (λ l. l ++ drop (length xs) all) (sym so_far ∙ map-id xs)
-    ∙ ap (λ l. xs ++ l) (drop_more all (length xs) x within ∙ ap (λ y. y ∷ drop (length xs + 1) all) (sym is)),
+  drop (length xs + 1) all,
+  sym (take-append-drop (length xs) all) ∙ ap (λ l. l ++ drop (length xs) all) (sym so_far ∙ map-id xs)
+      ∙ ap (λ l. xs ++ l) (drop_more all (length xs) x within ∙ ap (λ y. y ∷ drop (length xs + 1) all) (sym is)),
 )

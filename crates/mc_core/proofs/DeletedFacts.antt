@@ -56,10 +56,10 @@ DeleteCall key rose result s new = Call (DeleteRefusal s key) (DeletePlan s key)
 plan_is : (durable : Durable) (run : Running) (fuse : Option Fuse) (key : List ℕ) (blocks : List MadeBlock) (deleted : Deleted) → IsDelete (kept_of durable) key blocks → deleted.blocks ≡ length blocks
     → DeletePlan (running durable run fuse) key (all_events (kept_of durable) blocks) deleted
 plan_is durable run fuse key blocks deleted is e = (
-    is.deltas,
-    is.is,
-    events_all is.deltas blocks (kept_of durable) (next_links (kept_of durable)) is.are,
-    e ∙ made_length is.deltas blocks (kept_of durable) (next_links (kept_of durable)) is.are,
+  is.deltas,
+  is.is,
+  events_all is.deltas blocks (kept_of durable) (next_links (kept_of durable)) is.are,
+  e ∙ made_length is.deltas blocks (kept_of durable) (next_links (kept_of durable)) is.are,
 )
 
 call_of : (durable : Durable) (run : Running) (fuse : Option Fuse) (key : List ℕ) (blocks : List MadeBlock) (rose : Type 0) (result : Result Deleted CoreError) (new : ReplicaState) → key_refusal key ≡ None

@@ -72,11 +72,11 @@ next_all [] [] kept links priority key pairs cuts are linked = tt
 next_all [] (made ∷ blocks) kept links priority key pairs cuts are linked = absurd are
 next_all (delta ∷ deltas) [] kept links priority key pairs cuts are linked = absurd are
 next_all (delta ∷ deltas) (made ∷ blocks) kept links priority key pairs (taken, rest, split, cut, cuts) are linked = (
-    made_is_new kept links delta made are.0 cut.fits linked,
-    are.0.stored,
-    next_all deltas blocks (with_block kept made) (made.block.cid ∷ []) (priority + 1) key rest
-        (subst (λ cid. IsCuts (cid ∷ []) (priority + 1) key rest deltas) (sym (is_cid kept links delta made are.0)) cuts) are.1
-        (ap (λ b. b && true) (among_here made.block.cid made.block.cid kept.order (same_self made.block.cid))),
+  made_is_new kept links delta made are.0 cut.fits linked,
+  are.0.stored,
+  next_all deltas blocks (with_block kept made) (made.block.cid ∷ []) (priority + 1) key rest
+      (subst (λ cid. IsCuts (cid ∷ []) (priority + 1) key rest deltas) (sym (is_cid kept links delta made are.0)) cuts) are.1
+      (ap (λ b. b && true) (among_here made.block.cid made.block.cid kept.order (same_self made.block.cid))),
 )
 
 -- the events of made blocks are those of their deltas
@@ -126,7 +126,7 @@ follows (made ∷ blocks) kept durable run fuse e f =
     as (λ t. Follows (all_happen (running durable run fuse) (with_store (cond t None (Some (record no_changes { store = new }))) (Process cids ∷ []) ++ all_events (after t) blocks)) (with_all (after t) blocks)) [
       | true ↦ follows blocks (after true) (with_processed run.whole durable cids) (processed durable) (burnt fuse) e (ap (λ l. l ++ cids) f)
       | false ↦ follows blocks (after false) (with_processed run.whole (with_blocks durable (vertices new)) cids) (processed (with_blocks durable (vertices new))) (burnt (burnt fuse))
-            (ap (λ graph. graph ++ vertices new) e ∙ sym (map-append vertex_of kept.graph new)) (ap (λ l. l ++ cids) f)
+          (ap (λ graph. graph ++ vertices new) e ∙ sym (map-append vertex_of kept.graph new)) (ap (λ l. l ++ cids) f)
     ]
 
 new_moves : (old kept : Kept) (block : Block) (bytes : List ℕ) → kept.graph ≡ old.graph → kept.order ≡ old.order → IsNew old block bytes → IsNew kept block bytes
@@ -148,7 +148,7 @@ events_at [] made rest kept = refl
 events_at (first ∷ blocks) made rest kept =
     ap (λ events. block_events kept first ++ events) (events_at blocks made rest (with_block kept first))
     ∙ sym (append_assoc (block_events kept first) (all_events (with_block kept first) blocks)
-        (block_events (with_all (with_block kept first) blocks) made ++ all_events (with_block (with_all (with_block kept first) blocks) made) rest))
+    (block_events (with_all (with_block kept first) blocks) made ++ all_events (with_block (with_all (with_block kept first) blocks) made) rest))
 
 -- this block was taken up, and these were
 abbrev pub DoesOne : MadeBlock → ReplicaState → ReplicaState → Type 0
@@ -246,15 +246,15 @@ module _ (back : BackLaw) where
       → all ≡ blocks ++ made ∷ rest → Taken blocks (running (durable_of kept) run fuse) now
       → OutsideIs (Breaks (block_events (kept_of now.state.durable) made) (Rose own_mid own_new) now new) (new ≡ now) error
       → OutsideIs (Breaks (all_events (kept_of (durable_of kept)) all) (Rose own own_new) (running (durable_of kept) run fuse) new)
-          ((n : ℕ) × Goes (all_events (kept_of (durable_of kept)) (take n all)) (running (durable_of kept) run fuse) new) error
+      ((n : ℕ) × Goes (all_events (kept_of (durable_of kept)) (take n all)) (running (durable_of kept) run fuse) new) error
   one_ends kept fuse run blocks made rest all own own_mid own_new now new KeeperFault later split p q =
       subst (λ k. Breaks (all_events k all) (Rose own own_new) (running (durable_of kept) run fuse) new) (sym (back kept))
       (subst (λ l. Breaks (all_events kept l) (Rose own own_new) (running (durable_of kept) run fuse) new) (sym split)
       (one_breaks kept fuse run blocks made rest own own_mid own_new now new later (from_kept kept fuse run blocks now p) q))
   one_ends kept fuse run blocks made rest all own own_mid own_new now new Memory later split p q = (
-      length blocks,
-      subst (λ l. Goes (all_events (kept_of (durable_of kept)) l) (running (durable_of kept) run fuse) new) (sym (ap (take (length blocks)) split ∙ take_at blocks (made ∷ rest) (length blocks) refl))
-          (subst (λ s. Taken blocks (running (durable_of kept) run fuse) s) (sym q) p),
+    length blocks,
+    subst (λ l. Goes (all_events (kept_of (durable_of kept)) l) (running (durable_of kept) run fuse) new) (sym (ap (take (length blocks)) split ∙ take_at blocks (made ∷ rest) (length blocks) refl))
+        (subst (λ s. Taken blocks (running (durable_of kept) run fuse) s) (sym q) p),
   )
   one_ends kept fuse run blocks made rest all own own_mid own_new now new (BadKey fault) later split p q = absurd q
   one_ends kept fuse run blocks made rest all own own_mid own_new now new ValueTooLong later split p q = absurd q

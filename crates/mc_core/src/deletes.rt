@@ -69,11 +69,7 @@ impl<K: Keeper> Replica<K> {
     }
 
     // Takes up made blocks, one after another.
-    fn take_up_all(
-        &mut self,
-        alloc: Global,
-        blocks: List<MadeBlock>,
-    ) -> Result<Deleted, CoreError>
+    fn take_up_all(&mut self, alloc: Global, blocks: List<MadeBlock>) -> Result<Deleted, CoreError>
         requires up { self.old.stopped ≡ false }
         requires next { IfSome (K.told self.old.keeper) (λ kept. AreNext kept blocks) }
         ensures takes { Told (replica_state K.told K.fuse self.old) (replica_state K.told K.fuse self.new) (λ s new.
