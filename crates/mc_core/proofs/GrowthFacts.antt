@@ -4,7 +4,6 @@ use Rattle.std.specs.Prelude.{slice_get}
 use Rattle.std.proofs.lemmas.List.{append_assoc, append-nil}
 use Rattle.std.proofs.lemmas.Option.{slice_get_read}
 use Rattle.std.proofs.Math.Seq.{get_or-append_seam}
-use Rattle.mc_base.specs.Causes.{Rose}
 use Rattle.mc_base.specs.declared.cid.Cid.{Cid}
 use Rattle.mc_model.specs.declared.delta.Delta.{Delta}
 use Rattle.mc_model.specs.Events.{Event, Process, GoesOn, after, happens}
@@ -37,29 +36,29 @@ goes_then a b c g h = record {
 }
 
 -- a commit that fails leaves what was, or what it makes
-fails_goes : (fire : Option Bool) (before now : ℕ) (old whole left : Durable) → GoesOn old whole → CommitFails fire (Rose before now) old whole left → GoesOn old left
-fails_goes None before now old whole left g (r, inl e) = subst (λ d. GoesOn old d) (sym e) (same_goes old)
-fails_goes None before now old whole left g (r, inr e) = subst (λ d. GoesOn old d) (sym e) g
-fails_goes (Some false) before now old whole left g e = subst (λ d. GoesOn old d) (sym e) (same_goes old)
-fails_goes (Some true) before now old whole left g (inl e) = subst (λ d. GoesOn old d) (sym e) g
-fails_goes (Some true) before now old whole left g (inr (r, e)) = subst (λ d. GoesOn old d) (sym e) (same_goes old)
+fails_goes : (fire : Option Bool) (rose : Type 0) (old whole left : Durable) → GoesOn old whole → CommitFails fire rose old whole left → GoesOn old left
+fails_goes None rose old whole left g (r, inl e) = subst (λ d. GoesOn old d) (sym e) (same_goes old)
+fails_goes None rose old whole left g (r, inr e) = subst (λ d. GoesOn old d) (sym e) g
+fails_goes (Some false) rose old whole left g e = subst (λ d. GoesOn old d) (sym e) (same_goes old)
+fails_goes (Some true) rose old whole left g (inl e) = subst (λ d. GoesOn old d) (sym e) g
+fails_goes (Some true) rose old whole left g (inr (r, e)) = subst (λ d. GoesOn old d) (sym e) (same_goes old)
 
 module _ (law : GrowLaw) where
   pub goes_grows : (events : List Event) (s new : ReplicaState) → Goes events s new → GoesOn s.state.durable new.state.durable
   goes_grows events s new g = subst (λ (x : State). GoesOn s.state.durable x.durable) (sym (ap (λ (x : ReplicaState). x.state) g.ends ∙ all_after events s)) (law s.state events)
 
-  cut_grows : (events : List Event) (before now : ℕ) (s new : ReplicaState) → IsCutShort events (Rose before now) s new → GoesOn s.state.durable new.state.durable
-  cut_grows [] before now s new p = subst (λ (x : ReplicaState). GoesOn s.state.durable x.state.durable) (sym p.1) (same_goes s.state.durable)
-  cut_grows (event ∷ events) before now s new (inl p) = subst (λ (x : ReplicaState). GoesOn s.state.durable x.state.durable) (sym p.1) (same_goes s.state.durable)
-  cut_grows (event ∷ events) before now s new (inr b) =
+  cut_grows : (events : List Event) (rose : Type 0) (s new : ReplicaState) → IsCutShort events rose s new → GoesOn s.state.durable new.state.durable
+  cut_grows [] rose s new p = subst (λ (x : ReplicaState). GoesOn s.state.durable x.state.durable) (sym p.1) (same_goes s.state.durable)
+  cut_grows (event ∷ events) rose s new (inl p) = subst (λ (x : ReplicaState). GoesOn s.state.durable x.state.durable) (sym p.1) (same_goes s.state.durable)
+  cut_grows (event ∷ events) rose s new (inr b) =
       subst (λ (x : ReplicaState). GoesOn s.state.durable x.state.durable) (sym b.ends)
-      (fails_goes (fires s.fuse) before now s.state.durable (happens s.state event).durable b.left (law s.state (event ∷ [])) b.fails)
+      (fails_goes (fires s.fuse) rose s.state.durable (happens s.state event).durable b.left (law s.state (event ∷ [])) b.fails)
 
-  pub breaks_grows : (events : List Event) (before now : ℕ) (s new : ReplicaState) → Breaks events (Rose before now) s new → GoesOn s.state.durable new.state.durable
-  breaks_grows events before now s new b =
+  pub breaks_grows : (events : List Event) (rose : Type 0) (s new : ReplicaState) → Breaks events rose s new → GoesOn s.state.durable new.state.durable
+  breaks_grows events rose s new b =
       goes_then s.state.durable (all_happen s b.so_far).state.durable new.state.durable
       (subst (λ (x : State). GoesOn s.state.durable x.durable) (sym (all_after b.so_far s)) (law s.state b.so_far))
-      (cut_grows b.rest before now (all_happen s b.so_far) new b.fate)
+      (cut_grows b.rest rose (all_happen s b.so_far) new b.fate)
 
 -- the last of a list stands at the length before it
 last_stands : (order : List Cid) (cid : Cid) → slice_get (order ++ cid ∷ []) (length order) ≡ Some cid
