@@ -3,6 +3,7 @@ pub mod CommitFacts
 pub mod DeleteFacts
 pub mod DeletedFacts
 pub mod EventFacts
+pub mod IdFacts
 pub mod OpenFacts
 pub mod PartFacts
 pub mod PlanFacts

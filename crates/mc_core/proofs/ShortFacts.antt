@@ -25,13 +25,14 @@ use Rattle.mc_core.specs.declared.deletes.Deleted.{Deleted}
 use Rattle.mc_core.specs.declared.deletes.MadeBlock.{MadeBlock}
 use Rattle.mc_core.specs.declared.error.CoreError.{CoreError}
 use Rattle.mc_core.specs.declared.error.CoreError.TheVariants.{BadKey, ValueTooLong, BlockTooLarge, PriorityFull, Clash, KeeperFault, Stopped, NoBatch, BatchOpen, Memory}
-use Rattle.mc_core.specs.Deletes.{AreApart, AreMade, AreNext, IsDelete, ShortKeeps, Takes, all_events, chain_blocks, with_all, with_block, with_made}
+use Rattle.mc_core.specs.Deletes.{AreMade, AreNext, IsDelete, ShortKeeps, Takes, all_events, chain_blocks, with_all, with_block, with_made}
 use Rattle.mc_core.specs.Events.{ReplicaState, state_of, Goes}
 use Rattle.mc_core.specs.Plans.{IsNew, IsNoOther}
 use Rattle.mc_core.specs.Puts.{next_links}
 use Rattle.mc_core.specs.Refusals.{stops}
 use Rattle.mc_core.specs.Replica.{run_of, running_with}
 use Rattle.mc_core.proofs.DeletedFacts.{HeadsLaw}
+use Rattle.mc_core.proofs.IdFacts.{AreApart, are_apart}
 use Rattle.mc_core.proofs.PlanFacts.{SoundLaw, SameLaw, StoredLaw, one_block, one_stored, stored_now}
 use Rattle.mc_core.proofs.PutFacts.{BackLaw}
 use Rattle.mc_core.proofs.TakenFacts.{Follows, running, goes_follow, made_length, made_take, next_all}
@@ -135,22 +136,22 @@ module _ (back : BackLaw) (sound_law : SoundLaw) (stored_law : StoredLaw) (same_
       ∙ ap (blocks_in kept.graph) f.1
 
   value_left : (kept : Kept) (fuse : Option Fuse) (run : Running) (key : List ℕ) (blocks : List MadeBlock) (n : ℕ) (left : ReplicaState) → IsKept kept → IsDelete kept key blocks → n < length blocks
-      → Goes (all_events kept (take n blocks)) (running (durable_of kept) run fuse) left → AreApart kept → value (processed (kept_of left.state.durable)) key ≡ value (processed kept) key
-  value_left kept fuse run key blocks n left sound is less goes apart =
+      → Goes (all_events kept (take n blocks)) (running (durable_of kept) run fuse) left → value (processed (kept_of left.state.durable)) key ≡ value (processed kept) key
+  value_left kept fuse run key blocks n left sound is less goes =
       let links : List Cid = next_links kept in
       let next : AreNext kept blocks = next_all is.deltas blocks kept links (next_priority (processed kept)) key (pairs (processed kept) key) is.is.cuts is.are (heads_law kept sound) in
       ap (λ l. value l key)
       (follows_processed left (with_all kept (take n blocks)) (goes_follow back kept fuse run (take n blocks) left goes)
       ∙ after_all sound_law stored_law same_law (take n blocks) kept sound (next_take n blocks kept next)
       ∙ ap (λ l. processed kept ++ l) (blocks_are (take n is.deltas) (take n blocks) kept links (made_take n is.deltas blocks kept links is.are)))
-      ∙ value_of_part (block_in kept.graph) (processed kept) n links (next_priority (processed kept)) key is.deltas (are_own kept) (have_ids kept apart) is.is.cuts
+      ∙ value_of_part (block_in kept.graph) (processed kept) n links (next_priority (processed kept)) key is.deltas (are_own kept) (have_ids kept (are_apart kept sound)) is.is.cuts
       (subst (λ count. n < count) (made_length is.deltas blocks kept links is.are) less)
 
   short_of : (kept : Kept) (fuse : Option Fuse) (run : Running) (key : List ℕ) (blocks : List MadeBlock) (rose : Type 0) (result : Result Deleted CoreError) (left : ReplicaState) → IsKept kept → IsDelete kept key blocks
       → Takes blocks rose result (running (durable_of kept) run fuse) left → ShortKeeps key result (running (durable_of kept) run fuse) left
   short_of kept fuse run key blocks rose (Ok deleted) left sound is takes = tt
   short_of kept fuse run key blocks rose (Err Memory) left sound is takes =
-      subst (λ k. AreApart k → value (processed (kept_of left.state.durable)) key ≡ value (processed k) key) (sym (back kept))
+      subst (λ k. value (processed (kept_of left.state.durable)) key ≡ value (processed k) key) (sym (back kept))
       (value_left kept fuse run key blocks takes.0 left sound is takes.1 (subst (λ k. Goes (all_events k (take takes.0 blocks)) (running (durable_of kept) run fuse) left) (back kept) takes.2))
   short_of kept fuse run key blocks rose (Err KeeperFault) left sound is takes = tt
   short_of kept fuse run key blocks rose (Err (BadKey fault)) left sound is takes = tt
@@ -182,7 +183,7 @@ module _ (back : BackLaw) (sound_law : SoundLaw) (stored_law : StoredLaw) (same_
 
 early_of : (kept : Kept) (fuse fuse_new : Option Fuse) (run run_new : Option Running) (key : List ℕ) (error : CoreError)
     → ShortKeeps key (Err error) (record { state = record { durable = durable_of kept; run = run }; fuse = fuse }) (record { state = record { durable = durable_of kept; run = run_new }; fuse = fuse_new })
-early_of kept fuse fuse_new run run_new key Memory = λ apart. refl
+early_of kept fuse fuse_new run run_new key Memory = refl
 early_of kept fuse fuse_new run run_new key KeeperFault = tt
 early_of kept fuse fuse_new run run_new key (BadKey fault) = tt
 early_of kept fuse fuse_new run run_new key ValueTooLong = tt

@@ -7,8 +7,7 @@ use Rattle.mc_model.specs.declared.block.Block.{Block}
 use Rattle.mc_model.specs.declared.delta.Delta.{Delta}
 use Rattle.mc_model.specs.Cuts.{IsCuts, IsTooLarge, IsPriorityFull, pairs}
 use Rattle.mc_model.specs.Events.{Event, Process}
-use Rattle.mc_model.specs.Front.{same_cid, is_among}
-use Rattle.mc_model.specs.Id.{id_text}
+use Rattle.mc_model.specs.Front.{same_cid}
 use Rattle.mc_model.specs.Kept.{Kept, processed, is_stored}
 use Rattle.mc_model.specs.Live.{value}
 use Rattle.mc_model.specs.Made.{made_bytes, made_cid, next_priority}
@@ -96,10 +95,6 @@ abbrev pub chain_blocks : List Cid → List Delta → List Block
 chain_blocks links [] = []
 chain_blocks links (delta ∷ deltas) = made_block links delta ∷ chain_blocks (made_cid links delta ∷ []) deltas
 
--- no two processed blocks have one id
-abbrev pub AreApart : Kept → Type 0
-AreApart kept = (a b : Cid) → is_among kept.order a ≡ true → is_among kept.order b ≡ true → id_text a.0 ≡ id_text b.0 → a ≡ b
-
 -- a want of memory leaves the value of the key
 abbrev pub OnMemory : CoreError → Type 0 → Type 0
 OnMemory Memory P = P
@@ -116,7 +111,7 @@ OnMemory BatchOpen P = ⊤
 abbrev pub ShortKeeps : List ℕ → Result Deleted CoreError → ReplicaState → ReplicaState → Type 0
 ShortKeeps key (Ok deleted) s left = ⊤
 ShortKeeps key (Err error) s left =
-    OnMemory error (AreApart (kept_of s.state.durable) → value (processed (kept_of left.state.durable)) key ≡ value (processed (kept_of s.state.durable)) key)
+    OnMemory error (value (processed (kept_of left.state.durable)) key ≡ value (processed (kept_of s.state.durable)) key)
 
 -- The blocks that the code makes, before they are taken up.
 
