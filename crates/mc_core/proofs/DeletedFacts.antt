@@ -1,5 +1,5 @@
 -- A delete, from the blocks that it makes and takes up.
-use Rattle.std.proofs.Common.{◌≡◌, ◌≤◌, ℕ, Bool, true, false, List, [], length, take, Option, Some, None, Result, Ok, Err, refl, sym, ◌∙◌, ap, subst, arith, inl, inr}
+use Rattle.std.proofs.Common.{◌≡◌, ◌≤◌, ◌<◌, ℕ, Bool, true, false, List, [], length, take, Option, Some, None, Result, Ok, Err, refl, sym, ◌∙◌, ap, subst, arith, inl, inr}
 use Rattle.std.specs.Prelude.{IfSome}
 use Rattle.std.specs.List.{list_all}
 use Rattle.std.proofs.lemmas.List.{append-nil}
@@ -80,8 +80,9 @@ call_of durable run fuse key blocks rose (Err Memory) new good is takes =
       is.deltas,
       takes.0,
       is.is,
+      subst (λ count. takes.0 < count) (made_length is.deltas blocks (kept_of durable) links is.are) takes.1,
       subst (λ events. Goes events (running durable run fuse) new)
-          (events_all (take takes.0 is.deltas) (take takes.0 blocks) (kept_of durable) links (made_take takes.0 is.deltas blocks (kept_of durable) links is.are)) takes.1,
+          (events_all (take takes.0 is.deltas) (take takes.0 blocks) (kept_of durable) links (made_take takes.0 is.deltas blocks (kept_of durable) links is.are)) takes.2,
     )
 call_of durable run fuse key blocks rose (Err (BadKey fault)) new good is takes = absurd takes
 call_of durable run fuse key blocks rose (Err ValueTooLong) new good is takes = absurd takes

@@ -5,12 +5,14 @@ pub mod DeleteFacts
 pub mod DeletedFacts
 pub mod EventFacts
 pub mod GrowthFacts
-pub mod HideFacts
 pub mod NumberFacts
+pub mod IdFacts
 pub mod OpenFacts
 pub mod PartFacts
 pub mod PlanFacts
 pub mod PutFacts
 pub mod RefusalFacts
 pub mod TestFacts
+pub mod ShortFacts
 pub mod TakenFacts
+pub mod ValueFacts

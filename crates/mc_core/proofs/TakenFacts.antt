@@ -1,9 +1,9 @@
 -- Made blocks, taken up one after another.
-use Rattle.std.proofs.Common.{◌≡◌, ◌≤◌, ◌+◌, ℕ, Bool, true, false, cond, ◌&&◌, List, [], ◌∷◌, ◌++◌, length, map, take, suc, zero, Option, Some, None, Ok, Err, refl, sym, ◌∙◌, ap, subst, arith}
+use Rattle.std.proofs.Common.{◌≡◌, ◌≤◌, ◌<◌, ◌+◌, ℕ, Bool, true, false, cond, ◌&&◌, List, [], ◌∷◌, ◌++◌, length, map, take, suc, zero, Option, Some, None, Ok, Err, refl, sym, ◌∙◌, ap, subst, arith}
 use Rattle.std.specs.Prelude.{IfSome, is_some}
 use Rattle.std.specs.List.{list_all}
 use Rattle.std.specs.Str.{bytes_eq}
-use Rattle.std.proofs.lemmas.List.{append-nil, append_assoc, map-append, take_at}
+use Rattle.std.proofs.lemmas.List.{append-nil, append_assoc, length-append, map-append, take_at}
 use Rattle.std.proofs.lemmas.Slice.Eq.{bytes_eq-Decides}
 use Rattle.mc_base.specs.Causes.{Rose}
 use Rattle.mc_base.specs.Told.{Told}
@@ -108,10 +108,10 @@ made_length (delta ∷ deltas) (made ∷ blocks) kept links are = omega (arith, 
 
 -- what a state stores and processes is what is kept after the blocks
 
-abbrev running : Durable → Running → Option Fuse → ReplicaState
+abbrev pub running : Durable → Running → Option Fuse → ReplicaState
 running durable run fuse = record { state = record { durable = durable; run = Some run }; fuse = fuse }
 
-abbrev Follows : ReplicaState → Kept → Type 0
+abbrev pub Follows : ReplicaState → Kept → Type 0
 Follows s kept = (s.state.durable.graph ≡ vertices kept.graph) × (s.state.durable.order ≡ kept.order)
 
 follows : (blocks : List MadeBlock) (kept : Kept) (durable : Durable) (run : Running) (fuse : Option Fuse) → durable.graph ≡ vertices kept.graph → durable.order ≡ kept.order
@@ -162,7 +162,7 @@ module _ (back : BackLaw) where
   same_graph old kept e = sym (ap (λ (k : Kept). k.graph) (back kept)) ∙ ap (map stored_of) e ∙ ap (λ (k : Kept). k.graph) (back old)
 
   -- a running replica after some blocks
-  goes_follow : (kept : Kept) (fuse : Option Fuse) (run : Running) (blocks : List MadeBlock) (now : ReplicaState) → Goes (all_events kept blocks) (running (durable_of kept) run fuse) now → Follows now (with_all kept blocks)
+  pub goes_follow : (kept : Kept) (fuse : Option Fuse) (run : Running) (blocks : List MadeBlock) (now : ReplicaState) → Goes (all_events kept blocks) (running (durable_of kept) run fuse) now → Follows now (with_all kept blocks)
   goes_follow kept fuse run blocks now goes = subst (λ s. Follows s (with_all kept blocks)) (sym goes.ends) (follows blocks kept (durable_of kept) run fuse refl refl)
 
   same_events : (kept : Kept) (made : MadeBlock) (s : ReplicaState) → Follows s kept → block_events (kept_of s.state.durable) made ≡ block_events kept made
@@ -246,13 +246,14 @@ module _ (back : BackLaw) where
       → all ≡ blocks ++ made ∷ rest → Taken blocks (running (durable_of kept) run fuse) now
       → OutsideIs (Breaks (block_events (kept_of now.state.durable) made) (Rose own_mid own_new) now new) (new ≡ now) error
       → OutsideIs (Breaks (all_events (kept_of (durable_of kept)) all) (Rose own own_new) (running (durable_of kept) run fuse) new)
-      ((n : ℕ) × Goes (all_events (kept_of (durable_of kept)) (take n all)) (running (durable_of kept) run fuse) new) error
+      ((n : ℕ) × (n < length all) × Goes (all_events (kept_of (durable_of kept)) (take n all)) (running (durable_of kept) run fuse) new) error
   one_ends kept fuse run blocks made rest all own own_mid own_new now new KeeperFault later split p q =
       subst (λ k. Breaks (all_events k all) (Rose own own_new) (running (durable_of kept) run fuse) new) (sym (back kept))
       (subst (λ l. Breaks (all_events kept l) (Rose own own_new) (running (durable_of kept) run fuse) new) (sym split)
       (one_breaks kept fuse run blocks made rest own own_mid own_new now new later (from_kept kept fuse run blocks now p) q))
   one_ends kept fuse run blocks made rest all own own_mid own_new now new Memory later split p q = (
     length blocks,
+    omega (arith, ap length split, length-append blocks (made ∷ rest)),
     subst (λ l. Goes (all_events (kept_of (durable_of kept)) l) (running (durable_of kept) run fuse) new) (sym (ap (take (length blocks)) split ∙ take_at blocks (made ∷ rest) (length blocks) refl))
         (subst (λ s. Taken blocks (running (durable_of kept) run fuse) s) (sym q) p),
   )

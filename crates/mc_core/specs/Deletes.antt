@@ -1,13 +1,15 @@
 -- What a delete does: when it is refused, and which blocks it makes.
-use Rattle.std.specs.Prelude.{◌≡◌, ◌≤◌, ⊤, ◌⊎◌, ℕ, ◌^◌, nat_lt, Bool, true, List, [], ◌∷◌, ◌++◌, length, take, fold, Option, Some, None, Result, Ok, Err, if◌then◌else◌}
+use Rattle.std.specs.Prelude.{◌≡◌, ◌≤◌, ◌<◌, ⊤, ◌⊎◌, ℕ, ◌^◌, nat_lt, Bool, true, List, [], ◌∷◌, ◌++◌, length, take, fold, Option, Some, None, Result, Ok, Err, if◌then◌else◌}
 use Rattle.std.specs.List.{list_any, list_all}
 use Rattle.std.specs.Option.{option_or}
 use Rattle.mc_base.specs.declared.cid.Cid.{Cid}
+use Rattle.mc_model.specs.declared.block.Block.{Block}
 use Rattle.mc_model.specs.declared.delta.Delta.{Delta}
 use Rattle.mc_model.specs.Cuts.{IsCuts, IsTooLarge, IsPriorityFull, pairs}
 use Rattle.mc_model.specs.Events.{Event, Process}
 use Rattle.mc_model.specs.Front.{same_cid}
 use Rattle.mc_model.specs.Kept.{Kept, processed, is_stored}
+use Rattle.mc_model.specs.Live.{value}
 use Rattle.mc_model.specs.Made.{made_bytes, made_cid, next_priority}
 use Rattle.mc_model.specs.Offer.{offer, block_max}
 use Rattle.mc_model.specs.State.{Running, kept_of}
@@ -82,11 +84,34 @@ DeletePlan s key events deleted =
     (deltas : List Delta) × IsDeltas (kept_of s.state.durable) key deltas
     × (events ≡ chain_events (kept_of s.state.durable) (next_links (kept_of s.state.durable)) deltas) × (deleted.blocks ≡ length deltas)
 
--- A want of memory leaves the replica as it was, or after some first blocks of the delete.
+-- A want of memory leaves the replica as it was, or after some first blocks of the delete, but not all.
 abbrev pub DeleteShort : ReplicaState → List ℕ → ReplicaState → Type 0
 DeleteShort s key left =
-    (left ≡ s) ⊎ ((deltas : List Delta) × (n : ℕ) × IsDeltas (kept_of s.state.durable) key deltas
+    (left ≡ s) ⊎ ((deltas : List Delta) × (n : ℕ) × IsDeltas (kept_of s.state.durable) key deltas × (n < length deltas)
     × Goes (chain_events (kept_of s.state.durable) (next_links (kept_of s.state.durable)) (take n deltas)) s left)
+
+-- the blocks of a delete
+abbrev pub chain_blocks : List Cid → List Delta → List Block
+chain_blocks links [] = []
+chain_blocks links (delta ∷ deltas) = made_block links delta ∷ chain_blocks (made_cid links delta ∷ []) deltas
+
+-- a want of memory leaves the value of the key
+abbrev pub OnMemory : CoreError → Type 0 → Type 0
+OnMemory Memory P = P
+OnMemory KeeperFault P = ⊤
+OnMemory (BadKey fault) P = ⊤
+OnMemory ValueTooLong P = ⊤
+OnMemory (BlockTooLarge len) P = ⊤
+OnMemory PriorityFull P = ⊤
+OnMemory (Clash cid) P = ⊤
+OnMemory Stopped P = ⊤
+OnMemory NoBatch P = ⊤
+OnMemory BatchOpen P = ⊤
+
+abbrev pub ShortKeeps : List ℕ → Result Deleted CoreError → ReplicaState → ReplicaState → Type 0
+ShortKeeps key (Ok deleted) s left = ⊤
+ShortKeeps key (Err error) s left =
+    OnMemory error (value (processed (kept_of left.state.durable)) key ≡ value (processed (kept_of s.state.durable)) key)
 
 -- The blocks that the code makes, before they are taken up.
 
@@ -175,4 +200,4 @@ abbrev pub Takes : List MadeBlock → Type 0 → Result Deleted CoreError → Re
 Takes blocks rose (Ok deleted) s new = Goes (all_events (kept_of s.state.durable) blocks) s new × (deleted.blocks ≡ length blocks)
 Takes blocks rose (Err error) s new =
     OutsideIs (Breaks (all_events (kept_of s.state.durable) blocks) rose s new)
-    ((n : ℕ) × Goes (all_events (kept_of s.state.durable) (take n blocks)) s new) error
+    ((n : ℕ) × (n < length blocks) × Goes (all_events (kept_of s.state.durable) (take n blocks)) s new) error

@@ -2,7 +2,6 @@ pub mod Batches
 pub mod Calls
 pub mod Deletes
 pub mod Events
-pub mod Hidden
 pub mod Plans
 pub mod Puts
 pub mod Reads

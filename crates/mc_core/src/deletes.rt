@@ -8,7 +8,7 @@ ghost use Rattle.mc_model.specs.Kept.{is_stored};
 ghost use Rattle.mc_model.specs.Made.{made_bytes, made_cid};
 ghost use Rattle.mc_keep.specs.Causes.{IfTold, KeepCause, StaysQuiet};
 ghost use Rattle.mc_core.specs.Calls.{Call};
-ghost use Rattle.mc_core.specs.Deletes.{AreMade, AreNext, DeleteKeptRefusal, DeletePlan, DeleteRefusal, DeleteShort, DeltasRefusal, IsDelete, IsMade, IsNextMade, IsOutside, Takes, TakesOne, chain_clash, has_made, is_left, with_all};
+ghost use Rattle.mc_core.specs.Deletes.{AreMade, AreNext, DeleteKeptRefusal, DeletePlan, DeleteRefusal, DeleteShort, DeltasRefusal, IsDelete, IsMade, IsNextMade, IsOutside, ShortKeeps, Takes, TakesOne, chain_clash, has_made, is_left, with_all};
 ghost use Rattle.mc_core.specs.Plans.{IsNew, IsPlan, IsShaped, plan_rows};
 ghost use Rattle.mc_core.specs.Puts.{next_links};
 ghost use Rattle.mc_core.specs.Refusals.{CoreCause, Is, IsDue, clash_refusal, key_refusal};
@@ -23,7 +23,7 @@ use crate::puts::check_key;
 use crate::{CoreError, Replica};
 use mc_base::{Bytes, Cid, Failed, List};
 use mc_block::write_block;
-use mc_keep::{KeepError, Keeper};
+use mc_keep::{KeepError, Keeper, changes_fit, commits_are_events};
 use mc_key::Key;
 use mc_model::{Block, Delta, kept_is_durable};
 use mc_write::delete_deltas;
@@ -48,15 +48,18 @@ impl<K: Keeper> Replica<K> {
     /// Makes blocks with tombstones for all live elements of a key, stores each unless it is stored, and processes it, one
     /// after another. The first links to the heads, each later one to the one before. All are made, and each is looked at
     /// for a clash, before the first commit. Refusals in their order: `Stopped`, `BadKey`, `PriorityFull`,
-    /// `BlockTooLarge`, `Clash`; these leave the replica as it was. After `Memory` some first blocks have been processed.
+    /// `BlockTooLarge`, `Clash`; these leave the replica as it was. After `Memory` some first blocks, but not all, may have been processed.
     pub fn delete(&mut self, alloc: Global, key: &str) -> Result<Deleted, CoreError>
         ensures call { Told (replica_state K.told K.fuse self.old) (replica_state K.told K.fuse self.new) (λ s new.
             Call (DeleteRefusal s key.now) (DeletePlan s key.now) (DeleteShort s key.now) (Rose (K.own self.old.keeper) (K.own self.new.keeper)) result s new) }
         ensures counted { StaysCounted self.new.stopped (K.told self.old.keeper) self.old.numbers (K.told self.new.keeper) self.new.numbers }
+        ensures short { Told (replica_state K.told K.fuse self.old) (replica_state K.told K.fuse self.new) (ShortKeeps key.now result) }
         ensures own { K.own self.old.keeper ≤ K.own self.new.keeper }
         ensures cause { CoreCause (K.faults self.old.keeper) (K.faults self.new.keeper) result }
     {
         kept_is_durable();
+        commits_are_events();
+        changes_fit();
         is_sound(&self.keeper);
         if self.stopped {
             return Err(CoreError::Stopped);

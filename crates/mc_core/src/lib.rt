@@ -16,7 +16,7 @@ mod writes;
 
 pub use deletes::Deleted;
 pub use error::CoreError;
-pub use laws::{deletes_hide_the_value_last, replicas_only_grow, written_blocks_stand};
+pub use laws::{replicas_only_grow, written_blocks_stand};
 pub use made::Written;
 pub use replica::{OpenCause, OpenError, Replica};
 pub use report::Report;

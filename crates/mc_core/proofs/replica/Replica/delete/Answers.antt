@@ -1,4 +1,5 @@
 use Rattle.mc_core.proofs.DeletedFacts.{delete_next, delete_call, delete_early}
+use Rattle.mc_core.proofs.ShortFacts.{short_call, short_early}
 use Rattle.mc_core.proofs.replica.Replica.delete.Goals as goal
 
 pub take_up_all-requires-clause-next : goal.take_up_all-requires-clause-next
@@ -13,3 +14,11 @@ returns-in-Ok-clause-call g c =
 pub returns-in-Err-clause-call : goal.returns-in-Err-clause-call
 returns-in-Err-clause-call g c =
     delete_early c.kept_is_durable.ensures.back _ _ _ _ _ _ _ _ c.args.key.now _ _ c.if-self.false c.in-Err.ensures.told c.in-Err.ensures.fuse c.stops-self.ensures c.in-Err.ensures.own.failed c.in-Err.ensures.refused
+
+pub returns-in-Ok-clause-short : goal.returns-in-Ok-clause-short
+returns-in-Ok-clause-short g c =
+    short_call c.kept_is_durable.ensures.back c.commits_are_events.ensures.sound c.changes_fit.ensures.stored c.changes_fit.ensures.same c.kept_is_durable.ensures.made_links
+    _ _ _ _ _ _ _ _ c.args.key.now _ _ _ c.if-self.false c.in-Ok.ensures.told c.in-Ok.ensures.fuse c.is_sound.ensures c.in-Ok.ensures.made c.take_up_all.ensures.takes
+
+pub returns-in-Err-clause-short : goal.returns-in-Err-clause-short
+returns-in-Err-clause-short g c = short_early _ _ _ _ _ _ c.args.key.now _ c.in-Err.ensures.told
