@@ -1,5 +1,5 @@
 -- What a call of a replica does, from what its parts do.
-use Rattle.std.proofs.Common.{◌≡◌, ◌≤◌, ℕ, Bool, true, false, List, [], ◌∷◌, Option, Some, None, Result, Ok, Err, refl, sym, ◌∙◌, ap, subst, arith, inl, inr}
+use Rattle.std.proofs.Common.{◌≡◌, ◌≤◌, ℕ, Bool, true, false, List, [], Option, Some, None, Result, Ok, Err, refl, sym, subst, arith, inl, inr}
 use Rattle.std.specs.Prelude.{IfSome, IfOk, IfErr}
 use Rattle.mc_base.specs.Causes.{Rose}
 use Rattle.mc_base.specs.Told.{Told}
@@ -9,10 +9,10 @@ use Rattle.mc_model.specs.State.{OpenBatch, Running, durable_of}
 use Rattle.mc_keep.specs.declared.fuse.Fuse.{Fuse}
 use Rattle.mc_core.specs.declared.error.CoreError.{CoreError}
 use Rattle.mc_core.specs.declared.error.CoreError.TheVariants.{BadKey, ValueTooLong, BlockTooLarge, PriorityFull, Clash, KeeperFault, Stopped, NoBatch, BatchOpen, Memory}
-use Rattle.mc_core.specs.Calls.{Begins, Does, Faults, IsRefused, Call}
-use Rattle.mc_core.specs.Events.{ReplicaState, state_of, stopped, MayHappen, Goes, Breaks, Part}
-use Rattle.mc_core.specs.Refusals.{IsDue, IfFault, CoreCause, stops}
-use Rattle.mc_core.specs.Replica.{run_of, running_with}
+use Rattle.mc_core.specs.Calls.{Faults, Call}
+use Rattle.mc_core.specs.Events.{ReplicaState, state_of, stopped, Part}
+use Rattle.mc_core.specs.Refusals.{IsDue, IfFault, stops}
+use Rattle.mc_core.specs.Replica.{run_of}
 use Rattle.mc_core.proofs.EventFacts.{goes_nowhere, breaks_rose}
 
 -- a replica over what is told

@@ -1,3 +1,4 @@
+pub mod BatchFacts
 pub mod CallFacts
 pub mod CommitFacts
 pub mod EventFacts
@@ -6,3 +7,4 @@ pub mod PartFacts
 pub mod PlanFacts
 pub mod PutFacts
 pub mod RefusalFacts
+pub mod TestFacts

@@ -1,16 +1,13 @@
 -- Refusals, one after another.
-use Rattle.std.proofs.Common.{◌≡◌, ◌≤◌, ◌<◌, ◌^◌, ℕ, Bool, true, false, cond, List, Option, Some, None, Result, Ok, Err, refl, sym, ◌∙◌, ap, subst, arith}
-use Rattle.std.specs.Prelude.{IfSome, IfOk, IfErr, is_some, nat_lt, nat_le}
+use Rattle.std.proofs.Common.{◌≡◌, ℕ, Bool, true, false, cond, List, Option, Some, None, Result, Ok, Err, refl, sym, ◌∙◌, ap, subst}
+use Rattle.std.specs.Prelude.{IfSome, IfErr, is_some}
 use Rattle.std.specs.Option.{option_or}
-use Rattle.std.specs.Str.{bytes_eq}
-use Rattle.std.proofs.lemmas.Bool.{ltb-true, ltb-false}
 use Rattle.mc_base.specs.declared.cid.Cid.{Cid}
-use Rattle.mc_model.specs.Front.{is_among, same_cid}
+use Rattle.mc_model.specs.Front.{is_among}
 use Rattle.mc_model.specs.Kept.{Kept, processed, bytes_at, is_stored}
 use Rattle.mc_model.specs.declared.delta.Delta.{Delta}
 use Rattle.mc_model.specs.Made.{next_priority, made_bytes, made_cid}
 use Rattle.mc_core.specs.Puts.{next_links}
-use Rattle.mc_write.specs.Cutting.{number}
 use Rattle.mc_core.specs.declared.error.CoreError.{CoreError}
 use Rattle.mc_core.specs.declared.error.CoreError.TheVariants.{BadKey, ValueTooLong, BlockTooLarge, PriorityFull, Clash, KeeperFault, Stopped, NoBatch, BatchOpen, Memory}
 use Rattle.mc_core.specs.Refusals.{Is, IsDue, priority_refusal, clash_refusal, other_refusal, size_refusal, made_refusal}

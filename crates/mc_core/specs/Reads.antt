@@ -1,5 +1,5 @@
 -- What the calls that only read answer.
-use Rattle.std.specs.Prelude.{◌≡◌, ℕ, Bool, List, [], map, length, Option, None}
+use Rattle.std.specs.Prelude.{◌≡◌, List, [], Option, None}
 use Rattle.mc_model.specs.Events.{Event}
 use Rattle.mc_model.specs.Kept.{Kept}
 use Rattle.mc_model.specs.State.{kept_of}

@@ -14,9 +14,9 @@ ghost use Rattle.mc_core.specs.Refusals.{CoreCause, Is, IsDue};
 ghost use Rattle.mc_core.specs.Replica.{replica_state};
 
 use crate::commits::is_sound;
+use crate::error::stops;
 use crate::made::{Planned, Written, next_block, plan_made};
 use crate::puts::{check_key, check_value};
-use crate::error::stops;
 use crate::{CoreError, Replica};
 use mc_keep::Keeper;
 use mc_model::kept_is_durable;
@@ -52,12 +52,12 @@ impl<K: Keeper> Replica<K> {
         if self.stopped {
             return Err(CoreError::Stopped);
         }
-        let Some(batch) = self.batch.as_mut() else {
+        let Some(batch) = &mut self.batch else {
             return Err(CoreError::NoBatch);
         };
-        let key = check_key(key)?;
+        let name = check_key(key)?;
         check_value(value)?;
-        match batch.put(&key, value) {
+        match batch.put(&name, value) {
             Ok(()) => Ok(()),
             Err(_) => Err(CoreError::Memory),
         }
@@ -75,7 +75,7 @@ impl<K: Keeper> Replica<K> {
         if self.stopped {
             return Err(CoreError::Stopped);
         }
-        let Some(batch) = self.batch.as_mut() else {
+        let Some(batch) = &mut self.batch else {
             return Err(CoreError::NoBatch);
         };
         let key = check_key(key)?;
@@ -103,7 +103,7 @@ impl<K: Keeper> Replica<K> {
         if self.stopped {
             return Err(CoreError::Stopped);
         }
-        let Some(batch) = self.batch.as_ref() else {
+        let Some(batch) = &self.batch else {
             return Err(CoreError::NoBatch);
         };
         if batch.is_empty() {

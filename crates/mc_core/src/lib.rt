@@ -14,3 +14,6 @@ mod writes;
 pub use error::CoreError;
 pub use made::Written;
 pub use replica::{OpenCause, OpenError, Replica};
+
+#[cfg(test)]
+mod tests;

@@ -10,9 +10,9 @@ ghost use Rattle.mc_core.specs.Puts.{PutPlan, put_refusal};
 ghost use Rattle.mc_core.specs.Refusals.{CoreCause, Is};
 ghost use Rattle.mc_core.specs.Replica.{replica_state};
 
+use crate::error::stops;
 use crate::made::{Planned, Written};
 use crate::puts::plan_put;
-use crate::error::stops;
 use crate::{CoreError, Replica};
 use mc_base::Failed;
 use mc_keep::Keeper;

@@ -1,12 +1,16 @@
-// Tests of the tables.
+// Tests of the tables, and of keepers without commits: those stand in the crate that makes the rows of a commit.
 use crate::elements::{Elements, elements_of, put_element, reserve_elements};
 use crate::tombs::{Tombs, has_tomb, put_tomb, reserve_tombs};
+use crate::{FaultPlan, MemKeeper, MemKeepers};
 use indexmap::IndexSet;
-use mc_base::{Bytes, Cid, Text};
-use mc_keep::{ElementRow, TombRow};
-use std::alloc::Global;
+use mc_base::{Bytes, Cid, Counted, List, Text};
+use mc_keep::{ElementRow, KeepError, Keeper, KeeperPlan, Keepers, TombRow};
+use std::alloc::{AllocError, Global};
 use std::collections::{HashMap, HashSet};
+use std::sync::Wait;
 use std::test::Fail;
+
+const CID: Cid = Cid([7; 32]);
 
 fn text(alloc: Global, text: &str) -> Result<Text, Fail> {
     Ok(Text::from_text(alloc, text)?)
@@ -55,5 +59,222 @@ fn tombstones(rt: HostRuntime) -> Result<(), Fail> {
     );
     assert!(rt; has_tomb(&tombs, "/a", "/X"));
     assert!(rt; !has_tomb(&tombs, "/X", "/a"));
+    Ok(())
+}
+
+fn numbers(alloc: Global, number: u64) -> Result<List<u64>, AllocError> {
+    let mut numbers = List::new(alloc);
+    numbers.push(number)?;
+    Ok(numbers)
+}
+
+// A keeper by which nothing fails.
+fn empty(alloc: Global) -> Result<MemKeeper, AllocError> {
+    MemKeeper::new(alloc, FaultPlan::nothing(alloc))
+}
+
+// A plan by which this read fails, and the second read of the second desk.
+fn read_plan(alloc: Global, read: u64) -> Result<FaultPlan, AllocError> {
+    let mut plan = FaultPlan::nothing(alloc);
+    plan.reads = numbers(alloc, read)?;
+    plan.desks.push(List::new(alloc))?;
+    plan.desks.push(numbers(alloc, 2)?)?;
+    Ok(plan)
+}
+
+fn failing(alloc: Global, read: u64) -> Result<MemKeeper, AllocError> {
+    MemKeeper::new(alloc, read_plan(alloc, read)?)
+}
+
+// Whether the keeper has no block, and then no row, and then no value.
+fn has_no_block<K: Keeper>(keeper: &mut K, alloc: Global) -> Result<bool, KeepError> {
+    Ok(
+        keeper.block(alloc, &CID)?.is_none()
+            && !keeper.stored(&CID)?
+            && keeper.position(&CID)?.is_none()
+            && keeper.at(0)?.is_none(),
+    )
+}
+
+fn has_no_row<K: Keeper>(keeper: &mut K, alloc: Global) -> Result<bool, KeepError> {
+    Ok(
+        !keeper.linked(&CID)?
+            && keeper.heads(alloc)?.as_slice().is_empty()
+            && keeper.elements(alloc, "/a")?.as_slice().is_empty()
+            && !keeper.hidden("/a", "/X")?,
+    )
+}
+
+fn has_no_value<K: Keeper>(keeper: &mut K, alloc: Global) -> Result<bool, KeepError> {
+    Ok(
+        keeper.value(alloc, "/a")?.is_none()
+            && !keeper.has("/a")?
+            && keeper.value_from(alloc, "", true)?.is_none(),
+    )
+}
+
+// Whether its numbers are all 0.
+fn has_zeros<K: Keeper>(keeper: &mut K) -> Result<bool, KeepError> {
+    keeper.reserve(100)?;
+    let summary = keeper.summary()?;
+    Ok(
+        summary.processed == 0
+            && summary.stored == 0
+            && summary.gaps == 0
+            && !summary.mark
+            && keeper.faults() == 0
+            && keeper.own_faults() == 0,
+    )
+}
+
+fn is_empty<K: Keeper + Drop>(keeper: K, alloc: Global) -> Result<bool, KeepError> {
+    let mut keeper = keeper;
+    Ok(
+        has_no_block(&mut keeper, alloc)?
+            && has_no_row(&mut keeper, alloc)?
+            && has_no_value(&mut keeper, alloc)?
+            && has_zeros(&mut keeper)?,
+    )
+}
+
+#[test]
+fn an_empty_keeper_has_nothing(rt: HostRuntime) -> Result<(), Fail> {
+    let alloc = rt.alloc();
+    assert!(rt; is_empty(empty(alloc)?, alloc)?);
+    Ok(())
+}
+
+// The number of the one call of fifteen that fails and is counted, in an order of the calls in which each comes once.
+fn failing_read<K: Keeper>(keeper: &mut K, alloc: Global) -> usize {
+    let failed = [
+        keeper.summary().is_err(),
+        keeper.block(alloc, &CID).is_err(),
+        keeper.stored(&CID).is_err(),
+        keeper.position(&CID).is_err(),
+        keeper.at(0).is_err(),
+        keeper.linked(&CID).is_err(),
+        keeper.heads(alloc).is_err(),
+        keeper.elements(alloc, "/a").is_err(),
+        keeper.hidden("/a", "/X").is_err(),
+        keeper.value(alloc, "/a").is_err(),
+        keeper.has("/a").is_err(),
+        keeper.value_from(alloc, "", true).is_err(),
+        keeper.has("/a").is_err(),
+        keeper.stored(&CID).is_err(),
+        keeper.at(0).is_err(),
+    ];
+    only_true(&failed)
+}
+
+// The number of the one that is true, counted from 1, and 0 where there is none or are more.
+fn only_true(flags: &[bool]) -> usize {
+    let mut found = 0;
+    for (index, flag) in flags.iter().enumerate() {
+        if *flag {
+            if found > 0 {
+                return 0;
+            }
+            found = index.saturating_add(1);
+        }
+    }
+    found
+}
+
+fn fails_at<K: Keeper + Drop>(keeper: K, alloc: Global, number: usize) -> bool {
+    let mut keeper = keeper;
+    failing_read(&mut keeper, alloc) == number && keeper.faults() == 1 && keeper.own_faults() == 1
+}
+
+#[test]
+fn a_planned_read_fails_alone(rt: HostRuntime) -> Result<(), Fail> {
+    let alloc = rt.alloc();
+    for number in 1..16u8 {
+        let keeper = failing(alloc, u64::from(number))?;
+        assert!(rt; fails_at(keeper, alloc, usize::from(number)));
+    }
+    Ok(())
+}
+
+// The number of the one read of three through a new desk that fails and is counted at the desk.
+fn failing_desk_read<W: Wait + Sync, K: Keeper>(
+    rt: &W,
+    keeper: &mut K,
+    alloc: Global,
+) -> Result<usize, KeepError>
+where
+    K::Desk: Drop,
+{
+    let mut desk = keeper.desk(alloc)?;
+    let failed = [
+        keeper.peer_block(alloc, &mut desk, &CID, rt).is_err(),
+        keeper.peer_block(alloc, &mut desk, &CID, rt).is_err(),
+        keeper.peer_block(alloc, &mut desk, &CID, rt).is_err(),
+    ];
+    let number = only_true(&failed);
+    if desk.faults() != u64::from(number > 0) {
+        return Err(KeepError::Failed);
+    }
+    Ok(number)
+}
+
+// Whether just the second read of the second desk fails, and its failure isn't one of the keeper.
+fn desks_fail_as_planned<W: Wait + Sync, K: Keeper + Drop>(
+    rt: &W,
+    keeper: K,
+    alloc: Global,
+) -> Result<bool, KeepError>
+where
+    K::Desk: Drop,
+{
+    let mut keeper = keeper;
+    Ok(
+        failing_desk_read(rt, &mut keeper, alloc)? == 0
+            && failing_desk_read(rt, &mut keeper, alloc)? == 2
+            && failing_desk_read(rt, &mut keeper, alloc)? == 0
+            && keeper.faults() == 0,
+    )
+}
+
+#[test]
+fn a_planned_read_of_a_desk_fails_alone(rt: HostRuntime) -> Result<(), Fail> {
+    let alloc = rt.alloc();
+    let keeper = failing(alloc, 100)?;
+    assert!(rt; desks_fail_as_planned(&rt, keeper, alloc)?);
+    Ok(())
+}
+
+// Whether the first read of the keeper with this index fails, and none where its making failed.
+fn first_read_fails<M: Keepers>(keepers: &mut M, alloc: Global, index: u64) -> Option<bool> {
+    let Ok(mut keeper) = keepers.make(alloc, &KeeperPlan::Memory, index) else {
+        return None;
+    };
+    let fails = keeper.has("/a").is_err();
+    keepers.end(keeper, List::new(alloc));
+    Some(fails)
+}
+
+// Whether just the first make fails, and then just the keeper with the index 1, whose failure is kept when it is taken back.
+fn makes_as_planned<M: Keepers + Drop>(keepers: M, alloc: Global) -> bool {
+    let mut keepers = keepers;
+    first_read_fails(&mut keepers, alloc, 0).is_none()
+        && first_read_fails(&mut keepers, alloc, 0) == Some(false)
+        && keepers.lost() == 0
+        && first_read_fails(&mut keepers, alloc, 1) == Some(true)
+        && first_read_fails(&mut keepers, alloc, 2) == Some(false)
+        && keepers.faults() == 1
+        && keepers.lost() == 1
+}
+
+fn keepers(alloc: Global) -> Result<MemKeepers, AllocError> {
+    let mut plans = List::new(alloc);
+    plans.push(FaultPlan::nothing(alloc))?;
+    plans.push(read_plan(alloc, 1)?)?;
+    Ok(MemKeepers::new(plans, numbers(alloc, 1)?))
+}
+
+#[test]
+fn a_planned_make_fails_and_a_keeper_has_its_plan(rt: HostRuntime) -> Result<(), Fail> {
+    let alloc = rt.alloc();
+    assert!(rt; makes_as_planned(keepers(alloc)?, alloc));
     Ok(())
 }

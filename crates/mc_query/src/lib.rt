@@ -11,4 +11,6 @@ pub use pair::Pair;
 pub use range::query;
 
 #[cfg(test)]
+mod fake;
+#[cfg(test)]
 mod tests;

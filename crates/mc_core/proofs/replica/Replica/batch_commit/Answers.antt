@@ -1,0 +1,23 @@
+use Rattle.mc_core.specs.Batches.{commit_refusal, CommitPlan}
+use Rattle.mc_core.specs.Refusals.{Is}
+use Rattle.std.proofs.Common.{refl, None}
+use Rattle.std.specs.Prelude.{⊤}
+use Rattle.mc_core.proofs.CallFacts.{early_call, part_call}
+use Rattle.mc_core.proofs.BatchFacts.{batch_call, commit_due, commit_plan, commit_empty}
+use Rattle.mc_core.proofs.replica.Replica.batch_commit.Goals as goal
+
+pub returns-then-is_empty-clause-call : goal.returns-then-is_empty-clause-call
+returns-then-is_empty-clause-call g c =
+    batch_call (λ s. Is (commit_refusal s)) CommitPlan _ _ _ _ _ _ None _ ⊤ None c.if-self.false refl refl
+    (commit_empty _ (g.K.Keeper.fuse c.args.self.now.keeper) c.args.self.now.batch c.in-Some.batch c.args.self.now.whole c.in-Some.is c.if-is_empty.ensures)
+
+pub returns-in-Ok-clause-call : goal.returns-in-Ok-clause-call
+returns-in-Ok-clause-call g c =
+    part_call (λ s. Is (commit_refusal s)) CommitPlan _ _ _ _ _ _ _ _ _ _ _ _ _ _ c.if-self.false c.in-Ok.ensures.told c.in-Ok.ensures.fuse c.in-Ok.ensures.own.later
+    (commit_plan c.kept_is_durable.ensures.back _ (g.K.Keeper.fuse c.args.self.now.keeper) c.args.self.now.batch c.in-Some.batch c.args.self.now.whole c.in-Ok.planned c.in-Some.is c.if-is_empty.ensures c.in-Ok.ensures.allowed c.in-Ok.ensures.planned)
+    c.take_up_batch.ensures.answer c.take_up_batch.ensures.only c.take_up_batch.ensures.part
+
+pub returns-in-Err-clause-call : goal.returns-in-Err-clause-call
+returns-in-Err-clause-call g c =
+    early_call (λ s. Is (commit_refusal s)) CommitPlan _ _ _ _ _ _ c.args.self.now.batch _ _ _ c.if-self.false c.in-Err.ensures.told c.in-Err.ensures.fuse c.stops-self.ensures c.in-Err.ensures.own.failed
+    (commit_due c.kept_is_durable.ensures.back _ (g.K.Keeper.fuse c.args.self.now.keeper) c.args.self.now.batch c.in-Some.batch c.args.self.now.whole _ c.in-Some.is c.if-is_empty.ensures c.in-Err.ensures.refused)

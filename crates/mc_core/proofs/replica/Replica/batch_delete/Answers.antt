@@ -1,0 +1,17 @@
+use Rattle.mc_core.specs.Batches.{batch_delete_refusal, BatchDeletePlan}
+use Rattle.mc_core.specs.Refusals.{Is}
+use Rattle.std.proofs.Common.{Some, sym, ap, ◌∙◌}
+use Rattle.std.specs.Prelude.{⊤}
+use Rattle.mc_core.proofs.BatchFacts.{batch_call, early_batch, delete_into, delete_due, keeper_rose}
+use Rattle.mc_core.proofs.replica.Replica.batch_delete.Goals as goal
+
+pub returns-in-Ok-clause-call : goal.returns-in-Ok-clause-call
+returns-in-Ok-clause-call g c =
+    batch_call {T = ⊤} (λ s. Is (batch_delete_refusal s c.args.key.now)) (λ s. BatchDeletePlan s c.args.key.now) _ _ _ _ _ _ (Some c.delete.new.self) _ ⊤ tt c.if-self.false c.in-Ok.ensures.told c.in-Ok.ensures.fuse
+    (delete_into c.kept_is_durable.ensures.back _ (g.K.Keeper.fuse c.args.self.now.keeper) c.args.self.now.batch c.in-Some.batch c.delete.new.self c.args.self.now.whole c.args.key.now (tt {0}) c.in-Some.is c.in_ok-key.ensures.ok
+    (rw (c.in_ok-key.ensures.key) at c.in-Ok.ensures.ok))
+
+pub returns-in-Err-clause-call : goal.returns-in-Err-clause-call
+returns-in-Err-clause-call g c =
+    early_batch (λ s. Is (batch_delete_refusal s c.args.key.now)) (λ s. BatchDeletePlan s c.args.key.now) _ _ _ _ _ _ c.args.self.now.batch (Some c.delete.new.self) _ _ _ (ap Some c.in-Err.ensures.err ∙ sym c.in-Some.is) c.if-self.false c.in-Err.ensures.told c.in-Err.ensures.fuse c.stops-self.ensures
+    (keeper_rose _ _ _ c.from-error.ensures c.in-Err.ensures.own.failed) (delete_due _ (g.K.Keeper.fuse c.args.self.now.keeper) c.args.self.now.batch c.args.self.now.whole c.args.key.now _ _ c.from-error.ensures)
