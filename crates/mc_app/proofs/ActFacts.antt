@@ -1,6 +1,6 @@
 -- From a replica's step to the world's.
 use Rattle.std.proofs.Common.{◌≡◌, ◌≤◌, ℕ, zero, suc, Bool, true, false, true≢false, List, [], ◌∷◌, ◌++◌, Option, Some, None, Result, Ok, Err, refl, sym, ◌∙◌, ap, subst, slice_set}
-use Rattle.std.specs.Prelude.{◌==◌, IfOk, OnOk}
+use Rattle.std.specs.Prelude.{◌==◌, ◌||◌, ⊤}
 use Rattle.std.specs.List.{slice_get}
 use Rattle.std.proofs.lemmas.Bool.{eqb-true}
 use Rattle.mc_base.specs.Causes.{Rose}
@@ -29,7 +29,7 @@ first_place (Query r prefix skip take) is = eqb-true r 0 is
 first_place (Heads r) is = eqb-true r 0 is
 
 named : (rose : Bool) (numbers : List ℕ) (place : ℕ) → numbers ≡ numbers_of rose → place ≡ 0 → rose ≡ true → is_named numbers place ≡ true
-named rose numbers place are first yes = ap (λ (l : List ℕ). is_named l place) (are ∙ ap numbers_of yes) ∙ ap (λ (n : ℕ). is_named (0 ∷ []) n) first
+named rose numbers place are first is = ap (λ (l : List ℕ). is_named l place) (are ∙ ap numbers_of is) ∙ ap (λ (n : ℕ). is_named (0 ∷ []) n) first
 
 step_in : (s new : ReplicaState) (command : Command) (entry : LineEntry) (reply : Reply) (rose own_rose : Bool) (P Q : Type 0) → place_of command ≡ 0 → entry.keepers ≡ numbers_of rose → entry.own ≡ numbers_of own_rose → (P → rose ≡ true) → (Q → own_rose ≡ true) → ReplicaStep s command P Q new reply → Step (s ∷ []) command entry reply (new ∷ [])
 step_in s new command entry reply rose own_rose P Q first keepers own f g step = record {
@@ -53,9 +53,12 @@ act_err None new told = tt
 act_err (Some s) None told = absurd told
 act_err (Some s) (Some x) told = tt
 
+or_none : (b : Bool) → (b || false) ≡ true → b ≡ true
+or_none true is = refl
+or_none false is = is
+
 rose_at : {K : Type 0} (count : K → ℕ) (old new : K) (rose : Bool) (r : ℕ) → (rose ≡ true → Rose (count old) (count new)) → is_named (numbers_of rose) r ≡ true → RoseAt count (slice_get (old ∷ []) r) (slice_get (new ∷ []) r)
-rose_at count old new true zero f is = f refl
-rose_at count old new true (suc r) f is = absurd (true≢false (sym is))
+rose_at count old new true r f is = subst (λ (n : ℕ). RoseAt count (slice_get (old ∷ []) n) (slice_get (new ∷ []) n)) (eqb-true 0 r (or_none (0 == r) is)) (f refl)
 rose_at count old new false r f is = absurd (true≢false (sym is))
 
 pub act_names : {K : Type 0} (faults own : K → ℕ) (old new : K) (entry : LineEntry) (entries after : List LineEntry) (rose own_rose : Bool) → after ≡ entries ++ entry ∷ [] → entry.keepers ≡ numbers_of rose → entry.own ≡ numbers_of own_rose → entry.desks ≡ [] → (rose ≡ true → Rose (faults old) (faults new)) → (own_rose ≡ true → Rose (own old) (own new)) → Recorded (NamesRisen faults own (old ∷ []) (new ∷ [])) entries after

@@ -2,6 +2,7 @@
 ghost use Rattle.std.specs.Prelude.{◌≡◌, [], ◌∷◌, IfOk, IfErr};
 ghost use Rattle.mc_app.specs.Worlds.{AreLeft, AreParts, world_state, first_state, starts_of};
 
+use crate::room::Room;
 use crate::{NoWorld, Part, World};
 use mc_base::List;
 use mc_core::{OpenError, Replica};
@@ -18,8 +19,8 @@ impl<K: Keeper> World<K> {
         ensures desks { IfOk result (λ world. world.desks ≡ []) }
         ensures refused { IfErr result (λ refused. AreLeft K.told K.fuse K.faults parts refused.parts) }
     {
-        let mut room = parts.into_vec();
-        let Part { keeper, desks } = room.take_last();
+        let (part, room) = Room::take(parts);
+        let Part { keeper, desks } = part;
         match Replica::open(keeper) {
             Ok(replica) => Ok(World {
                 replica,
@@ -29,10 +30,9 @@ impl<K: Keeper> World<K> {
             }),
             Err(refused) => {
                 let OpenError { cause, keeper } = refused;
-                room.push_reserved(Part { keeper, desks });
                 Err(NoWorld {
                     cause,
-                    parts: List::from_vec(room),
+                    parts: room.fill(Part { keeper, desks }),
                 })
             }
         }
@@ -48,9 +48,7 @@ impl<K: Keeper> World<K> {
             room,
             entries: _,
         } = self;
-        let mut parts = room;
         let keeper = replica.stop();
-        parts.push_reserved(Part { keeper, desks });
-        List::from_vec(parts)
+        room.fill(Part { keeper, desks })
     }
 }

@@ -1,7 +1,6 @@
 // The replicas of a run, and the record of its lines.
-ghost use Rattle.std.specs.Prelude.{◌≡◌, ◌<◌, [], vec_len, vec_capacity};
-
 use crate::LineEntry;
+use crate::room::Room;
 use mc_base::List;
 use mc_core::{OpenCause, Replica};
 use mc_keep::Keeper;
@@ -26,9 +25,7 @@ pub struct NoWorld<K: Keeper> {
 pub struct World<K: Keeper> {
     pub(crate) replica: Replica<K>,
     pub(crate) desks: List<K::Desk>,
-    pub(crate) room: Vec<Part<K>>,
+    pub(crate) room: Room<Part<K>>,
     /// One entry for each line that was executed.
     pub entries: List<LineEntry>,
-    ghost empty: { room.items ≡ [] },
-    ghost spare: { vec_len room < vec_capacity room },
 }
