@@ -1,6 +1,6 @@
 -- From a replica's step to the world's.
 use Rattle.std.proofs.Common.{◌≡◌, ◌≤◌, ℕ, zero, suc, Bool, true, false, true≢false, List, [], ◌∷◌, ◌++◌, Option, Some, None, Result, Ok, Err, refl, sym, ◌∙◌, ap, subst, slice_set}
-use Rattle.std.specs.Prelude.{◌==◌, ◌||◌, ⊤}
+use Rattle.std.specs.Prelude.{◌==◌, ◌||◌, ◌↔◌, ⊤}
 use Rattle.std.specs.List.{slice_get}
 use Rattle.std.proofs.lemmas.Bool.{eqb-true}
 use Rattle.mc_base.specs.Causes.{Rose}
@@ -40,12 +40,11 @@ step_in s new command entry reply rose own_rose P Q first keepers own f g step =
   step = row_map (Refuses s command) (Plan s command) P Q _ _ s new reply (λ p. named rose entry.keepers _ keepers first (f p)) (λ q. named own_rose entry.own _ own first (g q)) step;
 }
 
-pub act_step : (old new : Option ReplicaState) (command : Command) (entry : LineEntry) (reply : Reply) (entries after : List LineEntry) (rose own_rose : Bool) (P Q : Type 0) → has_replica command ≡ true → after ≡ entries ++ entry ∷ [] → entry.keepers ≡ numbers_of rose → entry.own ≡ numbers_of own_rose → (P → rose ≡ true) → (Q → own_rose ≡ true)
-    → Told old new (λ s x. ReplicaStep s command P Q x reply) → Told (both_told old (Some [])) (both_told new (Some [])) (λ w w2. Recorded (λ e. Step w command e reply w2) entries after)
-act_step None new command entry reply entries after rose own_rose P Q there grows keepers own f g step = tt
-act_step (Some s) None command entry reply entries after rose own_rose P Q there grows keepers own f g step = absurd step
-act_step (Some s) (Some x) command entry reply entries after rose own_rose P Q there grows keepers own f g step =
-    record { entry = entry; grows = grows; holds = step_in s x command entry reply rose own_rose P Q (first_place command there) keepers own f g step }
+act_step : (old new : Option ReplicaState) (command : Command) (entry : LineEntry) (reply : Reply) (rose own_rose : Bool) (P Q : Type 0) → has_replica command ≡ true → entry.keepers ≡ numbers_of rose → entry.own ≡ numbers_of own_rose → (P → rose ≡ true) → (Q → own_rose ≡ true)
+    → Told old new (λ s x. ReplicaStep s command P Q x reply) → Told (both_told old (Some [])) (both_told new (Some [])) (λ w w2. Step w command entry reply w2)
+act_step None new command entry reply rose own_rose P Q there keepers own f g step = tt
+act_step (Some s) None command entry reply rose own_rose P Q there keepers own f g step = absurd step
+act_step (Some s) (Some x) command entry reply rose own_rose P Q there keepers own f g step = step_in s x command entry reply rose own_rose P Q (first_place command there) keepers own f g step
 
 -- a call without an answer still tells
 pub act_err : (old new : Option ReplicaState) → Told old new (λ _ _. ⊤) → Told (both_told old (Some [])) (both_told new (Some [])) (λ _ _. ⊤)
@@ -61,13 +60,16 @@ rose_at : {K : Type 0} (count : K → ℕ) (old new : K) (rose : Bool) (r : ℕ)
 rose_at count old new true r f is = subst (λ (n : ℕ). RoseAt count (slice_get (old ∷ []) n) (slice_get (new ∷ []) n)) (eqb-true 0 r (or_none (0 == r) is)) (f refl)
 rose_at count old new false r f is = absurd (true≢false (sym is))
 
-pub act_names : {K : Type 0} (faults own : K → ℕ) (old new : K) (entry : LineEntry) (entries after : List LineEntry) (rose own_rose : Bool) → after ≡ entries ++ entry ∷ [] → entry.keepers ≡ numbers_of rose → entry.own ≡ numbers_of own_rose → entry.desks ≡ [] → (rose ≡ true → Rose (faults old) (faults new)) → (own_rose ≡ true → Rose (own old) (own new)) → Recorded (NamesRisen faults own (old ∷ []) (new ∷ [])) entries after
-act_names faults own old new entry entries after rose own_rose grows keepers owns desks f g = record {
+pub act_line : {K : Type 0} (faults own : K → ℕ) (keeper keeper_new : K) (old new : Option ReplicaState) (command : Command) (entry : LineEntry) (reply : Reply) (entries after : List LineEntry) (rose own_rose : Bool) → has_replica command ≡ true → after ≡ entries ++ entry ∷ [] → entry.keepers ≡ numbers_of rose → entry.own ≡ numbers_of own_rose → entry.desks ≡ []
+    → (rose ≡ true) ↔ Rose (faults keeper) (faults keeper_new) → (own_rose ≡ true) ↔ Rose (own keeper) (own keeper_new)
+    → Told old new (λ s x. ReplicaStep s command (Rose (faults keeper) (faults keeper_new)) (Rose (own keeper) (own keeper_new)) x reply)
+    → Recorded (λ e. NamesRisen faults own (keeper ∷ []) (keeper_new ∷ []) e × Told (both_told old (Some [])) (both_told new (Some [])) (λ w w2. Step w command e reply w2)) entries after
+act_line faults own keeper keeper_new old new command entry reply entries after rose own_rose there grows keepers owns desks f g step = record {
   entry = entry;
   grows = grows;
-  holds = record {
-    keepers = λ r is. rose_at faults old new rose r f (subst (λ (l : List ℕ). is_named l r ≡ true) keepers is);
+  holds = (record {
+    keepers = λ r is. rose_at faults keeper keeper_new rose r f.0 (subst (λ (l : List ℕ). is_named l r ≡ true) keepers is);
     desks = desks;
-    inside = λ r is. rose_at own old new own_rose r g (subst (λ (l : List ℕ). is_named l r ≡ true) owns is);
-  };
+    inside = λ r is. rose_at own keeper keeper_new own_rose r g.0 (subst (λ (l : List ℕ). is_named l r ≡ true) owns is);
+  }, act_step old new command entry reply rose own_rose _ _ there keepers owns f.1 g.1 step);
 }

@@ -1,5 +1,5 @@
 // One command in a world.
-ghost use Rattle.std.specs.Prelude.{◌≡◌, ◌≤◌, ◌↔◌, ◌++◌, [], ◌∷◌, true, false, Ok, IfOk, OnOk, IsErrOf};
+ghost use Rattle.std.specs.Prelude.{◌≡◌, ◌≤◌, ◌↔◌, ◌++◌, [], ◌∷◌, true, false, Ok, IfOk, OnOk, IsErrOf, ⊤};
 ghost use Rattle.mc_base.specs.Causes.{Counts, Rose};
 ghost use Rattle.mc_base.specs.Told.{Told};
 ghost use Rattle.mc_core.specs.Replica.{replica_state};
@@ -47,9 +47,9 @@ pub fn act<K: Keeper>(
     alloc: Global,
     command: &Command,
 ) -> Result<Reply, ActError>
-    ensures step { Told (world_state K.told K.fuse world.old) (world_state K.told K.fuse world.new) (λ w w2. IfOk result (λ reply.
-        Recorded (λ entry. Step w command.now entry reply w2) world.old.entries world.new.entries)) }
-    ensures record { OnOk result (Recorded (NamesRisen K.faults K.own (world.old.replica.keeper ∷ []) (world.new.replica.keeper ∷ [])) world.old.entries world.new.entries) }
+    ensures line { IfOk result (λ reply. Recorded (λ entry. NamesRisen K.faults K.own (world.old.replica.keeper ∷ []) (world.new.replica.keeper ∷ []) entry
+        × Told (world_state K.told K.fuse world.old) (world_state K.told K.fuse world.new) (λ w w2. Step w command.now entry reply w2)) world.old.entries world.new.entries) }
+    ensures told { Told (world_state K.told K.fuse world.old) (world_state K.told K.fuse world.new) (λ _ _. ⊤) }
     ensures there { OnOk result (has_replica command.now ≡ true) }
     ensures bad { IsErrOf result ActError.BadLine → (has_replica command.now ≡ false) × (world.new ≡ world.old) }
     ensures cause { Counts (K.faults world.old.replica.keeper) (K.faults world.new.replica.keeper) (result ≡ Ok FaultKeeper) }
