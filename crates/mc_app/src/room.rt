@@ -31,4 +31,10 @@ impl<T> Room<T> {
         items.push_reserved(item);
         List::from_vec(items)
     }
+
+    // Gives the room back.
+    pub fn free(self) {
+        let Room { held } = self;
+        held.destroy_empty();
+    }
 }
