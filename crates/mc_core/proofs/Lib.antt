@@ -1,10 +1,16 @@
 pub mod BatchFacts
 pub mod CallFacts
 pub mod CommitFacts
+pub mod DeleteFacts
+pub mod DeletedFacts
 pub mod EventFacts
+pub mod GrowthFacts
+pub mod HideFacts
+pub mod NumberFacts
 pub mod OpenFacts
 pub mod PartFacts
 pub mod PlanFacts
 pub mod PutFacts
 pub mod RefusalFacts
 pub mod TestFacts
+pub mod TakenFacts

@@ -1,6 +1,6 @@
 -- Groups of stored blocks in a commit.
-use Rattle.std.proofs.Common.{◌≡◌, ℕ, Bool, true, false, List, [], ◌∷◌, map, ◌||◌, ◌&&◌, Option, Some, None, Result, Ok, refl, sym, ap, subst, ◌∙◌}
-use Rattle.std.specs.Prelude.{IfSome, is_some}
+use Rattle.std.proofs.Common.{◌≡◌, ℕ, Bool, true, false, List, [], ◌∷◌, map, ◌||◌, ◌&&◌, Option, Some, None, Ok, refl, sym, ap, subst, ◌∙◌}
+use Rattle.std.specs.Prelude.{IfSome}
 use Rattle.std.specs.List.{list_any, list_all}
 use Rattle.std.specs.Result.{is_ok}
 use Rattle.mc_base.specs.declared.cid.Cid.{Cid}
@@ -8,8 +8,8 @@ use Rattle.mc_model.specs.declared.block.Block.{Block}
 use Rattle.mc_model.specs.declared.block.Stored.{Stored}
 use Rattle.mc_model.specs.Ascending.{is_once}
 use Rattle.mc_model.specs.Front.{same_cid, is_among}
-use Rattle.mc_model.specs.Kept.{Kept, IsKept, blocks_in, block_in, block_under, bytes_at, is_stored}
-use Rattle.mc_model.specs.Offer.{offer, block_of}
+use Rattle.mc_model.specs.Kept.{Kept, IsKept, blocks_in, is_stored}
+use Rattle.mc_model.specs.Offer.{offer}
 use Rattle.mc_model.proofs.Blocks.{block_in_cid}
 use Rattle.mc_keep.specs.declared.changes.Changes.{Changes}
 use Rattle.mc_keep.specs.Changes.{no_changes}

@@ -1,8 +1,11 @@
 pub mod Batches
 pub mod Calls
+pub mod Deletes
 pub mod Events
+pub mod Hidden
 pub mod Plans
 pub mod Puts
 pub mod Reads
 pub mod Refusals
 pub mod Replica
+pub mod Reports

@@ -11,6 +11,7 @@ ghost use Rattle.mc_core.specs.Events.{Part};
 ghost use Rattle.mc_core.specs.Plans.{IsShaped, IsSomePlan, plan_events, plan_rows};
 ghost use Rattle.mc_core.specs.Puts.{IsPlanned, next_links};
 ghost use Rattle.mc_core.specs.Refusals.{CoreCause, Is, IsDue};
+ghost use Rattle.mc_core.specs.Reports.{StaysCounted};
 ghost use Rattle.mc_core.specs.Replica.{replica_state};
 
 use crate::commits::is_sound;
@@ -28,6 +29,7 @@ impl<K: Keeper> Replica<K> {
     pub fn batch_begin(&mut self, alloc: Global) -> Result<(), CoreError>
         ensures call { Told (replica_state K.told K.fuse self.old) (replica_state K.told K.fuse self.new) (λ s new.
             Call (Is (begin_refusal s)) BeginPlan (λ left. left ≡ s) (Rose (K.own self.old.keeper) (K.own self.new.keeper)) result s new) }
+        ensures counted { StaysCounted self.new.stopped (K.told self.old.keeper) self.old.numbers (K.told self.new.keeper) self.new.numbers }
         ensures own { K.own self.old.keeper ≤ K.own self.new.keeper }
         ensures cause { CoreCause (K.faults self.old.keeper) (K.faults self.new.keeper) result }
     {
@@ -46,6 +48,7 @@ impl<K: Keeper> Replica<K> {
     pub fn batch_put(&mut self, key: &str, value: &[u8]) -> Result<(), CoreError>
         ensures call { Told (replica_state K.told K.fuse self.old) (replica_state K.told K.fuse self.new) (λ s new.
             Call (Is (batch_put_refusal s key.now value.now)) (BatchPutPlan s key.now value.now) (λ left. left ≡ s) (Rose (K.own self.old.keeper) (K.own self.new.keeper)) result s new) }
+        ensures counted { StaysCounted self.new.stopped (K.told self.old.keeper) self.old.numbers (K.told self.new.keeper) self.new.numbers }
         ensures own { K.own self.old.keeper ≤ K.own self.new.keeper }
         ensures cause { CoreCause (K.faults self.old.keeper) (K.faults self.new.keeper) result }
     {
@@ -68,6 +71,7 @@ impl<K: Keeper> Replica<K> {
     pub fn batch_delete(&mut self, key: &str) -> Result<(), CoreError>
         ensures call { Told (replica_state K.told K.fuse self.old) (replica_state K.told K.fuse self.new) (λ s new.
             Call (Is (batch_delete_refusal s key.now)) (BatchDeletePlan s key.now) (λ left. left ≡ s) (Rose (K.own self.old.keeper) (K.own self.new.keeper)) result s new) }
+        ensures counted { StaysCounted self.new.stopped (K.told self.old.keeper) self.old.numbers (K.told self.new.keeper) self.new.numbers }
         ensures own { K.own self.old.keeper ≤ K.own self.new.keeper }
         ensures cause { CoreCause (K.faults self.old.keeper) (K.faults self.new.keeper) result }
     {
@@ -96,6 +100,7 @@ impl<K: Keeper> Replica<K> {
     pub fn batch_commit(&mut self, alloc: Global) -> Result<Option<Written>, CoreError>
         ensures call { Told (replica_state K.told K.fuse self.old) (replica_state K.told K.fuse self.new) (λ s new.
             Call (Is (commit_refusal s)) (CommitPlan s) (λ left. left ≡ s) (Rose (K.own self.old.keeper) (K.own self.new.keeper)) result s new) }
+        ensures counted { StaysCounted self.new.stopped (K.told self.old.keeper) self.old.numbers (K.told self.new.keeper) self.new.numbers }
         ensures own { K.own self.old.keeper ≤ K.own self.new.keeper }
         ensures cause { CoreCause (K.faults self.old.keeper) (K.faults self.new.keeper) result }
     {
@@ -129,6 +134,7 @@ impl<K: Keeper> Replica<K> {
             Part (plan_events planned.plan ++ Closed None ∷ []) (Rose (K.own self.old.keeper) (K.own self.new.keeper)) result s new) }
         ensures answer { IfOk result (λ written. written ≡ Some planned.written) }
         ensures only { IfErr result (λ error. error ≡ Refused.KeeperFault) }
+        ensures counted { StaysCounted self.new.stopped (K.told self.old.keeper) self.old.numbers (K.told self.new.keeper) self.new.numbers }
         ensures own { K.own self.old.keeper ≤ K.own self.new.keeper }
         ensures cause { CoreCause (K.faults self.old.keeper) (K.faults self.new.keeper) result }
     {

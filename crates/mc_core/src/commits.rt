@@ -9,10 +9,12 @@ ghost use Rattle.mc_keep.specs.Changes.{changed, row_count};
 ghost use Rattle.mc_keep.specs.Tables.{ChangesFit};
 ghost use Rattle.mc_core.specs.Events.{Part};
 ghost use Rattle.mc_core.specs.Plans.{IsReady, HasLinks, IsShaped, IsSomePlan, plan_rows, plan_events};
+ghost use Rattle.mc_core.specs.Reports.{StaysCounted};
 ghost use Rattle.mc_core.specs.Replica.{replica_state};
 
 use crate::plan::Plan;
 use crate::replica::Replica;
+use crate::report::numbers_after;
 use mc_base::Failed;
 use mc_keep::{Changes, Keeper, changes_fit, commits_are_events};
 use mc_model::{kept_changes_are_events, kept_is_durable};
@@ -29,6 +31,7 @@ impl<K: Keeper> Replica<K> {
         ensures silent { K.told self.old.keeper ≡ None → K.told self.new.keeper ≡ None }
         ensures told { OnOk result (Told (K.told self.old.keeper) (K.told self.new.keeper) (λ kept new. new ≡ changed kept store)) }
         ensures up { OnOk result (self.new.stopped ≡ false) }
+        ensures counted { StaysCounted self.new.stopped (K.told self.old.keeper) self.old.numbers (K.told self.new.keeper) self.new.numbers }
         ensures whole { self.new.whole ≡ self.old.whole }
         ensures batch { self.new.batch ≡ self.old.batch }
         ensures spare { K.spare self.old.keeper ≤ K.spare self.new.keeper + row_count store }
@@ -37,8 +40,12 @@ impl<K: Keeper> Replica<K> {
     {
         commits_are_events();
         is_sound(&self.keeper);
+        let numbers = numbers_after(self.numbers, &store);
         match self.keeper.commit(store) {
-            Ok(()) => Ok(()),
+            Ok(()) => {
+                self.numbers = numbers;
+                Ok(())
+            }
             Err(Failed) => {
                 self.stopped = true;
                 Err(Failed)
@@ -54,7 +61,9 @@ impl<K: Keeper> Replica<K> {
         requires ready { IfSome (K.told self.old.keeper) (λ kept. IsReady kept self.old.whole process × HasLinks kept process.marks) }
         ensures part { Told (replica_state K.told K.fuse self.old) (replica_state K.told K.fuse self.new) (λ s new.
             Part (Process process.marks ∷ []) (Rose (K.own self.old.keeper) (K.own self.new.keeper)) result s new) }
+        ensures silent { K.told self.old.keeper ≡ None → K.told self.new.keeper ≡ None }
         ensures up { OnOk result (self.new.stopped ≡ false) }
+        ensures counted { StaysCounted self.new.stopped (K.told self.old.keeper) self.old.numbers (K.told self.new.keeper) self.new.numbers }
         ensures whole { self.new.whole ≡ self.old.whole }
         ensures batch { self.new.batch ≡ self.old.batch }
         ensures own { K.own self.old.keeper ≤ K.own self.new.keeper }
@@ -62,8 +71,12 @@ impl<K: Keeper> Replica<K> {
     {
         commits_are_events();
         is_sound(&self.keeper);
+        let numbers = numbers_after(self.numbers, &process);
         match self.keeper.commit(process) {
-            Ok(()) => Ok(()),
+            Ok(()) => {
+                self.numbers = numbers;
+                Ok(())
+            }
             Err(Failed) => {
                 self.stopped = true;
                 Err(Failed)
@@ -81,7 +94,9 @@ impl<K: Keeper> Replica<K> {
         requires ready { IfSome (K.told self.old.keeper) (λ kept. IsReady (changed kept store) self.old.whole process × HasLinks (changed kept store) process.marks) }
         ensures part { Told (replica_state K.told K.fuse self.old) (replica_state K.told K.fuse self.new) (λ s new.
             Part (Store (vertices store.store) ∷ Process process.marks ∷ []) (Rose (K.own self.old.keeper) (K.own self.new.keeper)) result s new) }
+        ensures silent { K.told self.old.keeper ≡ None → K.told self.new.keeper ≡ None }
         ensures up { OnOk result (self.new.stopped ≡ false) }
+        ensures counted { StaysCounted self.new.stopped (K.told self.old.keeper) self.old.numbers (K.told self.new.keeper) self.new.numbers }
         ensures whole { self.new.whole ≡ self.old.whole }
         ensures batch { self.new.batch ≡ self.old.batch }
         ensures own { K.own self.old.keeper ≤ K.own self.new.keeper }
@@ -101,7 +116,9 @@ impl<K: Keeper> Replica<K> {
         requires plan { IfSome (K.told self.old.keeper) (λ kept. IsSomePlan kept self.old.whole plan) }
         ensures part { Told (replica_state K.told K.fuse self.old) (replica_state K.told K.fuse self.new) (λ s new.
             Part (plan_events plan) (Rose (K.own self.old.keeper) (K.own self.new.keeper)) result s new) }
+        ensures silent { K.told self.old.keeper ≡ None → K.told self.new.keeper ≡ None }
         ensures up { OnOk result (self.new.stopped ≡ false) }
+        ensures counted { StaysCounted self.new.stopped (K.told self.old.keeper) self.old.numbers (K.told self.new.keeper) self.new.numbers }
         ensures whole { self.new.whole ≡ self.old.whole }
         ensures batch { self.new.batch ≡ self.old.batch }
         ensures own { K.own self.old.keeper ≤ K.own self.new.keeper }

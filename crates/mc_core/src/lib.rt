@@ -3,17 +3,23 @@
 
 mod batches;
 mod commits;
+mod deletes;
 mod error;
+mod laws;
 mod made;
 mod plan;
 mod puts;
 mod reads;
 mod replica;
+mod report;
 mod writes;
 
+pub use deletes::Deleted;
 pub use error::CoreError;
+pub use laws::{deletes_hide_the_value_last, replicas_only_grow, written_blocks_stand};
 pub use made::Written;
 pub use replica::{OpenCause, OpenError, Replica};
+pub use report::Report;
 
 #[cfg(test)]
 mod tests;

@@ -66,7 +66,7 @@ pub(crate) fn next_block<K: Keeper>(keeper: &mut K, alloc: Global) -> Result<Nex
     Ok(Next { links, priority })
 }
 
-fn cids_of(alloc: Global, heads: &[HeadRow]) -> Result<List<Cid>, AllocError>
+pub(crate) fn cids_of(alloc: Global, heads: &[HeadRow]) -> Result<List<Cid>, AllocError>
     ensures { IfOk result (λ cids. cids ≡ row_cids heads.now) }
 {
     let mut cids = List::with_capacity(alloc, heads.len())?;
@@ -111,7 +111,7 @@ fn check_same(cid: &Cid, other: &[u8], bytes: &[u8]) -> Result<(), CoreError>
 }
 
 // Whether the block is stored already, where it doesn't clash.
-fn check_clash<K: Keeper>(
+pub(crate) fn check_clash<K: Keeper>(
     keeper: &mut K,
     alloc: Global,
     cid: &Cid,

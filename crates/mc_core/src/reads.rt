@@ -14,6 +14,7 @@ ghost use Rattle.mc_query.specs.Places.{pair_of};
 ghost use Rattle.mc_core.specs.Calls.{Call};
 ghost use Rattle.mc_core.specs.Reads.{Reads, read_refusal};
 ghost use Rattle.mc_core.specs.Refusals.{CoreCause, Is};
+ghost use Rattle.mc_core.specs.Reports.{StaysCounted};
 ghost use Rattle.mc_core.specs.Replica.{replica_state};
 
 use crate::error::stops;
@@ -29,6 +30,7 @@ impl<K: Keeper> Replica<K> {
     pub fn get(&mut self, alloc: Global, key: &str) -> Result<Option<Bytes>, CoreError>
         ensures call { Told (replica_state K.told K.fuse self.old) (replica_state K.told K.fuse self.new) (λ s new.
             Call (Is (read_refusal s)) (Reads (λ kept found. found ≡ value (processed kept) key.now) s) (λ left. left ≡ s) (Rose (K.own self.old.keeper) (K.own self.new.keeper)) result s new) }
+        ensures counted { StaysCounted self.new.stopped (K.told self.old.keeper) self.old.numbers (K.told self.new.keeper) self.new.numbers }
         ensures own { K.own self.old.keeper ≤ K.own self.new.keeper }
         ensures cause { CoreCause (K.faults self.old.keeper) (K.faults self.new.keeper) result }
     {
@@ -50,6 +52,7 @@ impl<K: Keeper> Replica<K> {
     pub fn has(&mut self, key: &str) -> Result<bool, CoreError>
         ensures call { Told (replica_state K.told K.fuse self.old) (replica_state K.told K.fuse self.new) (λ s new.
             Call (Is (read_refusal s)) (Reads (λ kept found. found ≡ has_value (processed kept) key.now) s) (λ left. left ≡ s) (Rose (K.own self.old.keeper) (K.own self.new.keeper)) result s new) }
+        ensures counted { StaysCounted self.new.stopped (K.told self.old.keeper) self.old.numbers (K.told self.new.keeper) self.new.numbers }
         ensures own { K.own self.old.keeper ≤ K.own self.new.keeper }
         ensures cause { CoreCause (K.faults self.old.keeper) (K.faults self.new.keeper) result }
     {
@@ -78,6 +81,7 @@ impl<K: Keeper> Replica<K> {
     ) -> Result<List<Pair>, CoreError>
         ensures call { Told (replica_state K.told K.fuse self.old) (replica_state K.told K.fuse self.new) (λ s new.
             Call (Is (read_refusal s)) (Reads (λ kept pairs. map pair_of pairs ≡ answers.query (processed kept) (is_under prefix.now) skip count) s) (λ left. left ≡ s) (Rose (K.own self.old.keeper) (K.own self.new.keeper)) result s new) }
+        ensures counted { StaysCounted self.new.stopped (K.told self.old.keeper) self.old.numbers (K.told self.new.keeper) self.new.numbers }
         ensures own { K.own self.old.keeper ≤ K.own self.new.keeper }
         ensures cause { CoreCause (K.faults self.old.keeper) (K.faults self.new.keeper) result }
     {
@@ -99,6 +103,7 @@ impl<K: Keeper> Replica<K> {
     pub fn heads(&mut self, alloc: Global) -> Result<List<HeadRow>, CoreError>
         ensures call { Told (replica_state K.told K.fuse self.old) (replica_state K.told K.fuse self.new) (λ s new.
             Call (Is (read_refusal s)) (Reads (λ kept rows. heads_in_rows rows ≡ heads (processed kept)) s) (λ left. left ≡ s) (Rose (K.own self.old.keeper) (K.own self.new.keeper)) result s new) }
+        ensures counted { StaysCounted self.new.stopped (K.told self.old.keeper) self.old.numbers (K.told self.new.keeper) self.new.numbers }
         ensures own { K.own self.old.keeper ≤ K.own self.new.keeper }
         ensures cause { CoreCause (K.faults self.old.keeper) (K.faults self.new.keeper) result }
     {
@@ -121,6 +126,7 @@ impl<K: Keeper> Replica<K> {
     pub fn position(&mut self, cid: &Cid) -> Result<Option<u64>, CoreError>
         ensures call { Told (replica_state K.told K.fuse self.old) (replica_state K.told K.fuse self.new) (λ s new.
             Call (Is (read_refusal s)) (Reads (λ kept place. place ≡ position (same_cid cid.now) kept.order) s) (λ left. left ≡ s) (Rose (K.own self.old.keeper) (K.own self.new.keeper)) result s new) }
+        ensures counted { StaysCounted self.new.stopped (K.told self.old.keeper) self.old.numbers (K.told self.new.keeper) self.new.numbers }
         ensures own { K.own self.old.keeper ≤ K.own self.new.keeper }
         ensures cause { CoreCause (K.faults self.old.keeper) (K.faults self.new.keeper) result }
     {
@@ -142,6 +148,7 @@ impl<K: Keeper> Replica<K> {
     pub fn at(&mut self, position: u64) -> Result<Option<Cid>, CoreError>
         ensures call { Told (replica_state K.told K.fuse self.old) (replica_state K.told K.fuse self.new) (λ s new.
             Call (Is (read_refusal s)) (Reads (λ kept cid. cid ≡ slice_get kept.order position) s) (λ left. left ≡ s) (Rose (K.own self.old.keeper) (K.own self.new.keeper)) result s new) }
+        ensures counted { StaysCounted self.new.stopped (K.told self.old.keeper) self.old.numbers (K.told self.new.keeper) self.new.numbers }
         ensures own { K.own self.old.keeper ≤ K.own self.new.keeper }
         ensures cause { CoreCause (K.faults self.old.keeper) (K.faults self.new.keeper) result }
     {

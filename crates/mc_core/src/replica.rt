@@ -1,8 +1,10 @@
 // One replica.
 ghost use Rattle.std.specs.Prelude.{◌≡◌, IfOk, IfErr};
 ghost use Rattle.mc_base.specs.Causes.{Rose};
+ghost use Rattle.mc_core.specs.Reports.{IsCounted};
 ghost use Rattle.mc_core.specs.Replica.{replica_state, opened_state};
 
+use crate::report::{Numbers, numbers_of};
 use mc_base::Failed;
 use mc_keep::Keeper;
 use mc_write::Batch;
@@ -13,6 +15,7 @@ use mc_write::Batch;
 #[derive(Drop)]
 pub struct Replica<K: Keeper> {
     pub(crate) keeper: K,
+    pub(crate) numbers: Numbers,
     pub(crate) batch: Option<Batch>,
     pub(crate) whole: bool,
     pub(crate) stopped: bool,
@@ -39,6 +42,7 @@ impl<K: Keeper> Replica<K> {
     /// clear. Takes no memory.
     pub fn open(keeper: K) -> Result<Replica<K>, OpenError<K>>
         ensures opened { IfOk result (λ replica. replica_state K.told K.fuse replica ≡ opened_state (K.told keeper) (K.fuse keeper)) }
+        ensures counted { IfOk result (λ replica. IsCounted (K.told replica.keeper) replica.numbers) }
         ensures refused { IfErr result (λ error. (K.told error.keeper ≡ K.told keeper) × (K.fuse error.keeper ≡ K.fuse keeper)) }
         ensures cause { IfErr result (λ error. Rose (K.faults keeper) (K.faults error.keeper)) }
     {
@@ -46,6 +50,7 @@ impl<K: Keeper> Replica<K> {
         match keeper.summary() {
             Ok(summary) => Ok(Replica {
                 keeper,
+                numbers: numbers_of(summary),
                 batch: None,
                 whole: !summary.mark,
                 stopped: false,

@@ -8,6 +8,7 @@ ghost use Rattle.mc_core.specs.Events.{Part};
 ghost use Rattle.mc_core.specs.Plans.{IsShaped, IsSomePlan, plan_events, plan_rows};
 ghost use Rattle.mc_core.specs.Puts.{PutPlan, put_refusal};
 ghost use Rattle.mc_core.specs.Refusals.{CoreCause, Is};
+ghost use Rattle.mc_core.specs.Reports.{StaysCounted};
 ghost use Rattle.mc_core.specs.Replica.{replica_state};
 
 use crate::error::stops;
@@ -26,6 +27,7 @@ impl<K: Keeper> Replica<K> {
     pub fn put(&mut self, alloc: Global, key: &str, value: &[u8]) -> Result<Written, CoreError>
         ensures call { Told (replica_state K.told K.fuse self.old) (replica_state K.told K.fuse self.new) (λ s new.
             Call (Is (put_refusal s key.now value.now)) (PutPlan s key.now value.now) (λ left. left ≡ s) (Rose (K.own self.old.keeper) (K.own self.new.keeper)) result s new) }
+        ensures counted { StaysCounted self.new.stopped (K.told self.old.keeper) self.old.numbers (K.told self.new.keeper) self.new.numbers }
         ensures own { K.own self.old.keeper ≤ K.own self.new.keeper }
         ensures cause { CoreCause (K.faults self.old.keeper) (K.faults self.new.keeper) result }
     {
@@ -55,6 +57,7 @@ impl<K: Keeper> Replica<K> {
         ensures up { IfOk result (λ written. self.new.stopped ≡ false) }
         ensures whole { self.new.whole ≡ self.old.whole }
         ensures batch { self.new.batch ≡ self.old.batch }
+        ensures counted { StaysCounted self.new.stopped (K.told self.old.keeper) self.old.numbers (K.told self.new.keeper) self.new.numbers }
         ensures own { K.own self.old.keeper ≤ K.own self.new.keeper }
         ensures cause { CoreCause (K.faults self.old.keeper) (K.faults self.new.keeper) result }
     {

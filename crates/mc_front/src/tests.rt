@@ -1,12 +1,13 @@
 // Groups of blocks over an empty keeper.
-ghost use Rattle.std.specs.Prelude.{◌≡◌};
+ghost use Rattle.std.specs.Prelude.{◌≡◌, IfSome};
 ghost use Rattle.mc_model.specs.declared.block.Block.{Block};
 ghost use Rattle.mc_model.specs.Ascending.{is_once};
 ghost use Rattle.mc_model.specs.Front.{same_cid, is_processed};
+ghost use Rattle.mc_keep.specs.New.{AreNew};
 
 use super::*;
 use mc_base::{Cid, List};
-use mc_keep::{Changes, HeadRow};
+use mc_keep::{Changes, HeadRow, KeepError, Keeper};
 use mc_keep_mem::{FaultPlan, MemKeeper};
 use mc_model::{Block, Delta};
 use std::alloc::{AllocError, Global};
@@ -55,7 +56,19 @@ fn changes_of(alloc: Global, blocks: &[Block], whole: bool) -> Result<(u64, Chan
     if !are_once(blocks) {
         return Err("a block stands twice".into());
     }
-    let mut keeper = MemKeeper::new(alloc, FaultPlan::nothing(alloc))?;
+    let keeper = MemKeeper::new(alloc, FaultPlan::nothing(alloc))?;
+    Ok(changes_in(keeper, alloc, blocks, whole)?)
+}
+
+fn changes_in<K: Keeper + Drop>(
+    keeper: K,
+    alloc: Global,
+    blocks: &[Block],
+    whole: bool,
+) -> Result<(u64, Changes), KeepError>
+    requires new { IfSome (K.told keeper) (λ kept. AreNew kept blocks.now) }
+{
+    let mut keeper = keeper;
     let mut changes = Changes::new(alloc);
     let gaps = front_changes(&mut keeper, alloc, blocks, whole, &mut changes)?;
     Ok((gaps, changes))

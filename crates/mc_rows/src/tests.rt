@@ -1,12 +1,13 @@
 // Groups of three blocks, merged over an empty keeper.
-ghost use Rattle.std.specs.Prelude.{◌≡◌, true, map};
+ghost use Rattle.std.specs.Prelude.{◌≡◌, true, map, IfSome};
 ghost use Rattle.mc_model.specs.declared.block.Block.{Block};
 ghost use Rattle.mc_model.specs.Ascending.{is_once};
 ghost use Rattle.mc_model.specs.Front.{same_cid};
+ghost use Rattle.mc_keep.specs.New.{AreNew};
 
 use crate::merge;
 use mc_base::{Bytes, Cid, List, Text};
-use mc_keep::Changes;
+use mc_keep::{Changes, KeepError, Keeper};
 use mc_keep_mem::{FaultPlan, MemKeeper};
 use mc_model::{Block, Delta, Element, Tomb, id_of};
 use std::alloc::Global;
@@ -92,11 +93,23 @@ fn are_distinct(blocks: &[Block]) -> bool
 }
 
 fn merged(alloc: Global, blocks: &[Block]) -> Result<Changes, Fail> {
-    let mut changes = Changes::new(alloc);
     if are_distinct(blocks) {
-        let mut keeper = MemKeeper::new(alloc, FaultPlan::nothing(alloc))?;
-        merge(&mut keeper, alloc, blocks, &mut changes)?;
+        let keeper = MemKeeper::new(alloc, FaultPlan::nothing(alloc))?;
+        return Ok(merged_in(keeper, alloc, blocks)?);
     }
+    Ok(Changes::new(alloc))
+}
+
+fn merged_in<K: Keeper + Drop>(
+    keeper: K,
+    alloc: Global,
+    blocks: &[Block],
+) -> Result<Changes, KeepError>
+    requires new { IfSome (K.told keeper) (λ kept. AreNew kept blocks.now) }
+{
+    let mut keeper = keeper;
+    let mut changes = Changes::new(alloc);
+    merge(&mut keeper, alloc, blocks, &mut changes)?;
     Ok(changes)
 }
 

@@ -1,0 +1,152 @@
+-- A delete, from the blocks that it makes and takes up.
+use Rattle.std.proofs.Common.{◌≡◌, ◌≤◌, ℕ, Bool, true, false, List, [], length, take, Option, Some, None, Result, Ok, Err, refl, sym, ◌∙◌, ap, subst, arith, inl, inr}
+use Rattle.std.specs.Prelude.{IfSome}
+use Rattle.std.specs.List.{list_all}
+use Rattle.std.proofs.lemmas.List.{append-nil}
+use Rattle.mc_base.proofs.Telling.{told_weaker}
+use Rattle.mc_base.specs.Causes.{Rose}
+use Rattle.mc_base.specs.Told.{Told}
+use Rattle.mc_base.specs.declared.cid.Cid.{Cid}
+use Rattle.mc_model.specs.declared.delta.Delta.{Delta}
+use Rattle.mc_model.specs.Cuts.{pairs}
+use Rattle.mc_model.specs.Front.{is_among}
+use Rattle.mc_model.specs.Kept.{Kept, IsKept, processed}
+use Rattle.mc_model.specs.Made.{head_cids, next_priority}
+use Rattle.mc_model.specs.State.{Durable, OpenBatch, Running, durable_of, kept_of}
+use Rattle.mc_keep.specs.declared.fuse.Fuse.{Fuse}
+use Rattle.mc_core.specs.declared.deletes.Deleted.{Deleted}
+use Rattle.mc_core.specs.declared.deletes.MadeBlock.{MadeBlock}
+use Rattle.mc_core.specs.declared.error.CoreError.{CoreError}
+use Rattle.mc_core.specs.declared.error.CoreError.TheVariants.{BadKey, ValueTooLong, BlockTooLarge, PriorityFull, Clash, KeeperFault, Stopped, NoBatch, BatchOpen, Memory}
+use Rattle.mc_core.specs.Calls.{Call}
+use Rattle.mc_core.specs.Deletes.{chain_clash, AreMade, AreNext, IsDelete, DeleteKeptRefusal, DeletePlan, DeleteRefusal, DeleteShort, all_events, Takes}
+use Rattle.mc_core.specs.Events.{ReplicaState, state_of, Goes}
+use Rattle.mc_core.specs.Puts.{next_links}
+use Rattle.mc_core.specs.Refusals.{IsDue, IfFault, key_refusal, stops}
+use Rattle.mc_core.specs.Replica.{run_of, running_with}
+use Rattle.mc_core.proofs.CallFacts.{at, Calls, early_call}
+use Rattle.mc_core.proofs.DeleteFacts.{clash_left}
+use Rattle.mc_core.proofs.EventFacts.{breaks_rose}
+use Rattle.mc_core.proofs.PutFacts.{BackLaw}
+use Rattle.mc_core.proofs.TakenFacts.{next_all, events_all, made_take, made_length}
+
+-- the links to the heads are processed
+abbrev pub HeadsLaw : Type 0
+HeadsLaw = (kept : Kept) → IsKept kept → list_all (is_among kept.order) (head_cids (processed kept)) ≡ true
+
+-- the blocks may be taken up
+pub delete_next : (law : HeadsLaw) (told mid : Option Kept) (key : List ℕ) (blocks : List MadeBlock) → mid ≡ told → IfSome told IsKept → IfSome told (λ kept. IsDelete kept key blocks)
+    → IfSome mid (λ kept. AreNext kept blocks)
+delete_next law told mid key blocks e sound is = subst (λ t. IfSome t (λ kept. AreNext kept blocks)) (sym e) (over told sound is)
+  where
+    over : (told : Option Kept) → IfSome told IsKept → IfSome told (λ kept. IsDelete kept key blocks) → IfSome told (λ kept. AreNext kept blocks)
+    over None sound is = tt
+    over (Some kept) sound is =
+        next_all is.deltas blocks kept (next_links kept) (next_priority (processed kept)) key (pairs (processed kept) key) is.is.cuts is.are (law kept sound)
+
+chain_none : (deltas : List Delta) (blocks : List MadeBlock) (kept : Kept) (links : List Cid) → AreMade kept links deltas blocks → chain_clash kept links deltas ≡ None
+chain_none deltas blocks kept links are = ap (chain_clash kept links) (sym (append-nil deltas)) ∙ clash_left deltas [] blocks kept links are
+
+abbrev running : Durable → Running → Option Fuse → ReplicaState
+running durable run fuse = record { state = record { durable = durable; run = Some run }; fuse = fuse }
+
+abbrev DeleteCall : List ℕ → Type 0 → Result Deleted CoreError → ReplicaState → ReplicaState → Type 0
+DeleteCall key rose result s new = Call (DeleteRefusal s key) (DeletePlan s key) (DeleteShort s key) rose result s new
+
+plan_is : (durable : Durable) (run : Running) (fuse : Option Fuse) (key : List ℕ) (blocks : List MadeBlock) (deleted : Deleted) → IsDelete (kept_of durable) key blocks → deleted.blocks ≡ length blocks
+    → DeletePlan (running durable run fuse) key (all_events (kept_of durable) blocks) deleted
+plan_is durable run fuse key blocks deleted is e = (
+  is.deltas,
+  is.is,
+  events_all is.deltas blocks (kept_of durable) (next_links (kept_of durable)) is.are,
+  e ∙ made_length is.deltas blocks (kept_of durable) (next_links (kept_of durable)) is.are,
+)
+
+call_of : (durable : Durable) (run : Running) (fuse : Option Fuse) (key : List ℕ) (blocks : List MadeBlock) (rose : Type 0) (result : Result Deleted CoreError) (new : ReplicaState) → key_refusal key ≡ None
+    → IsDelete (kept_of durable) key blocks → Takes blocks rose result (running durable run fuse) new → DeleteCall key rose result (running durable run fuse) new
+call_of durable run fuse key blocks rose (Ok deleted) new good is takes = record {
+  allowed = subst (λ fault. DeleteKeptRefusal (kept_of durable) key fault None) (sym good)
+      (is.deltas, is.is, chain_none is.deltas blocks (kept_of durable) (next_links (kept_of durable)) is.are);
+  events = all_events (kept_of durable) blocks;
+  plan = plan_is durable run fuse key blocks deleted is takes.1;
+  goes = takes.0;
+}
+call_of durable run fuse key blocks rose (Err KeeperFault) new good is takes =
+    let deleted : Deleted = record { blocks = length blocks } in
+    record { events = all_events (kept_of durable) blocks; begins = inr (deleted, plan_is durable run fuse key blocks deleted is refl); breaks = takes }
+call_of durable run fuse key blocks rose (Err Memory) new good is takes =
+    let links : List Cid = next_links (kept_of durable) in
+    inr (
+      is.deltas,
+      takes.0,
+      is.is,
+      subst (λ events. Goes events (running durable run fuse) new)
+          (events_all (take takes.0 is.deltas) (take takes.0 blocks) (kept_of durable) links (made_take takes.0 is.deltas blocks (kept_of durable) links is.are)) takes.1,
+    )
+call_of durable run fuse key blocks rose (Err (BadKey fault)) new good is takes = absurd takes
+call_of durable run fuse key blocks rose (Err ValueTooLong) new good is takes = absurd takes
+call_of durable run fuse key blocks rose (Err (BlockTooLarge len)) new good is takes = absurd takes
+call_of durable run fuse key blocks rose (Err PriorityFull) new good is takes = absurd takes
+call_of durable run fuse key blocks rose (Err (Clash cid)) new good is takes = absurd takes
+call_of durable run fuse key blocks rose (Err Stopped) new good is takes = absurd takes
+call_of durable run fuse key blocks rose (Err NoBatch) new good is takes = absurd takes
+call_of durable run fuse key blocks rose (Err BatchOpen) new good is takes = absurd takes
+
+takes_rose : (blocks : List MadeBlock) (P Q : Type 0) (result : Result Deleted CoreError) (s new : ReplicaState) → (P → Q) → Takes blocks P result s new → Takes blocks Q result s new
+takes_rose blocks P Q (Ok deleted) s new f takes = takes
+takes_rose blocks P Q (Err KeeperFault) s new f takes = breaks_rose (all_events (kept_of s.state.durable) blocks) P Q s new f takes
+takes_rose blocks P Q (Err Memory) s new f takes = takes
+takes_rose blocks P Q (Err (BadKey fault)) s new f takes = takes
+takes_rose blocks P Q (Err ValueTooLong) s new f takes = takes
+takes_rose blocks P Q (Err (BlockTooLarge len)) s new f takes = takes
+takes_rose blocks P Q (Err PriorityFull) s new f takes = takes
+takes_rose blocks P Q (Err (Clash cid)) s new f takes = takes
+takes_rose blocks P Q (Err Stopped) s new f takes = takes
+takes_rose blocks P Q (Err NoBatch) s new f takes = takes
+takes_rose blocks P Q (Err BatchOpen) s new f takes = takes
+
+-- a delete whose blocks were made
+pub delete_call : (back : BackLaw) (told mid : Option Kept) (fuse fuse_mid : Option Fuse) (stop : Bool) (batch : Option OpenBatch) (whole : Bool) (new : Option ReplicaState) (key : List ℕ) (blocks : List MadeBlock)
+    (own own_mid own_new : ℕ) (result : Result Deleted CoreError) → stop ≡ false → mid ≡ told → fuse_mid ≡ fuse → own ≤ own_mid → key_refusal key ≡ None → IfSome told (λ kept. IsDelete kept key blocks)
+    → Told (state_of mid fuse_mid (run_of stop batch whole)) new (Takes blocks (Rose own_mid own_new) result)
+    → Told (state_of told fuse (run_of stop batch whole)) new (DeleteCall key (Rose own own_new) result)
+delete_call back told mid fuse fuse_mid stop batch whole new key blocks own own_mid own_new result up e f later good is takes =
+    subst (λ b. Told (state_of told fuse (run_of b batch whole)) new (DeleteCall key (Rose own own_new) result)) (sym up)
+    (over told new is (subst (λ b. Told (state_of told fuse (run_of b batch whole)) new (Takes blocks (Rose own_mid own_new) result)) up
+    (subst (λ x. Told (state_of told x (run_of stop batch whole)) new (Takes blocks (Rose own_mid own_new) result)) f
+    (subst (λ t. Told (state_of t fuse_mid (run_of stop batch whole)) new (Takes blocks (Rose own_mid own_new) result)) e takes))))
+  where
+    over : (told : Option Kept) (new : Option ReplicaState) → IfSome told (λ kept. IsDelete kept key blocks)
+        → Told (state_of told fuse (run_of false batch whole)) new (Takes blocks (Rose own_mid own_new) result) → Told (state_of told fuse (run_of false batch whole)) new (DeleteCall key (Rose own own_new) result)
+    over None new is takes = tt
+    over (Some kept) None is takes = absurd takes
+    over (Some kept) (Some after) is takes =
+        call_of (durable_of kept) (running_with batch whole) fuse key blocks (Rose own own_new) result after good (subst (λ k. IsDelete k key blocks) (sym (back kept)) is)
+        (takes_rose blocks (Rose own_mid own_new) (Rose own own_new) result (running (durable_of kept) (running_with batch whole) fuse) after (λ r. omega (arith, r, later)) takes)
+
+-- a delete that made no blocks
+
+short_is : (key : List ℕ) (rose : Type 0) (error : CoreError) (s new : ReplicaState) → Calls {T = Deleted} (λ s. DeleteRefusal s key) (λ s. DeletePlan s key) rose (Err error) s new → DeleteCall key rose (Err error) s new
+short_is key rose KeeperFault s new call = call
+short_is key rose Memory s new call = inl call
+short_is key rose (BadKey fault) s new call = call
+short_is key rose ValueTooLong s new call = call
+short_is key rose (BlockTooLarge len) s new call = call
+short_is key rose PriorityFull s new call = call
+short_is key rose (Clash cid) s new call = call
+short_is key rose Stopped s new call = call
+short_is key rose NoBatch s new call = call
+short_is key rose BatchOpen s new call = call
+
+delete_due : (back : BackLaw) (told : Option Kept) (fuse : Option Fuse) (batch : Option OpenBatch) (whole : Bool) (key : List ℕ) (error : CoreError) → IfSome told (λ kept. IsDue (DeleteKeptRefusal kept key (key_refusal key)) error)
+    → IfSome told (λ kept. IsDue (DeleteRefusal (at kept fuse (run_of false batch whole)) key) error)
+delete_due back None fuse batch whole key error due = tt
+delete_due back (Some kept) fuse batch whole key error due = subst (λ k. IsDue (DeleteKeptRefusal k key (key_refusal key)) error) (sym (back kept)) due
+
+pub delete_early : (back : BackLaw) (told told_new : Option Kept) (fuse fuse_new : Option Fuse) (stop stop_new : Bool) (batch : Option OpenBatch) (whole : Bool) (key : List ℕ) (rose : Type 0) (error : CoreError)
+    → stop ≡ false → told_new ≡ told → fuse_new ≡ fuse → stop_new ≡ stops error false → IfFault error rose
+    → IfSome told (λ kept. IsDue (DeleteKeptRefusal kept key (key_refusal key)) error)
+    → Told (state_of told fuse (run_of stop batch whole)) (state_of told_new fuse_new (run_of stop_new batch whole)) (DeleteCall key rose (Err error))
+delete_early back told told_new fuse fuse_new stop stop_new batch whole key rose error up e f g r due =
+    told_weaker (Calls {T = Deleted} (λ s. DeleteRefusal s key) (λ s. DeletePlan s key) rose (Err error)) (DeleteCall key rose (Err error)) (short_is key rose error) _ _
+    (early_call (λ s. DeleteRefusal s key) (λ s. DeletePlan s key) told told_new fuse fuse_new stop stop_new batch whole rose error up e f g r (delete_due back told fuse batch whole key error due))

@@ -1,0 +1,17 @@
+use Rattle.std.proofs.Common.{sym, ◌∙◌}
+use Rattle.mc_core.proofs.DeleteFacts.{made_clashes, check_fails, made_is}
+use Rattle.mc_core.proofs.deletes.make_one.Goals as goal
+
+pub returns-then-has_made-clause-refused : goal.returns-then-has_made-clause-refused
+returns-then-has_made-clause-refused g c =
+    made_clashes _ c.args.before.now c.args.links c.args.delta _ (sym c.has_made.ensures ∙ c.if-has_made.true) (rw (c.as_slice.ensures) at c.in_ok-made.ensures.cid)
+
+pub returns-in-Err-clause-refused : goal.returns-in-Err-clause-refused
+returns-in-Err-clause-refused g c =
+    check_fails _ c.args.before.now c.args.links c.args.delta _ _ _ (sym c.has_made.ensures ∙ c.if-has_made.false) (rw (c.as_slice.ensures) at c.in_ok-made.ensures.cid) (rw (c.as_slice.ensures) at c.in_ok-made.ensures.bytes)
+    (rw (c.as_slice-2.ensures) at c.in-Err.ensures.refused)
+
+pub returns-clause-made : goal.returns-clause-made
+returns-clause-made g c =
+    made_is _ c.args.before.now c.args.links c.args.delta _ _ _ (sym c.has_made.ensures ∙ c.if-has_made.false) (rw (c.as_slice.ensures) at c.in_ok-made.ensures.cid) (rw (c.as_slice.ensures) at c.in_ok-made.ensures.bytes)
+    (rw (c.as_slice.ensures) at c.in_ok-made.ensures.good) (rw (c.as_slice-2.ensures) at c.in-Ok.ensures.allowed) c.in-Ok.ensures.known

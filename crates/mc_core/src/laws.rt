@@ -1,0 +1,42 @@
+// What holds of every replica, by the definitions.
+ghost use Rattle.std.specs.Prelude.{◌≡◌, ◌≢◌, ◌++◌, [], ℕ, List, Some, true, slice_get};
+ghost use Rattle.mc_base.specs.Causes.{Rose};
+ghost use Rattle.mc_base.specs.declared.cid.Cid.{Cid};
+ghost use Rattle.mc_model.specs.declared.block.Block.{Block};
+ghost use Rattle.mc_model.specs.declared.delta.Delta.{Delta};
+ghost use Rattle.mc_model.specs.Cuts.{Pair, pairs};
+ghost use Rattle.mc_model.specs.Events.{Event, GoesOn};
+ghost use Rattle.mc_model.specs.Kept.{Kept, processed};
+ghost use Rattle.mc_model.specs.Live.{value_row};
+ghost use Rattle.mc_model.specs.State.{kept_of};
+ghost use Rattle.mc_core.specs.Events.{ReplicaState, Goes, Breaks};
+ghost use Rattle.mc_core.specs.Hidden.{HideThese, have_bytes};
+ghost use Rattle.mc_core.specs.Puts.{made_events, written_of};
+
+use mc_base32::read_again;
+use mc_model::{greatest_is_greatest, order_and_store_grow};
+
+/// No call takes a block out of the processed ones, or changes its position; nor takes one out of the stored ones, or
+/// changes its bytes: whether all its events happened, or were cut short.
+pub fn replicas_only_grow()
+    ensures goes { (events : List Event) (s new : ReplicaState) → Goes events s new → GoesOn s.state.durable new.state.durable }
+    ensures breaks { (events : List Event) (before now : ℕ) (s new : ReplicaState) → Breaks events (Rose before now) s new → GoesOn s.state.durable new.state.durable }
+{
+    order_and_store_grow();
+}
+
+/// A made block that was taken up stands at the position that was answered for it.
+pub fn written_blocks_stand()
+    ensures { (kept : Kept) (links : List Cid) (delta : Delta) (s new : ReplicaState) → kept ≡ kept_of s.state.durable → Goes (made_events kept links delta) s new →
+        slice_get new.state.durable.order (written_of kept links delta).position ≡ Some (written_of kept links delta).cid }
+{}
+
+/// A delete takes the blocks with a live element of its key in ascending order. So while the last one is not hidden the
+/// value of the key is the same, whichever first blocks of the delete are processed.
+pub fn deletes_hide_the_value_last()
+    ensures { (kept : Kept) (key : List ℕ) (taken rest : List Pair) (made : List Block) → have_bytes (processed kept) ≡ true → pairs (processed kept) key ≡ taken ++ rest → rest ≢ [] →
+        HideThese key taken made → value_row (processed kept ++ made) key ≡ value_row (processed kept) key }
+{
+    greatest_is_greatest();
+    read_again();
+}

@@ -1,0 +1,75 @@
+// The numbers of a replica, without a look at its keeper.
+ghost use Rattle.std.specs.Prelude.{◌≡◌, IfOk, IfErr, IfSome, true};
+ghost use Rattle.mc_core.specs.declared.error.CoreError.{CoreError as Refused};
+ghost use Rattle.mc_core.specs.Reports.{IsAfter, IsCounted, IsReport};
+
+use crate::{CoreError, Replica};
+use mc_keep::{Changes, Keeper, Summary};
+
+// How many blocks are processed and stored, at most `u64::MAX`, and the dirty mark.
+#[derive(Clone, Copy)]
+pub(crate) struct Numbers {
+    pub(crate) processed: u64,
+    pub(crate) stored: u64,
+    pub(crate) mark: bool,
+}
+
+/// The numbers of a replica.
+#[derive(Clone, Copy, Debug, PartialEq, Eq)]
+pub struct Report {
+    /// How many blocks are processed, at most `u64::MAX`.
+    pub processed: u64,
+    /// How many blocks are stored, at most `u64::MAX`.
+    pub stored: u64,
+    /// Whether the dirty mark is set.
+    pub mark: bool,
+    /// Whether every gap counts as wanted.
+    pub whole: bool,
+}
+
+impl<K: Keeper> Replica<K> {
+    /// The numbers of the replica. Takes no memory and doesn't look at the keeper. They are right where the replica is
+    /// counted, which an opening makes and every call keeps. Refusals: `Stopped`, and exactly where an earlier call
+    /// answered `KeeperFault`.
+    pub fn report(&self) -> Result<Report, CoreError>
+        ensures report { IfOk result (λ report. IsCounted (K.told self.now.keeper) self.now.numbers → IfSome (K.told self.now.keeper) (λ kept. IsReport kept self.now.whole report)) }
+        ensures refused { IfErr result (λ error. (error ≡ Refused.Stopped) × (self.now.stopped ≡ true)) }
+        ensures stopped { self.now.stopped ≡ true → IfOk result (λ report. ⊥) }
+    {
+        if self.stopped {
+            return Err(CoreError::Stopped);
+        }
+        Ok(Report {
+            processed: self.numbers.processed,
+            stored: self.numbers.stored,
+            mark: self.numbers.mark,
+            whole: self.whole,
+        })
+    }
+}
+
+// The numbers of what a keeper sums up.
+pub(crate) fn numbers_of(summary: Summary) -> Numbers
+    ensures { (result.processed ≡ summary.processed) × (result.stored ≡ summary.stored) × (result.mark ≡ summary.mark) }
+{
+    Numbers {
+        processed: summary.processed,
+        stored: summary.stored,
+        mark: summary.mark,
+    }
+}
+
+// The numbers after these changes.
+pub(crate) fn numbers_after(numbers: Numbers, changes: &Changes) -> Numbers
+    ensures { IsAfter numbers changes.now result }
+{
+    Numbers {
+        processed: numbers
+            .processed
+            .saturating_add(changes.marks.as_slice().len() as u64),
+        stored: numbers
+            .stored
+            .saturating_add(changes.store.as_slice().len() as u64),
+        mark: changes.mark.unwrap_or(numbers.mark),
+    }
+}
