@@ -1,16 +1,57 @@
 -- A line whose command was done.
-use Rattle.std.proofs.Common.{◌≡◌, ℕ, List, Option, Some, Result, Ok, Err, subst, sym}
-use Rattle.std.specs.Prelude.{OnOk}
-use Rattle.mc_model.specs.declared.delta.Delta.{Delta}
-use Rattle.mc_script.specs.Line.{read_of}
+use Rattle.std.proofs.Common.{◌≡◌, ◌≤◌, ◌+◌, ◌-◌, ◌^◌, ℕ, Bool, true, false, List, [], ◌∷◌, Option, Some, None, Result, Ok, Err, refl, subst, sym, ap, arith}
+use Rattle.std.specs.Prelude.{OnOk, IfOk, min, cond}
+use Rattle.std.specs.Io.KnownBytes.{Appends}
+use Rattle.mc_base.specs.Causes.{Counts, Rose}
+use Rattle.mc_base.specs.Told.{Told, AppendsPart}
+use Rattle.mc_core.specs.Events.{ReplicaState}
+use Rattle.mc_script.specs.ReplyText.{reply_text}
 use Rattle.mc_script.specs.declared.command.Command.{Command}
-use Rattle.mc_app.specs.Runs.{LineStep}
-use Rattle.mc_app.specs.Executes.{Answers, AnswersPart, Executes, ExecutesPart}
+use Rattle.mc_script.specs.declared.reply.Reply.{Reply}
+use Rattle.mc_script.specs.declared.reply.Reply.TheVariants.{Done, Priority, Deleted, Value, Has, Rows, Heads, Stopped, FaultKeeper, RefusedKey, RefusedValue, RefusedSize, RefusedPriority, RefusedClash, RefusedBatch}
+use Rattle.mc_app.specs.declared.acting.ActError.{ActError}
+use Rattle.mc_app.specs.declared.entry.LineEntry.{LineEntry}
+use Rattle.mc_app.specs.Record.{Recorded}
+use Rattle.mc_app.specs.Runs.{Answer, LineStep, IsWithin, fault_of, is_fault}
+use Rattle.mc_app.specs.Step.{Step, has_replica}
+use Rattle.mc_app.specs.Executes.{Executes, ExecutesPart, IsAnswered}
 
-module _ (old : List Delta) (line : List ℕ) (command : Command) (new : List Delta) (before after : Option (List ℕ)) (says : read_of line ≡ Some (Some command)) where
-  pub executes : {T E : Type 0} (result : Result T E) → OnOk result (Answers old command new before after) → OnOk result (Executes old line new before after)
-  executes (Ok value) answers = record { reply = Some answers.reply; step = subst (λ (read : Option (Option Command)). LineStep old read new (Some answers.reply)) (sym says) answers.step; written = answers.written }
-  executes (Err error) answers = tt
+within_none : (before now : ℕ) → before ≤ now → IsWithin before now 0
+within_none before now later = omega (arith, later)
 
-  pub executes_part : AnswersPart old command new before after → ExecutesPart old line new before after
-  executes_part answers = record { reply = Some answers.reply; step = subst (λ (read : Option (Option Command)). LineStep old read new (Some answers.reply)) (sym says) answers.step; written = answers.written }
+-- one reply is at most one fault, and only where the count rose
+within_one : (reply : Reply) (before now : ℕ) → before ≤ now → (reply ≡ FaultKeeper → Rose before now) → IsWithin before now (cond (is_fault reply) 1 0)
+within_one FaultKeeper before now later rose = rose refl
+within_one Done before now later rose = within_none before now later
+within_one (Priority priority) before now later rose = within_none before now later
+within_one (Deleted blocks) before now later rose = within_none before now later
+within_one (Value value) before now later rose = within_none before now later
+within_one (Has found) before now later rose = within_none before now later
+within_one (Rows rows) before now later rose = within_none before now later
+within_one (Heads heads) before now later rose = within_none before now later
+within_one Stopped before now later rose = within_none before now later
+within_one (RefusedKey number) before now later rose = within_none before now later
+within_one RefusedValue before now later rose = within_none before now later
+within_one (RefusedSize len) before now later rose = within_none before now later
+within_one RefusedPriority before now later rose = within_none before now later
+within_one (RefusedClash cid) before now later rose = within_none before now later
+within_one RefusedBatch before now later rose = within_none before now later
+
+module _ (old : Option (List ReplicaState)) (faults : ℕ) (command : Command) (new : Option (List ReplicaState)) (faults_now : ℕ) where
+  pub answered : (Names : LineEntry → Type 0) (entries after : List LineEntry) (result : Result Reply ActError)
+      → IfOk result (λ reply. Recorded (λ e. Names e × Told old new (λ w w2. Step w command e reply w2)) entries after) → OnOk result (has_replica command ≡ true) → Counts faults faults_now (result ≡ Ok FaultKeeper)
+      → IfOk result (IsAnswered old faults command new faults_now)
+  answered Names entries after (Err error) line there cause = tt
+  answered Names entries after (Ok reply) line there cause = record {
+    answer = record { reply = reply; entry = line.entry };
+    says = refl;
+    step = (there, line.holds.1);
+    counted = within_one reply faults faults_now cause.later (λ fault. cause.rose (ap (λ (r : Reply). Ok r) fault));
+  }
+
+  pub executes : {E : Type 0} (reply : Reply) (before after : Option (List ℕ)) (result : Result (Unit {0}) E) → IsAnswered old faults command new faults_now reply → OnOk result (Appends before after (reply_text reply)) → OnOk result (Executes old faults (Some (Some command)) new faults_now before after)
+  executes reply before after (Err error) is written = tt
+  executes reply before after (Ok done) is written = record { answer = Some is.answer; step = is.step; counted = is.counted; written = subst (λ (r : Reply). Appends before after (reply_text r)) (sym is.says) written }
+
+  pub executes_part : (reply : Reply) (before after : Option (List ℕ)) → IsAnswered old faults command new faults_now reply → AppendsPart before after (reply_text reply) → ExecutesPart old faults (Some (Some command)) new faults_now before after
+  executes_part reply before after is written = record { answer = Some is.answer; step = is.step; counted = is.counted; written = subst (λ (r : Reply). AppendsPart before after (reply_text r)) (sym is.says) written }

@@ -1,33 +1,31 @@
--- A command or a line, its reply, and what was written of it.
-use Rattle.std.specs.Prelude.{ℕ, List, Option}
+-- A line, its answer, and what was written of it.
+use Rattle.std.specs.Prelude.{ℕ, List, Option, Some, ◌≡◌}
 use Rattle.std.specs.Io.KnownBytes.{Appends}
 use Rattle.mc_base.specs.Told.{AppendsPart}
-use Rattle.mc_model.specs.declared.delta.Delta.{Delta}
-use Rattle.mc_script.specs.Line.{read_of}
-use Rattle.mc_script.specs.ReplyText.{text_of_reply}
+use Rattle.mc_core.specs.Events.{ReplicaState}
+use Rattle.mc_script.specs.Line.{line_of}
 use Rattle.mc_script.specs.declared.command.Command.{Command}
 use Rattle.mc_script.specs.declared.reply.Reply.{Reply}
-use Rattle.mc_app.specs.Runs.{Step, LineStep, text_of_answer}
+use Rattle.mc_app.specs.Runs.{Answer, LineStep, IsWithin, fault_of, text_of_answer}
 
--- a command was done, and its reply was written
-pub record Answers (old : List Delta) (command : Command) (new : List Delta) (before after : Option (List ℕ)) : Type 0 where
-  pub reply : Reply
-  pub step : Step old command new reply
-  pub written : Appends before after (text_of_reply reply)
+-- this was read of a line, it was done and answered, and the answer was written; the keeper's count rose from one number to
+-- another
+pub record Executes (old : Option (List ReplicaState)) (faults : ℕ) (read : Option (Option Command)) (new : Option (List ReplicaState)) (faults_now : ℕ) (before after : Option (List ℕ)) : Type 0 where
+  pub answer : Option Answer
+  pub step : LineStep old read new answer
+  pub counted : IsWithin faults faults_now (fault_of answer)
+  pub written : Appends before after (text_of_answer answer)
 
--- a command was done, and some first bytes of its reply were written
-pub record AnswersPart (old : List Delta) (command : Command) (new : List Delta) (before after : Option (List ℕ)) : Type 0 where
-  pub reply : Reply
-  pub step : Step old command new reply
-  pub written : AppendsPart before after (text_of_reply reply)
+-- and some first bytes of the answer were written
+pub record ExecutesPart (old : Option (List ReplicaState)) (faults : ℕ) (read : Option (Option Command)) (new : Option (List ReplicaState)) (faults_now : ℕ) (before after : Option (List ℕ)) : Type 0 where
+  pub answer : Option Answer
+  pub step : LineStep old read new answer
+  pub counted : IsWithin faults faults_now (fault_of answer)
+  pub written : AppendsPart before after (text_of_answer answer)
 
--- the same for a line
-pub record Executes (old : List Delta) (line : List ℕ) (new : List Delta) (before after : Option (List ℕ)) : Type 0 where
-  pub reply : Option Reply
-  pub step : LineStep old (read_of line) new reply
-  pub written : Appends before after (text_of_answer reply)
-
-pub record ExecutesPart (old : List Delta) (line : List ℕ) (new : List Delta) (before after : Option (List ℕ)) : Type 0 where
-  pub reply : Option Reply
-  pub step : LineStep old (read_of line) new reply
-  pub written : AppendsPart before after (text_of_answer reply)
+-- a command was done and answered, and nothing is written yet
+pub record IsAnswered (old : Option (List ReplicaState)) (faults : ℕ) (command : Command) (new : Option (List ReplicaState)) (faults_now : ℕ) (reply : Reply) : Type 0 where
+  pub answer : Answer
+  pub says : answer.reply ≡ reply
+  pub step : LineStep old (Some (Some command)) new (Some answer)
+  pub counted : IsWithin faults faults_now (fault_of (Some answer))

@@ -1,38 +1,47 @@
 -- How far a script was answered.
-use Rattle.std.specs.Prelude.{◌≡◌, ◌≤◌, ◌⊎◌, ℕ, ◌+◌, ◌-◌, List, [], ◌∷◌, ◌++◌, length, Option, None, All, codes}
+use Rattle.std.specs.Prelude.{◌≡◌, ◌≤◌, ◌⊎◌, ℕ, ◌+◌, ◌-◌, List, [], ◌∷◌, ◌++◌, length, Option, None, Some, All, codes, ⊤, false}
 use Rattle.std.specs.Fmt.{decimal}
-use Rattle.mc_model.specs.declared.delta.Delta.{Delta}
-use Rattle.mc_script.specs.Line.{read_of}
-use Rattle.mc_script.specs.declared.reply.Reply.{Reply}
+use Rattle.mc_core.specs.Events.{ReplicaState}
+use Rattle.mc_script.specs.Line.{line_of}
+use Rattle.mc_script.specs.declared.command.Command.{Command}
 use Rattle.mc_app.specs.Lines.{lines_of, line_max, script_max, IsTooLong}
-use Rattle.mc_app.specs.Runs.{Runs}
+use Rattle.mc_app.specs.Runs.{Answer, Runs, faults_in}
+use Rattle.mc_app.specs.Step.{has_replica}
 
--- the first lines of a script, which keep the limits, with their replies and the deltas after them
-pub record Progress (script : List ℕ) : Type 0 where
+-- the first lines of a script, which keep the limits, with their answers and what is told of the world after them; `May` says
+-- how many of the answers may be faults
+pub record Progress (script : List ℕ) (start : Option (List ReplicaState)) (May : ℕ → Type 0) : Type 0 where
   pub taken : List ℕ
   pub ahead : List ℕ
   pub lines : List (List ℕ)
-  pub replies : List (Option Reply)
-  pub deltas : List Delta
+  pub answers : List (Option Answer)
+  pub world : Option (List ReplicaState)
   pub bytes : script ≡ taken ++ ahead
   pub split : lines_of script ≡ lines ++ lines_of ahead
-  pub runs : Runs [] lines replies deltas
+  pub runs : Runs start lines answers world
+  pub faults : May (faults_in answers)
   pub within : All (λ line. length line ≤ line_max) lines
   pub in_script : length taken ≤ script_max
+
+-- what was read of a line is no command, or names a replica that isn't there
+abbrev pub IsBadCommand : Option (Option Command) → Type 0
+IsBadCommand None = ⊤
+IsBadCommand (Some None) = ⊥
+IsBadCommand (Some (Some command)) = has_replica command ≡ false
 
 -- the next line is no command
 pub record IsNoCommand (ahead : List ℕ) : Type 0 where
   pub line : List ℕ
   pub more : List (List ℕ)
   pub lines : lines_of ahead ≡ line ∷ more
-  pub none : read_of line ≡ None
+  pub bad : IsBadCommand (line_of line)
 
 -- the next line breaks a limit, where the script has room for this many bytes, or is no command
 abbrev pub IsBadLine : ℕ → List ℕ → Type 0
 IsBadLine room ahead = IsTooLong room ahead ⊎ IsNoCommand ahead
 
 -- the line behind those that were answered has this number, counted from 1, and is bad
-pub record MeetsBadLine (script : List ℕ) (progress : Progress script) (number : ℕ) : Type 0 where
+pub record MeetsBadLine (script : List ℕ) (start : Option (List ReplicaState)) (May : ℕ → Type 0) (progress : Progress script start May) (number : ℕ) : Type 0 where
   pub counted : number ≡ length progress.lines + 1
   pub bad : IsBadLine (script_max - length progress.taken) progress.ahead
 

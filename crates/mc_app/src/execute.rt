@@ -1,16 +1,22 @@
 // A line, its command, and the way of its reply into the sink.
-ghost use Rattle.std.specs.Prelude.{◌≡◌, OnOk, IsErrOf, None};
-ghost use Rattle.std.specs.Io.KnownBytes.{Keeps};
+ghost use Rattle.std.specs.Prelude.{◌≡◌, ◌≤◌, OnOk, IfOk, IsErrOf, Some, false};
+ghost use Rattle.std.specs.Io.KnownBytes.{Appends, Keeps};
 ghost use Rattle.mc_base.specs.Causes.{Counts};
-ghost use Rattle.mc_script.specs.Line.{read_of};
-ghost use Rattle.mc_app.specs.Executes.{Answers, AnswersPart, Executes, ExecutesPart};
+ghost use Rattle.mc_base.specs.Told.{AppendsPart};
+ghost use Rattle.mc_script.specs.Line.{line_of};
+ghost use Rattle.mc_script.specs.ReplyText.{reply_text};
+ghost use Rattle.mc_app.specs.declared.acting.ActError.{ActError};
+ghost use Rattle.mc_app.specs.Executes.{Executes, ExecutesPart, IsAnswered};
+ghost use Rattle.mc_app.specs.Progress.{IsBadCommand};
+ghost use Rattle.mc_app.specs.Step.{has_replica};
+ghost use Rattle.mc_app.specs.Worlds.{world_state};
 ghost use Rattle.mc_app.specs.declared.execute.ExecuteError.TheVariants.{Failed as WriteFailed, Memory};
 
-use crate::session::serve;
 use crate::write::write_text;
-use mc_base::{Bytes, Failed, List, Sink};
-use mc_model::Delta;
-use mc_script::{Command, LineError, read_line, write_reply};
+use crate::{ActError, World, act};
+use mc_base::{Bytes, Failed, Sink};
+use mc_keep::Keeper;
+use mc_script::{Command, LineError, Reply, read_line, write_reply};
 use std::alloc::{AllocError, Global};
 use thiserror::Error;
 
@@ -44,22 +50,25 @@ impl From<AllocError> for ExecuteError {
     }
 }
 
-/// Executes a line, and writes its reply. `Bad` comes exactly where the line is no command, and then nothing is
-/// written. `Failed` comes only where the sink failed, and then some first bytes of the reply are written.
-pub fn execute_line<O: Sink>(
+/// Executes a line, and writes its reply. `Bad` comes exactly where the line is no command or names a replica that isn't
+/// there, and then nothing is written and nothing changes. `Failed` comes only where the sink failed, and then some first
+/// bytes of the reply are written.
+pub fn execute_line<K: Keeper, O: Sink>(
     alloc: Global,
-    deltas: &mut List<Delta>,
+    world: &mut World<K>,
     line: &[u8],
     out: &mut O,
 ) -> Result<(), ExecuteError>
-    ensures ok { OnOk result (Executes deltas.old line.now deltas.new (O.written out.old) (O.written out.new)) }
-    ensures bad { IsErrOf result ExecuteError.Bad → (read_of line.now ≡ None) × Keeps (O.written out.old) (O.written out.new) }
-    ensures failed { IsErrOf result ExecuteError.Failed → ExecutesPart deltas.old line.now deltas.new (O.written out.old) (O.written out.new) }
+    ensures ok { OnOk result (Executes (world_state K.told K.fuse world.old) (K.faults world.old.replica.keeper) (line_of line.now) (world_state K.told K.fuse world.new) (K.faults world.new.replica.keeper) (O.written out.old) (O.written out.new)) }
+    ensures bad { IsErrOf result ExecuteError.Bad → IsBadCommand (line_of line.now) × Keeps (O.written out.old) (O.written out.new) }
+    ensures failed { IsErrOf result ExecuteError.Failed → ExecutesPart (world_state K.told K.fuse world.old) (K.faults world.old.replica.keeper) (line_of line.now) (world_state K.told K.fuse world.new) (K.faults world.new.replica.keeper) (O.written out.old) (O.written out.new) }
     ensures memory { IsErrOf result ExecuteError.Memory → Keeps (O.written out.old) (O.written out.new) }
+    ensures later { K.faults world.old.replica.keeper ≤ K.faults world.new.replica.keeper }
+    ensures desks { world.new.desks ≡ world.old.desks }
     ensures cause { Counts (O.faults out.old) (O.faults out.new) (IsErrOf result ExecuteError.Failed) }
 {
     match read_line(alloc, line) {
-        Ok(Some(command)) => answer(alloc, deltas, command, out),
+        Ok(Some(command)) => answer(alloc, world, &command, out),
         Ok(None) => Ok(()),
         Err(LineError::Bad) => Err(ExecuteError::Bad),
         Err(LineError::Memory) => Err(ExecuteError::Memory),
@@ -67,21 +76,51 @@ pub fn execute_line<O: Sink>(
 }
 
 // Does a command, and writes its reply.
-fn answer<O: Sink>(
+fn answer<K: Keeper, O: Sink>(
     alloc: Global,
-    deltas: &mut List<Delta>,
-    command: Command,
+    world: &mut World<K>,
+    command: &Command,
     out: &mut O,
 ) -> Result<(), ExecuteError>
-    ensures ok { OnOk result (Answers deltas.old command deltas.new (O.written out.old) (O.written out.new)) }
+    ensures ok { OnOk result (Executes (world_state K.told K.fuse world.old) (K.faults world.old.replica.keeper) (Some (Some command.now)) (world_state K.told K.fuse world.new) (K.faults world.new.replica.keeper) (O.written out.old) (O.written out.new)) }
+    ensures bad { IsErrOf result ExecuteError.Bad → (has_replica command.now ≡ false) × Keeps (O.written out.old) (O.written out.new) }
+    ensures failed { IsErrOf result ExecuteError.Failed → ExecutesPart (world_state K.told K.fuse world.old) (K.faults world.old.replica.keeper) (Some (Some command.now)) (world_state K.told K.fuse world.new) (K.faults world.new.replica.keeper) (O.written out.old) (O.written out.new) }
+    ensures memory { IsErrOf result ExecuteError.Memory → Keeps (O.written out.old) (O.written out.new) }
+    ensures later { K.faults world.old.replica.keeper ≤ K.faults world.new.replica.keeper }
+    ensures desks { world.new.desks ≡ world.old.desks }
+    ensures cause { Counts (O.faults out.old) (O.faults out.new) (IsErrOf result ExecuteError.Failed) }
+{
+    let reply = match act_on(alloc, world, command) {
+        Ok(reply) => reply,
+        Err(ActError::BadLine) => return Err(ExecuteError::Bad),
+        Err(ActError::Memory) => return Err(ExecuteError::Memory),
+    };
+    write_answer(alloc, &reply, out)
+}
+
+// Writes a reply.
+fn write_answer<O: Sink>(alloc: Global, reply: &Reply, out: &mut O) -> Result<(), ExecuteError>
+    ensures ok { OnOk result (Appends (O.written out.old) (O.written out.new) (reply_text reply.now)) }
     ensures not_bad { IsErrOf result ExecuteError.Bad → ⊥ }
-    ensures failed { IsErrOf result ExecuteError.Failed → AnswersPart deltas.old command deltas.new (O.written out.old) (O.written out.new) }
+    ensures failed { IsErrOf result ExecuteError.Failed → AppendsPart (O.written out.old) (O.written out.new) (reply_text reply.now) }
     ensures memory { IsErrOf result ExecuteError.Memory → Keeps (O.written out.old) (O.written out.new) }
     ensures cause { Counts (O.faults out.old) (O.faults out.new) (IsErrOf result ExecuteError.Failed) }
 {
-    let reply = serve(alloc, deltas, command)?;
     let mut text = Bytes::new(alloc);
-    write_reply(alloc, &reply, &mut text)?;
+    write_reply(alloc, reply, &mut text)?;
     write_text(out, text.as_slice())?;
     Ok(())
+}
+
+fn act_on<K: Keeper>(
+    alloc: Global,
+    world: &mut World<K>,
+    command: &Command,
+) -> Result<Reply, ActError>
+    ensures answered { IfOk result (IsAnswered (world_state K.told K.fuse world.old) (K.faults world.old.replica.keeper) command.now (world_state K.told K.fuse world.new) (K.faults world.new.replica.keeper)) }
+    ensures bad { IsErrOf result ActError.BadLine → has_replica command.now ≡ false }
+    ensures later { K.faults world.old.replica.keeper ≤ K.faults world.new.replica.keeper }
+    ensures desks { world.new.desks ≡ world.old.desks }
+{
+    act(world, alloc, command)
 }

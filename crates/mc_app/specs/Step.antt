@@ -1,0 +1,158 @@
+-- What a command may do to a world, and what is answered.
+use Rattle.std.specs.Prelude.{◌≡◌, ◌⊎◌, ⊤, ℕ, Bool, true, false, List, [], ◌∷◌, ◌++◌, ◌==◌, Option, Some, None, Result, Ok, Err, slice_get, set}
+use Rattle.std.specs.List.{list_any}
+use Rattle.mc_key.specs.KeyRule.{fault_number}
+use Rattle.mc_key.specs.Prefix.{is_under}
+use Rattle.mc_model.specs.Answers as answers
+use Rattle.mc_model.specs.Answers.{has_value}
+use Rattle.mc_model.specs.Events.{Event}
+use Rattle.mc_model.specs.Front.{Head, heads}
+use Rattle.mc_model.specs.Kept.{Kept, processed}
+use Rattle.mc_model.specs.Live.{value}
+use Rattle.mc_core.specs.declared.error.CoreError.{CoreError}
+use Rattle.mc_core.specs.declared.error.CoreError.TheVariants as core
+use Rattle.mc_core.specs.declared.made.Written.{Written}
+use Rattle.mc_core.specs.Batches.{begin_refusal, BeginPlan, batch_put_refusal, BatchPutPlan, batch_delete_refusal, BatchDeletePlan, commit_refusal, CommitPlan}
+use Rattle.mc_core.specs.Calls.{Begins, Faults}
+use Rattle.mc_core.specs.Events.{ReplicaState, Goes}
+use Rattle.mc_core.specs.Puts.{put_refusal, PutPlan}
+use Rattle.mc_core.specs.Reads.{read_refusal, Reads}
+use Rattle.mc_core.specs.Refusals.{Is}
+use Rattle.mc_script.specs.declared.command.Command.{Command}
+use Rattle.mc_script.specs.declared.command.Command.TheVariants.{Put, Del, Begin, BatchPut, BatchDel, Commit, Get, Has as HasKey, Query, Heads as HeadsOf}
+use Rattle.mc_script.specs.declared.reply.Reply.{Reply}
+use Rattle.mc_script.specs.declared.reply.Reply.TheVariants.{Done, Priority, Value, Has, Rows, Heads, Stopped, FaultKeeper, RefusedKey, RefusedValue, RefusedSize, RefusedPriority, RefusedClash, RefusedBatch}
+use Rattle.mc_app.specs.declared.acting.ActError.{ActError}
+use Rattle.mc_app.specs.declared.acting.ActError.TheVariants.{Memory}
+use Rattle.mc_app.specs.declared.entry.LineEntry.{LineEntry}
+
+-- the number of the replica that a command names
+abbrev pub place_of : Command → ℕ
+place_of (Put r key bytes) = r
+place_of (Del r key) = r
+place_of (Begin r) = r
+place_of (BatchPut r key bytes) = r
+place_of (BatchDel r key) = r
+place_of (Commit r) = r
+place_of (Get r key) = r
+place_of (HasKey r key) = r
+place_of (Query r prefix skip take) = r
+place_of (HeadsOf r) = r
+
+-- whether the command names the replica `a`
+abbrev pub has_replica : Command → Bool
+has_replica (Put r key bytes) = r == 0
+has_replica (Del r key) = false
+has_replica (Begin r) = r == 0
+has_replica (BatchPut r key bytes) = r == 0
+has_replica (BatchDel r key) = r == 0
+has_replica (Commit r) = r == 0
+has_replica (Get r key) = r == 0
+has_replica (HasKey r key) = r == 0
+has_replica (Query r prefix skip take) = r == 0
+has_replica (HeadsOf r) = r == 0
+
+-- what is answered where a call of a replica did nothing, or not all
+abbrev pub answer_of : CoreError → Result Reply ActError
+answer_of (core.BadKey fault) = Ok (RefusedKey (fault_number fault))
+answer_of core.ValueTooLong = Ok RefusedValue
+answer_of (core.BlockTooLarge len) = Ok (RefusedSize len)
+answer_of core.PriorityFull = Ok RefusedPriority
+answer_of (core.Clash cid) = Ok (RefusedClash cid)
+answer_of core.KeeperFault = Ok FaultKeeper
+answer_of core.Stopped = Ok Stopped
+answer_of core.NoBatch = Ok RefusedBatch
+answer_of core.BatchOpen = Ok RefusedBatch
+answer_of core.Memory = Err Memory
+
+-- whether a call answers this where it is refused: a fault of the keeper, and want of memory, are no refusals
+abbrev pub IsReply : CoreError → Reply → Type 0
+IsReply core.KeeperFault reply = ⊥
+IsReply core.Memory reply = ⊥
+IsReply (core.BadKey fault) reply = reply ≡ RefusedKey (fault_number fault)
+IsReply core.ValueTooLong reply = reply ≡ RefusedValue
+IsReply (core.BlockTooLarge len) reply = reply ≡ RefusedSize len
+IsReply core.PriorityFull reply = reply ≡ RefusedPriority
+IsReply (core.Clash cid) reply = reply ≡ RefusedClash cid
+IsReply core.Stopped reply = reply ≡ Stopped
+IsReply core.NoBatch reply = reply ≡ RefusedBatch
+IsReply core.BatchOpen reply = reply ≡ RefusedBatch
+
+-- the refusal of a call, by its reply
+abbrev pub ByReply : (Option CoreError → Type 0) → Option Reply → Type 0
+ByReply Refusal None = Refusal None
+ByReply Refusal (Some reply) = (error : CoreError) × Refusal (Some error) × IsReply error reply
+
+-- the plan of a call, with what is answered for its value
+abbrev pub Answers : {T : Type 0} → (List Event → T → Type 0) → (T → Reply → Type 0) → List Event → Reply → Type 0
+Answers {T} Plan Says events reply = (value : T) × Plan events value × Says value reply
+
+-- what is answered for the priority of a batch's block: 0 where it made none
+abbrev pub batch_priority : Option Written → ℕ
+batch_priority None = 0
+batch_priority (Some written) = written.priority
+
+-- which refusal is due: none, or this reply
+abbrev pub Refuses : ReplicaState → Command → Option Reply → Type 0
+Refuses s (Put r key bytes) = ByReply (Is (put_refusal s key bytes))
+Refuses s (Del r key) = λ refusal. ⊥
+Refuses s (Begin r) = ByReply (Is (begin_refusal s))
+Refuses s (BatchPut r key bytes) = ByReply (Is (batch_put_refusal s key bytes))
+Refuses s (BatchDel r key) = ByReply (Is (batch_delete_refusal s key))
+Refuses s (Commit r) = ByReply (Is (commit_refusal s))
+Refuses s (Get r key) = ByReply (Is (read_refusal s))
+Refuses s (HasKey r key) = ByReply (Is (read_refusal s))
+Refuses s (Query r prefix skip take) = ByReply (Is (read_refusal s))
+Refuses s (HeadsOf r) = ByReply (Is (read_refusal s))
+
+-- the events of a command that is not refused, and its reply
+abbrev pub Plan : ReplicaState → Command → List Event → Reply → Type 0
+Plan s (Put r key bytes) = Answers (PutPlan s key bytes) (λ written reply. reply ≡ Priority written.priority)
+Plan s (Del r key) = λ events reply. ⊥
+Plan s (Begin r) = Answers (BeginPlan {T = ⊤}) (λ done reply. reply ≡ Done)
+Plan s (BatchPut r key bytes) = Answers (BatchPutPlan {T = ⊤} s key bytes) (λ done reply. reply ≡ Done)
+Plan s (BatchDel r key) = Answers (BatchDeletePlan {T = ⊤} s key) (λ done reply. reply ≡ Done)
+Plan s (Commit r) = Answers (CommitPlan s) (λ written reply. reply ≡ Priority (batch_priority written))
+Plan s (Get r key) = Answers (Reads (λ kept found. found ≡ value (processed kept) key) s) (λ found reply. reply ≡ Value found)
+Plan s (HasKey r key) = Answers (Reads (λ kept found. found ≡ has_value (processed kept) key) s) (λ found reply. reply ≡ Has found)
+Plan s (Query r prefix skip take) = Answers (Reads (λ kept rows. rows ≡ answers.query (processed kept) (is_under prefix) skip take) s) (λ rows reply. reply ≡ Rows rows)
+Plan s (HeadsOf r) = Answers (Reads (λ kept rows. rows ≡ heads (processed kept)) s) (λ rows reply. reply ≡ Heads rows)
+
+-- the command is refused with this reply, and nothing has changed
+pub record IsRefused (Refusal : Option Reply → Type 0) (s new : ReplicaState) (reply : Reply) : Type 0 where
+  pub cause : Refusal (Some reply)
+  pub same : new ≡ s
+
+-- nothing refuses the command, and all its events have happened
+pub record IsDone (Refusal : Option Reply → Type 0) (Planned : List Event → Reply → Type 0) (s new : ReplicaState) (reply : Reply) : Type 0 where
+  pub allowed : Refusal None
+  pub events : List Event
+  pub plan : Planned events reply
+  pub goes : Goes events s new
+
+-- the keeper failed, and the command's events are cut short; `named` says that the record of the line names the replica,
+-- and `own` that it names it for a fault that no fuse made
+pub record IsFaulted (Planned : List Event → Reply → Type 0) (named own : Type 0) (s new : ReplicaState) (reply : Reply) : Type 0 where
+  pub cause : named
+  pub says : reply ≡ FaultKeeper
+  pub faults : Faults Planned own s new
+
+-- a command does one of the three
+abbrev pub Row : (Option Reply → Type 0) → (List Event → Reply → Type 0) → Type 0 → Type 0 → ReplicaState → ReplicaState → Reply → Type 0
+Row Refusal Planned named own s new reply =
+    (IsRefused Refusal s new reply ⊎ IsDone Refusal Planned s new reply) ⊎ IsFaulted Planned named own s new reply
+
+abbrev pub ReplicaStep : ReplicaState → Command → Type 0 → Type 0 → ReplicaState → Reply → Type 0
+ReplicaStep s command named own new reply = Row (Refuses s command) (Plan s command) named own s new reply
+
+-- whether a list of replicas has this number
+abbrev pub is_named : List ℕ → ℕ → Bool
+is_named numbers r = list_any (λ number. number == r) numbers
+
+-- a command leads from one world to another with this reply and this entry of the record: only the replica that it names changes
+pub record Step (w : List ReplicaState) (command : Command) (entry : LineEntry) (reply : Reply) (w2 : List ReplicaState) : Type 0 where
+  pub old : ReplicaState
+  pub new : ReplicaState
+  pub stands : slice_get w (place_of command) ≡ Some old
+  pub after : w2 ≡ set w (place_of command) new
+  pub step : ReplicaStep old command (is_named entry.keepers (place_of command) ≡ true) (is_named entry.own (place_of command) ≡ true) new reply
