@@ -1,13 +1,13 @@
 -- Processed blocks with one id are one block: an id has all the bits of a digest.
-use Rattle.std.proofs.Common.{◌≡◌, ◌<◌, ◌+◌, ◌-◌, ◌*◌, ◌/◌, ◌%◌, ℕ, Bool, true, false, not, cond, ◌&&◌, ◌||◌, List, [], ◌∷◌, ◌++◌, length, map, take, drop, get_or, suc, zero, Option, Some, None, Err, refl, sym, ◌∙◌, ap, subst, arith, inl, inr}
+use Rattle.std.proofs.Common.{◌≡◌, ◌<◌, ◌-◌, ◌*◌, ◌/◌, ◌%◌, ℕ, Bool, true, false, not, cond, ◌&&◌, List, [], ◌∷◌, ◌++◌, length, map, take, drop, get_or, suc, zero, Some, Err, refl, sym, ◌∙◌, ap, subst, arith, inl, inr}
 use Rattle.std.specs.Prelude.{nat_le, nat_lt, ◌==◌, find, is_some, slice_index}
 use Rattle.std.specs.Int.{w32, to_be_bytes}
-use Rattle.std.specs.List.{flat_map, list_all, list_any, AllByRecursion}
+use Rattle.std.specs.List.{flat_map, list_all, AllByRecursion}
 use Rattle.std.specs.Option.{option_map}
 use Rattle.std.specs.Result.{is_ok}
 use Rattle.std.specs.Str.{bytes_eq}
 use Rattle.std.proofs.lemmas.Bool.{and_parts, cases_lt, eqb-true}
-use Rattle.std.proofs.lemmas.List.{length-append, take_at}
+use Rattle.std.proofs.lemmas.List.{take_at}
 use Rattle.std.proofs.lemmas.Slice.Eq.{bytes_eq-Decides}
 use Rattle.sha2.specs.Sha256.{sha256, digest_bytes}
 use Rattle.mc_base.proofs.Digest.{digest_length}
@@ -210,11 +210,10 @@ is_digest : (kept : Kept) (cid : Cid) → IsKept kept → is_among kept.order ci
 is_digest kept cid sound among =
     let here = in_from_any (same_cid cid) kept.order among in
     let found = stored_one kept.graph here.item (all_in (is_stored kept.graph) kept.order here.item sound.stored here.within) in
-    let good : is_good found.item.cid found.item.bytes ≡ true = all_in (λ (stored : Stored). is_good stored.cid stored.bytes) kept.graph found.item sound.good found.within in
-    (
+    let good : is_good found.item.cid found.item.bytes ≡ true = all_in (λ (stored : Stored). is_good stored.cid stored.bytes) kept.graph found.item sound.good found.within in (
       found.item.bytes,
       (bytes_eq-Decides cid.0 here.item.0).0 here.passes ∙ (bytes_eq-Decides here.item.0 found.item.cid.0).0 found.passes
-      ∙ sym ((bytes_eq-Decides (digest_of found.item.bytes) found.item.cid.0).0 (good_digest found.item.cid found.item.bytes good)),
+          ∙ sym ((bytes_eq-Decides (digest_of found.item.bytes) found.item.cid.0).0 (good_digest found.item.cid found.item.bytes good)),
     )
 
 pub are_apart : (kept : Kept) → IsKept kept → AreApart kept
@@ -222,6 +221,6 @@ are_apart kept sound = λ a b i j e.
     let x = is_digest kept a sound i in
     let y = is_digest kept b sound j in
     let same : a.0 ≡ b.0 =
-        same_id a.0 b.0 (subst AreBytes (sym x.1) (are_bytes x.0)) (subst AreBytes (sym y.1) (are_bytes y.0))
-        (ap length x.1 ∙ digest_length x.0 ∙ sym (digest_length y.0) ∙ ap length (sym y.1)) e in
+    same_id a.0 b.0 (subst AreBytes (sym x.1) (are_bytes x.0)) (subst AreBytes (sym y.1) (are_bytes y.0))
+    (ap length x.1 ∙ digest_length x.0 ∙ sym (digest_length y.0) ∙ ap length (sym y.1)) e in
     λ k. record { 0 = same k }

@@ -1,6 +1,6 @@
 -- What a delete leaves that was cut short by want of memory.
-use Rattle.std.proofs.Common.{◌≡◌, ◌≤◌, ◌<◌, ℕ, Bool, true, false, cond, ◌||◌, ◌&&◌, List, [], ◌∷◌, ◌++◌, length, map, take, suc, zero, Option, Some, None, Result, Ok, Err, refl, sym, ◌∙◌, ap, subst, inl, inr}
-use Rattle.std.specs.Prelude.{IfSome, is_some, ⊤}
+use Rattle.std.proofs.Common.{◌≡◌, ◌<◌, ℕ, Bool, true, false, cond, ◌||◌, ◌&&◌, List, [], ◌∷◌, ◌++◌, length, map, take, suc, zero, Option, Some, None, Result, Ok, Err, refl, sym, ◌∙◌, ap, subst}
+use Rattle.std.specs.Prelude.{IfSome, is_some}
 use Rattle.std.specs.List.{list_all}
 use Rattle.std.specs.Result.{is_ok}
 use Rattle.std.proofs.lemmas.List.{append-nil, append_assoc, map-append}
@@ -10,13 +10,12 @@ use Rattle.mc_base.specs.declared.cid.Cid.{Cid}
 use Rattle.mc_model.specs.declared.block.Block.{Block}
 use Rattle.mc_model.specs.declared.block.Stored.{Stored}
 use Rattle.mc_model.specs.declared.delta.Delta.{Delta}
-use Rattle.mc_model.specs.Cuts.{IsCuts, pairs}
+use Rattle.mc_model.specs.Cuts.{pairs}
 use Rattle.mc_model.specs.Front.{same_cid, is_among}
-use Rattle.mc_model.specs.Id.{id_text}
 use Rattle.mc_model.specs.Kept.{Kept, IsKept, block_in, blocks_in, bytes_at, is_stored, processed}
 use Rattle.mc_model.specs.Live.{value}
 use Rattle.mc_model.specs.Made.{next_priority}
-use Rattle.mc_model.specs.State.{Durable, OpenBatch, Running, durable_of, kept_of, stored_of, vertices}
+use Rattle.mc_model.specs.State.{OpenBatch, Running, durable_of, kept_of, stored_of}
 use Rattle.mc_model.proofs.Blocks.{block_in_cid}
 use Rattle.mc_keep.specs.Changes.{no_changes}
 use Rattle.mc_keep.specs.declared.fuse.Fuse.{Fuse}
@@ -29,7 +28,6 @@ use Rattle.mc_core.specs.Deletes.{AreMade, AreNext, IsDelete, ShortKeeps, Takes,
 use Rattle.mc_core.specs.Events.{ReplicaState, state_of, Goes}
 use Rattle.mc_core.specs.Plans.{IsNew, IsNoOther}
 use Rattle.mc_core.specs.Puts.{next_links}
-use Rattle.mc_core.specs.Refusals.{stops}
 use Rattle.mc_core.specs.Replica.{run_of, running_with}
 use Rattle.mc_core.proofs.DeletedFacts.{HeadsLaw}
 use Rattle.mc_core.proofs.IdFacts.{AreApart, are_apart}

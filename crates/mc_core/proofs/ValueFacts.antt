@@ -1,5 +1,5 @@
 -- The value of a key while a delete of it is under way: it stays until the last block.
-use Rattle.std.proofs.Common.{◌≡◌, ◌≢◌, ◌≤◌, ◌<◌, ◌+◌, ℕ, Bool, true, false, cond, ◌||◌, ◌&&◌, ◌⊎◌, List, [], ◌∷◌, ◌++◌, length, map, take, suc, zero, Option, Some, None, refl, sym, ◌∙◌, ap, subst, arith, inl, inr}
+use Rattle.std.proofs.Common.{◌≡◌, ◌≢◌, ◌<◌, ◌+◌, ℕ, Bool, true, false, cond, ◌||◌, ◌&&◌, ◌⊎◌, List, [], ◌∷◌, ◌++◌, length, map, take, suc, zero, Some, None, refl, sym, ◌∙◌, ap, subst, arith, inl, inr}
 use Rattle.std.specs.List.{list_any, flat_map, filter_map, AllByRecursion}
 use Rattle.std.specs.List.Sorted.{IsStrictlySortedBy}
 use Rattle.std.specs.Option.{option_map}
@@ -15,9 +15,7 @@ use Rattle.std.proofs.lemmas.Slice.Eq.{bytes_eq-Decides}
 use Rattle.mc_base.specs.declared.cid.Cid.{Cid}
 use Rattle.mc_model.specs.declared.block.Block.{Block}
 use Rattle.mc_model.specs.declared.delta.Delta.{Delta}
-use Rattle.mc_model.specs.declared.delta.Tomb.{Tomb}
-use Rattle.mc_model.specs.Ascending.{ascending}
-use Rattle.mc_model.specs.Cuts.{Pair, IsCuts, pair_cmp, pair_in, pair_tomb, pairs, tombs_delta}
+use Rattle.mc_model.specs.Cuts.{Pair, IsCuts, pair_cmp, pair_in, pair_tomb, pairs}
 use Rattle.mc_model.specs.Id.{id_text}
 use Rattle.mc_model.specs.Live.{has_tomb, is_hidden, is_tomb, ranked_in, live_among, value}
 use Rattle.mc_model.specs.Made.{made_cid}
@@ -27,11 +25,10 @@ use Rattle.mc_model.proofs.Ascending.{ascending_ascends}
 use Rattle.mc_model.proofs.Greatest.{rank_total}
 use Rattle.mc_model.proofs.Live.{has_tomb-append, live_among-append}
 use Rattle.mc_write.specs.PairOrder.{pair_total}
-use Rattle.mc_write.proofs.Membership.{In, any_from_in, in_from_any, in_same, in_append_left, in_append_right, in_flat_map, from_flat_map, in_filter_map, from_filter_map}
+use Rattle.mc_write.proofs.Membership.{In, in_from_any, in_same, in_append_left, in_flat_map, from_flat_map, in_filter_map, from_filter_map}
 use Rattle.mc_write.proofs.PairFacts.{pair_tied}
 use Rattle.mc_write.proofs.TakenFacts.{greatest_is}
 use Rattle.mc_core.specs.Deletes.{chain_blocks}
-use Rattle.mc_core.specs.Puts.{made_block}
 
 -- the last of ascending pairs
 
@@ -111,13 +108,13 @@ some_greatest x (y ∷ ranked) =
     let g : Greatest (y ∷ ranked) = some_greatest y ranked in
     elim (is_gt (rank_cmp x g.best)) as (λ t. is_gt (rank_cmp x g.best) ≡ t → Greatest (x ∷ y ∷ ranked)) [
       | true ↦ λ e. greatest_of (x ∷ y ∷ ranked) x (inl refl) (λ z i. elim i [
-          | inl same ↦ subst (λ w. is_gt (rank_cmp w x) ≡ false) (sym same) (not_above_itself x)
-          | inr j ↦ upto rank_total z g.best x (g.bound z j) (turn (rank_cmp x g.best) (rank_cmp g.best x) (rank_total.antisymm x g.best) e)
-        ])
+        | inl same ↦ subst (λ w. is_gt (rank_cmp w x) ≡ false) (sym same) (not_above_itself x)
+        | inr j ↦ upto rank_total z g.best x (g.bound z j) (turn (rank_cmp x g.best) (rank_cmp g.best x) (rank_total.antisymm x g.best) e)
+      ])
       | false ↦ λ e. greatest_of (x ∷ y ∷ ranked) g.best (inr g.within) (λ z i. elim i [
-          | inl same ↦ subst (λ w. is_gt (rank_cmp w g.best) ≡ false) (sym same) e
-          | inr j ↦ g.bound z j
-        ])
+        | inl same ↦ subst (λ w. is_gt (rank_cmp w g.best) ≡ false) (sym same) e
+        | inr j ↦ g.bound z j
+      ])
     ] refl
 
 greatest_with : (x : Ranked) (ranked : List Ranked) → In x ranked → Greatest ranked
@@ -155,8 +152,7 @@ pair_of blocks key block pair e =
 pair_over : (blocks : List Block) (key : List ℕ) (block : Block) (x : Ranked) → is_hidden blocks key block ≡ false → In x (ranked_in key block)
     → (pair : Pair) × (pair_in blocks key block ≡ Some pair) × (is_gt (rank_cmp x (rank_of pair)) ≡ false)
 pair_over blocks key block x shown i =
-    let g : Greatest (ranked_in key block) = greatest_with x (ranked_in key block) i in
-    (
+    let g : Greatest (ranked_in key block) = greatest_with x (ranked_in key block) i in (
       pair_with block g.best,
       ap (λ t. option_map (pair_with block) (greatest (cond t [] (ranked_in key block) ++ []))) shown ∙ ap (λ l. option_map (pair_with block) (greatest l)) (append-nil (ranked_in key block)) ∙ ap (option_map (pair_with block)) g.is,
       g.bound x i,
@@ -253,9 +249,9 @@ value_stays own blocks more key first rest owned apart split some tombs none =
     let hides : (b : Block) → is_hidden (blocks ++ more) key b ≡ (is_hidden blocks key b || has_tomb more key (id_text b.cid.0)) = λ b. has_tomb-append blocks more key (id_text b.cid.0) in
     let old : greatest (live_among blocks key blocks) ≡ Some (rank_of t.last) = top_shown blocks key (is_hidden blocks key) t.last given.item given.within pair.shown pair.has (λ b e. e) bound in
     let new : greatest (live_among (blocks ++ more) key blocks) ≡ Some (rank_of t.last) =
-        top_shown blocks key (is_hidden (blocks ++ more) key) t.last given.item given.within
-        (hides given.item ∙ ap (λ b. b || has_tomb more key (id_text given.item.cid.0)) pair.shown ∙ tombs (id_text given.item.cid.0) ∙ free) pair.has
-        (λ b e. (or_parts (is_hidden blocks key b) (has_tomb more key (id_text b.cid.0)) (sym (hides b) ∙ e)).0) bound in
+    top_shown blocks key (is_hidden (blocks ++ more) key) t.last given.item given.within
+    (hides given.item ∙ ap (λ b. b || has_tomb more key (id_text given.item.cid.0)) pair.shown ∙ tombs (id_text given.item.cid.0) ∙ free) pair.has
+    (λ b e. (or_parts (is_hidden blocks key b) (has_tomb more key (id_text b.cid.0)) (sym (hides b) ∙ e)).0) bound in
     ap (λ l. option_map (λ (r : Ranked). r.1) (greatest l)) (live_among-append (blocks ++ more) blocks more key ∙ ap (λ l. live_among (blocks ++ more) key blocks ++ l) none ∙ append-nil (live_among (blocks ++ more) key blocks))
     ∙ ap (option_map (λ (r : Ranked). r.1)) (new ∙ sym old)
 

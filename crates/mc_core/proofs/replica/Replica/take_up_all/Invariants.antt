@@ -1,4 +1,4 @@
-use Rattle.std.proofs.Common.{◌≡◌, ◌≤◌, Option, None, false}
+use Rattle.std.proofs.Common.{◌≡◌, ◌≤◌, None, false}
 use Rattle.mc_base.specs.Told.{Told}
 use Rattle.mc_core.specs.Replica.{replica_state}
 use Rattle.mc_core.proofs.TakenFacts.{Taken}
