@@ -1,9 +1,8 @@
 // Deletes: all their blocks are made first, and then taken up one after another.
-ghost use Rattle.std.specs.Prelude.{◌≡◌, ◌≤◌, ◌^◌, nat_lt, ◌++◌, ◌∷◌, [], true, false, None, length, IfOk, IfSome, IfErr, OnOk};
+ghost use Rattle.std.specs.Prelude.{◌≡◌, ◌≤◌, ◌^◌, nat_lt, ◌++◌, ◌∷◌, [], true, false, None, IfOk, IfSome, IfErr, OnOk};
 ghost use Rattle.std.specs.List.{list_all};
 ghost use Rattle.mc_base.specs.Causes.{Rose};
 ghost use Rattle.mc_base.specs.Told.{Told};
-ghost use Rattle.mc_model.specs.Front.{same_cid};
 ghost use Rattle.mc_model.specs.Kept.{is_stored};
 ghost use Rattle.mc_model.specs.Made.{made_bytes, made_cid};
 ghost use Rattle.mc_keep.specs.Causes.{IfTold, KeepCause, StaysQuiet};
@@ -48,7 +47,8 @@ impl<K: Keeper> Replica<K> {
     /// Makes blocks with tombstones for all live elements of a key, stores each unless it is stored, and processes it, one
     /// after another. The first links to the heads, each later one to the one before. All are made, and each is looked at
     /// for a clash, before the first commit. Refusals in their order: `Stopped`, `BadKey`, `PriorityFull`,
-    /// `BlockTooLarge`, `Clash`; these leave the replica as it was. After `Memory` some first blocks, but not all, may have been processed.
+    /// `BlockTooLarge`, `Clash`; these leave the replica as it was. After `Memory` some first blocks, but not all, may have
+    /// been processed, and the key has the value that it had.
     pub fn delete(&mut self, alloc: Global, key: &str) -> Result<Deleted, CoreError>
         ensures call { Told (replica_state K.told K.fuse self.old) (replica_state K.told K.fuse self.new) (λ s new.
             Call (DeleteRefusal s key.now) (DeletePlan s key.now) (DeleteShort s key.now) (Rose (K.own self.old.keeper) (K.own self.new.keeper)) result s new) }
