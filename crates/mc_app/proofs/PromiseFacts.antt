@@ -1,0 +1,185 @@
+-- What is promised of every run.
+use Rattle.std.proofs.Common.{◌≡◌, ℕ, zero, suc, Bool, true, false, true≢false, List, [], ◌∷◌, ◌++◌, length, Option, Some, None, refl, sym, ◌∙◌, ap, subst, ◌⊎◌, inl, inr, slice_set}
+use Rattle.std.specs.Prelude.{slice_get, map}
+use Rattle.std.proofs.lemmas.List.{append-nil, append_assoc}
+use Rattle.mc_base.specs.Told.{Told}
+use Rattle.mc_base.specs.declared.cid.Cid.{Cid}
+use Rattle.mc_model.specs.declared.block.Block.{Block}
+use Rattle.mc_model.specs.declared.delta.Delta.{Delta}
+use Rattle.mc_model.specs.Answers.{SameAnswers}
+use Rattle.mc_model.specs.Events.{Event, GoesOn}
+use Rattle.mc_model.specs.Front.{heads}
+use Rattle.mc_model.specs.Kept.{Kept}
+use Rattle.mc_model.specs.Made.{made_cid}
+use Rattle.mc_model.specs.SameMembers.{SameMembers}
+use Rattle.mc_model.specs.State.{Durable, blocks_of, kept_of}
+use Rattle.mc_key.specs.Prefix.{is_under}
+use Rattle.mc_core.specs.Events.{ReplicaState, Goes}
+use Rattle.mc_core.specs.Puts.{made_events, next_links, delta_of_put}
+use Rattle.mc_core.proofs.GrowthFacts.{GrowLaw, goes_grows, breaks_grows}
+use Rattle.mc_key.specs.KeyRule.{fault_number}
+use Rattle.mc_core.specs.declared.error.CoreError.{CoreError}
+use Rattle.mc_core.specs.declared.error.CoreError.TheVariants as core
+use Rattle.mc_script.specs.Line.{line_of}
+use Rattle.mc_script.specs.declared.command.Command.{Command}
+use Rattle.mc_script.specs.declared.command.Command.TheVariants.{Put, Del, Begin, BatchPut, BatchDel, Commit, Get, Has as HasKey, Query, Heads as HeadsOf}
+use Rattle.mc_script.specs.declared.reply.Reply.{Reply}
+use Rattle.mc_script.specs.declared.reply.Reply.TheVariants.{Done, Priority, Deleted, Value, Has, Rows, Heads, Stopped, FaultKeeper, RefusedKey, RefusedValue, RefusedSize, RefusedPriority, RefusedClash, RefusedBatch}
+use Rattle.mc_app.specs.declared.entry.LineEntry.{LineEntry}
+use Rattle.mc_app.specs.Promises.{HasProcessed, OnlyGrows, is_read}
+use Rattle.mc_app.specs.Runs.{Answer, LineStep, Runs}
+use Rattle.mc_app.specs.Step.{IsReply, Plan, ReplicaStep, Row, Step, is_named, place_of}
+
+same_goes : (d : Durable) → GoesOn d d
+same_goes d = record { processed = []; stored = []; order = sym (append-nil d.order); graph = sym (append-nil d.graph) }
+
+goes_then : (a b c : Durable) → GoesOn a b → GoesOn b c → GoesOn a c
+goes_then a b c g h = record {
+  processed = g.processed ++ h.processed;
+  stored = g.stored ++ h.stored;
+  order = h.order ∙ ap (λ (front : List Cid). front ++ h.processed) g.order ∙ append_assoc a.order g.processed h.processed;
+  graph = h.graph ∙ ap (λ front. front ++ h.stored) g.graph ∙ append_assoc a.graph g.stored h.stored;
+}
+
+abbrev Grows : Option ReplicaState → Option ReplicaState → Type 0
+Grows s t = Told s t (λ s t. GoesOn s.state.durable t.state.durable)
+
+same_grows : (s : Option ReplicaState) → Grows s s
+same_grows None = tt
+same_grows (Some s) = same_goes s.state.durable
+
+grows_then : (a b c : Option ReplicaState) → Grows a b → Grows b c → Grows a c
+grows_then None b c g h = tt
+grows_then (Some a) None c g h = absurd g
+grows_then (Some a) (Some b) None g h = absurd h
+grows_then (Some a) (Some b) (Some c) g h = goes_then a.state.durable b.state.durable c.state.durable g h
+
+or_else : ReplicaState → Option ReplicaState → ReplicaState
+or_else s None = s
+or_else s (Some t) = t
+
+-- one replica of a world changes
+set_grows : (w : List ReplicaState) (place r : ℕ) (old new : ReplicaState) → slice_get w place ≡ Some old → GoesOn old.state.durable new.state.durable → Grows (slice_get w r) (slice_get (slice_set w place new) r)
+unfolding or_else
+set_grows [] place r old new e g = tt
+set_grows (s ∷ w) zero zero old new e g = subst (λ (x : ReplicaState). GoesOn x.state.durable new.state.durable) (sym (ap (or_else s) e)) g
+set_grows (s ∷ w) zero (suc r) old new e g = same_grows (slice_get w r)
+set_grows (s ∷ w) (suc place) zero old new e g = same_goes s.state.durable
+set_grows (s ∷ w) (suc place) (suc r) old new e g = set_grows w place r old new e g
+
+set_stands : (w : List ReplicaState) (place : ℕ) (old new : ReplicaState) → slice_get w place ≡ Some old → slice_get (slice_set w place new) place ≡ Some new
+set_stands [] place old new e = absurd (true≢false (sym (ap has e)))
+  where
+    has : Option ReplicaState → Bool
+    has None = false
+    has (Some s) = true
+set_stands (s ∷ w) zero old new e = refl
+set_stands (s ∷ w) (suc place) old new e = set_stands w place old new e
+
+module _ (law : GrowLaw) where
+  row_grows : (Refusal : Option Reply → Type 0) (Planned : List Event → Reply → Type 0) (named own : Type 0) (s new : ReplicaState) (reply : Reply) → Row Refusal Planned named own s new reply → GoesOn s.state.durable new.state.durable
+  row_grows Refusal Planned named own s new reply (inl (inl refused)) = subst (λ (x : ReplicaState). GoesOn s.state.durable x.state.durable) (sym refused.same) (same_goes s.state.durable)
+  row_grows Refusal Planned named own s new reply (inl (inr done)) = goes_grows law done.events s new done.goes
+  row_grows Refusal Planned named own s new reply (inr faulted) = breaks_grows law faulted.faults.events own s new faulted.faults.breaks
+
+  pub step_grows : (w : List ReplicaState) (command : Command) (entry : LineEntry) (reply : Reply) (w2 : List ReplicaState) → Step w command entry reply w2 → OnlyGrows w w2
+  step_grows w command entry reply w2 step r =
+      subst (λ x. Grows (slice_get w r) (slice_get x r)) (sym step.after)
+      (set_grows w (place_of command) r step.old step.new step.stands (row_grows _ _ _ _ step.old step.new reply step.step))
+
+  line_grows : (old new : Option (List ReplicaState)) (read : Option (Option Command)) (answer : Option Answer) → LineStep old read new answer → Told old new OnlyGrows
+  line_grows old new None answer step = absurd step
+  line_grows old new (Some None) answer step = subst (λ n. Told old n OnlyGrows) (sym step.0) (same_all old)
+    where
+      same_all : (old : Option (List ReplicaState)) → Told old old OnlyGrows
+      same_all None = tt
+      same_all (Some w) = λ r. same_grows (slice_get w r)
+  line_grows old new (Some (Some command)) None step = absurd step
+  line_grows None new (Some (Some command)) (Some answer) step = tt
+  line_grows (Some w) None (Some (Some command)) (Some answer) step = absurd step.1
+  line_grows (Some w) (Some w2) (Some (Some command)) (Some answer) step = step_grows w command answer.entry answer.reply w2 step.1
+
+  all_then : (a b c : Option (List ReplicaState)) → Told a b OnlyGrows → Told b c OnlyGrows → Told a c OnlyGrows
+  all_then None b c g h = tt
+  all_then (Some a) None c g h = absurd g
+  all_then (Some a) (Some b) None g h = absurd h
+  all_then (Some a) (Some b) (Some c) g h = λ r. grows_then (slice_get a r) (slice_get b r) (slice_get c r) (g r) (h r)
+
+  pub runs_grow : (lines : List (List ℕ)) (answers : List (Option Answer)) (old new : Option (List ReplicaState)) → Runs old lines answers new → Told old new OnlyGrows
+  runs_grow [] [] old new runs = line_grows old new (Some None) None (runs, refl)
+  runs_grow [] (answer ∷ answers) old new runs = absurd runs
+  runs_grow (line ∷ lines) [] old new runs = absurd runs
+  runs_grow (line ∷ lines) (answer ∷ answers) old new (mid, step, rest) =
+      all_then old mid new (line_grows old mid (line_of line) answer step) (runs_grow lines answers mid new rest)
+
+abbrev pub WrittenLaw : Type 0
+WrittenLaw = (kept : Kept) (links : List Cid) (delta : Delta) (s new : ReplicaState) → kept ≡ kept_of s.state.durable → Goes (made_events kept links delta) s new
+    → slice_get new.state.durable.order (length kept.order) ≡ Some (made_cid links delta)
+
+-- no refusal is answered by `ok P`
+is_number : Reply → Bool
+is_number (Priority priority) = true
+is_number Done = false
+is_number (Deleted blocks) = false
+is_number (Value value) = false
+is_number (Has found) = false
+is_number (Rows rows) = false
+is_number (Heads heads) = false
+is_number Stopped = false
+is_number FaultKeeper = false
+is_number (RefusedKey number) = false
+is_number RefusedValue = false
+is_number (RefusedSize len) = false
+is_number RefusedPriority = false
+is_number (RefusedClash cid) = false
+is_number RefusedBatch = false
+
+no_number : (error : CoreError) (priority : ℕ) → IsReply error (Priority priority) → ⊥
+unfolding is_number
+no_number core.KeeperFault priority e = e
+no_number core.Memory priority e = e
+no_number (core.BadKey fault) priority e = true≢false (ap is_number e)
+no_number core.ValueTooLong priority e = true≢false (ap is_number e)
+no_number (core.BlockTooLarge len) priority e = true≢false (ap is_number e)
+no_number core.PriorityFull priority e = true≢false (ap is_number e)
+no_number (core.Clash cid) priority e = true≢false (ap is_number e)
+no_number core.Stopped priority e = true≢false (ap is_number e)
+no_number core.NoBatch priority e = true≢false (ap is_number e)
+no_number core.BatchOpen priority e = true≢false (ap is_number e)
+
+pub put_is_processed : (law : WrittenLaw) (w : List ReplicaState) (r : ℕ) (key bytes : List ℕ) (entry : LineEntry) (priority : ℕ) (w2 : List ReplicaState) → Step w (Put r key bytes) entry (Priority priority) w2
+    → HasProcessed w r (λ kept. made_cid (next_links kept) (delta_of_put kept key bytes)) w2
+unfolding is_number
+put_is_processed law w r key bytes entry priority w2 step = over step.step
+  where
+    over : ReplicaStep step.old (Put r key bytes) (is_named entry.keepers r ≡ true) (is_named entry.own r ≡ true) step.new (Priority priority) → HasProcessed w r (λ kept. made_cid (next_links kept) (delta_of_put kept key bytes)) w2
+    over (inl (inl refused)) = absurd (no_number refused.cause.0 priority refused.cause.2)
+    over (inr faulted) = absurd (true≢false (ap is_number faulted.says))
+    over (inl (inr done)) = record {
+      old = step.old;
+      new = step.new;
+      stood = step.stands;
+      stands = ap (λ x. slice_get x r) step.after ∙ set_stands w r step.old step.new step.stands;
+      processed =
+          law (kept_of step.old.state.durable) (next_links (kept_of step.old.state.durable)) (delta_of_put (kept_of step.old.state.durable) key bytes) step.old step.new refl
+          (subst (λ events. Goes events step.old step.new) done.plan.1.0 done.goes);
+    }
+
+abbrev pub AnswersLaw : Type 0
+AnswersLaw = (xs ys : List Block) → SameMembers xs ys → SameAnswers xs ys
+
+abbrev pub HeadsLaw : Type 0
+HeadsLaw = (xs ys : List Block) → SameMembers xs ys → heads xs ≡ heads ys
+
+pub equal_answers : (law : AnswersLaw) (heads_law : HeadsLaw) (s t : ReplicaState) (command : Command) (events others : List Event) (reply other : Reply) → is_read command ≡ true
+    → SameMembers (blocks_of s.state.durable) (blocks_of t.state.durable) → Plan s command events reply → Plan t command others other → reply ≡ other
+equal_answers law heads_law s t (Get r key) events others reply other read same p q = p.2 ∙ ap Value (p.1.1 ∙ (law _ _ same).get key ∙ sym q.1.1) ∙ sym q.2
+equal_answers law heads_law s t (HasKey r key) events others reply other read same p q = p.2 ∙ ap Has (p.1.1 ∙ (law _ _ same).has key ∙ sym q.1.1) ∙ sym q.2
+equal_answers law heads_law s t (Query r prefix skip take) events others reply other read same p q = p.2 ∙ ap Rows (p.1.1 ∙ (law _ _ same).rows (is_under prefix) skip take ∙ sym q.1.1) ∙ sym q.2
+equal_answers law heads_law s t (HeadsOf r) events others reply other read same p q = p.2 ∙ ap Heads (p.1.1 ∙ heads_law _ _ same ∙ sym q.1.1) ∙ sym q.2
+equal_answers law heads_law s t (Put r key bytes) events others reply other read same p q = absurd (true≢false (sym read))
+equal_answers law heads_law s t (Del r key) events others reply other read same p q = absurd (true≢false (sym read))
+equal_answers law heads_law s t (Begin r) events others reply other read same p q = absurd (true≢false (sym read))
+equal_answers law heads_law s t (BatchPut r key bytes) events others reply other read same p q = absurd (true≢false (sym read))
+equal_answers law heads_law s t (BatchDel r key) events others reply other read same p q = absurd (true≢false (sym read))
+equal_answers law heads_law s t (Commit r) events others reply other read same p q = absurd (true≢false (sym read))

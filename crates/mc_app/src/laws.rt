@@ -1,0 +1,45 @@
+// What is promised of every run, by the definitions.
+ghost use Rattle.std.specs.Prelude.{◌≡◌, ℕ, List, Option, true};
+ghost use Rattle.mc_base.specs.Told.{Told};
+ghost use Rattle.mc_model.specs.Made.{made_cid};
+ghost use Rattle.mc_model.specs.Events.{Event};
+ghost use Rattle.mc_model.specs.SameMembers.{SameMembers};
+ghost use Rattle.mc_model.specs.State.{blocks_of};
+ghost use Rattle.mc_core.specs.Events.{ReplicaState};
+ghost use Rattle.mc_core.specs.Puts.{next_links, delta_of_put};
+ghost use Rattle.mc_script.specs.declared.command.Command.{Command as Asked};
+ghost use Rattle.mc_script.specs.declared.command.Command.TheVariants.{Put};
+ghost use Rattle.mc_script.specs.declared.reply.Reply.{Reply as Said};
+ghost use Rattle.mc_script.specs.declared.reply.Reply.TheVariants.{Priority};
+ghost use Rattle.mc_app.specs.declared.entry.LineEntry.{LineEntry as Entry};
+ghost use Rattle.mc_app.specs.Promises.{HasProcessed, OnlyGrows, is_read};
+ghost use Rattle.mc_app.specs.Runs.{Answer, Runs};
+ghost use Rattle.mc_app.specs.Step.{Plan, Step};
+
+use mc_core::written_blocks_stand;
+use mc_model::{order_and_store_grow, same_blocks_same_answers};
+
+/// No line takes a block out of the processed ones of a replica, or changes its position; nor out of the stored ones, or
+/// changes its bytes: whatever faults came. So a block that was acknowledged stays in every later state.
+pub fn runs_only_grow()
+    ensures step { (w : List ReplicaState) (command : Asked) (entry : Entry) (reply : Said) (w2 : List ReplicaState) → Step w command entry reply w2 → OnlyGrows w w2 }
+    ensures runs { (lines : List (List ℕ)) (answers : List (Option Answer)) (old new : Option (List ReplicaState)) → Runs old lines answers new → Told old new OnlyGrows }
+{
+    order_and_store_grow();
+}
+
+/// A put that is answered by `ok` has processed its block, at the end of what was processed before.
+pub fn acknowledged_puts_are_processed()
+    ensures { (w : List ReplicaState) (r : ℕ) (key bytes : List ℕ) (entry : Entry) (priority : ℕ) (w2 : List ReplicaState) → Step w (Put r key bytes) entry (Priority priority) w2 →
+        HasProcessed w r (λ kept. made_cid (next_links kept) (delta_of_put kept key bytes)) w2 }
+{
+    written_blocks_stand();
+}
+
+/// Replicas with equal processed blocks, in whatever order, give equal answers to every command that only reads.
+pub fn equal_blocks_answer_equally()
+    ensures { (s t : ReplicaState) (command : Asked) (events others : List Event) (reply other : Said) → is_read command ≡ true →
+        SameMembers (blocks_of s.state.durable) (blocks_of t.state.durable) → Plan s command events reply → Plan t command others other → reply ≡ other }
+{
+    same_blocks_same_answers();
+}
