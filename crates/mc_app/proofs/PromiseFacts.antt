@@ -7,14 +7,24 @@ use Rattle.mc_base.specs.declared.cid.Cid.{Cid}
 use Rattle.mc_model.specs.declared.block.Block.{Block}
 use Rattle.mc_model.specs.declared.delta.Delta.{Delta}
 use Rattle.mc_model.specs.Answers.{SameAnswers}
-use Rattle.mc_model.specs.Events.{Event, GoesOn}
+use Rattle.mc_model.specs.Events.{Event, Process, Batch, GoesOn}
 use Rattle.mc_model.specs.Front.{heads}
-use Rattle.mc_model.specs.Kept.{Kept}
-use Rattle.mc_model.specs.Made.{made_cid}
+use Rattle.mc_model.specs.Kept.{Kept, is_stored}
+use Rattle.mc_model.specs.Made.{made_bytes, made_cid}
 use Rattle.mc_model.specs.SameMembers.{SameMembers}
-use Rattle.mc_model.specs.State.{Durable, blocks_of, kept_of}
+use Rattle.mc_model.specs.State.{Durable, OpenBatch, Running, blocks_of, kept_of}
 use Rattle.mc_key.specs.Prefix.{is_under}
-use Rattle.mc_core.specs.Events.{ReplicaState, Goes}
+use Rattle.std.proofs.Common.{◌≢◌, cond}
+use Rattle.std.specs.Prelude.{is_some}
+use Rattle.mc_keep.specs.declared.changes.Changes.{Changes}
+use Rattle.mc_keep.specs.declared.fuse.Fuse.{Fuse}
+use Rattle.mc_model.specs.Batch.{is_empty_batch}
+use Rattle.mc_core.specs.Batches.{OfRun, OfBatch, BatchBecomes, delta_of_batch}
+use Rattle.mc_core.specs.Deletes.{chain_events, with_made}
+use Rattle.mc_core.specs.Plans.{with_store}
+use Rattle.mc_core.specs.declared.made.Written.{Written}
+use Rattle.mc_core.proofs.EventFacts.{all_happen-append}
+use Rattle.mc_core.specs.Events.{ReplicaState, Goes, MayHappen, goes_on, all_happen}
 use Rattle.mc_core.specs.Puts.{made_events, next_links, delta_of_put}
 use Rattle.mc_core.proofs.GrowthFacts.{GrowLaw, goes_grows, breaks_grows}
 use Rattle.mc_key.specs.KeyRule.{fault_number}
@@ -26,9 +36,9 @@ use Rattle.mc_script.specs.declared.command.Command.TheVariants.{Put, Del, Begin
 use Rattle.mc_script.specs.declared.reply.Reply.{Reply}
 use Rattle.mc_script.specs.declared.reply.Reply.TheVariants.{Done, Priority, Deleted, Value, Has, Rows, Heads, Stopped, FaultKeeper, RefusedKey, RefusedValue, RefusedSize, RefusedPriority, RefusedClash, RefusedBatch}
 use Rattle.mc_app.specs.declared.entry.LineEntry.{LineEntry}
-use Rattle.mc_app.specs.Promises.{HasProcessed, OnlyGrows, is_read}
+use Rattle.mc_app.specs.Promises.{HasDeleted, HasProcessed, OnlyGrows, batch_cid, chain_cids, is_read}
 use Rattle.mc_app.specs.Runs.{Answer, LineStep, Runs}
-use Rattle.mc_app.specs.Step.{IsReply, Plan, ReplicaStep, Row, Step, is_named, place_of}
+use Rattle.mc_app.specs.Step.{IsReply, Plan, ReplicaStep, Row, Step, batch_priority, is_named, place_of}
 
 same_goes : (d : Durable) → GoesOn d d
 same_goes d = record { processed = []; stored = []; order = sym (append-nil d.order); graph = sym (append-nil d.graph) }
@@ -183,3 +193,181 @@ equal_answers law heads_law s t (Begin r) events others reply other read same p 
 equal_answers law heads_law s t (BatchPut r key bytes) events others reply other read same p q = absurd (true≢false (sym read))
 equal_answers law heads_law s t (BatchDel r key) events others reply other read same p q = absurd (true≢false (sym read))
 equal_answers law heads_law s t (Commit r) events others reply other read same p q = absurd (true≢false (sym read))
+
+-- the first of two lists of events, and what comes after it
+
+may_first : (first second : List Event) (s : ReplicaState) → MayHappen s (first ++ second) → MayHappen s first
+may_first [] second s may = tt
+may_first (event ∷ first) second s may = (may.0, may.1, may_first first second (goes_on s event) may.2)
+
+may_second : (first second : List Event) (s : ReplicaState) → MayHappen s (first ++ second) → MayHappen (all_happen s first) second
+may_second [] second s may = may
+may_second (event ∷ first) second s may = may_second first second (goes_on s event) may.2
+
+first_goes : (first second : List Event) (s new : ReplicaState) → Goes (first ++ second) s new → Goes first s (all_happen s first)
+first_goes first second s new g = record { may = may_first first second s g.may; ends = refl }
+
+second_goes : (first second : List Event) (s new : ReplicaState) → Goes (first ++ second) s new → Goes second (all_happen s first) new
+second_goes first second s new g = record { may = may_second first second s g.may; ends = g.ends ∙ all_happen-append first second s }
+
+still_stands : (xs ys : List Cid) (i : ℕ) (c : Cid) → slice_get xs i ≡ Some c → slice_get (xs ++ ys) i ≡ Some c
+still_stands [] ys i c e = absurd (true≢false (sym (ap has e)))
+  where
+    has : Option Cid → Bool
+    has None = false
+    has (Some c) = true
+still_stands (x ∷ xs) ys zero c e = e
+still_stands (x ∷ xs) ys (suc i) c e = still_stands xs ys i c e
+
+-- the batch that is open
+
+record Open (run : Option Running) (P : OpenBatch → Type 0) : Type 0 where
+  batch : OpenBatch
+  holds : P batch
+
+in_run : (run : Option Running) (P : OpenBatch → Type 0) → OfRun run P → Open run P
+in_run None P h = absurd h
+in_run (Some run) P h = in_batch run.batch h
+  where
+    in_batch : (held : Option OpenBatch) → OfBatch held P → Open (Some run) P
+    in_batch None h = absurd h
+    in_batch (Some batch) h = record { batch = batch; holds = h }
+
+number_in : Reply → ℕ
+number_in (Priority priority) = priority
+number_in Done = 0
+number_in (Deleted blocks) = 0
+number_in (Value value) = 0
+number_in (Has found) = 0
+number_in (Rows rows) = 0
+number_in (Heads heads) = 0
+number_in Stopped = 0
+number_in FaultKeeper = 0
+number_in (RefusedKey number) = 0
+number_in RefusedValue = 0
+number_in (RefusedSize len) = 0
+number_in RefusedPriority = 0
+number_in (RefusedClash cid) = 0
+number_in RefusedBatch = 0
+
+pub commit_is_processed : (grow : GrowLaw) (law : WrittenLaw) (w : List ReplicaState) (r : ℕ) (entry : LineEntry) (priority : ℕ) (w2 : List ReplicaState) → Step w (Commit r) entry (Priority priority) w2 → priority ≢ 0
+    → (batch : OpenBatch) × HasProcessed w r (batch_cid batch) w2
+unfolding is_number number_in
+commit_is_processed grow law w r entry priority w2 step some = over step.step
+  where
+    kept : Kept
+    kept = kept_of step.old.state.durable
+
+    over : ReplicaStep step.old (Commit r) (is_named entry.keepers r ≡ true) (is_named entry.own r ≡ true) step.new (Priority priority) → (batch : OpenBatch) × HasProcessed w r (batch_cid batch) w2
+    over (inl (inl refused)) = absurd (no_number refused.cause.0 priority refused.cause.2)
+    over (inr faulted) = absurd (true≢false (ap is_number faulted.says))
+    over (inl (inr done)) = elim done.plan.0 as (λ answer. OfRun step.old.state.run (λ batch. BatchBecomes (kept_of step.old.state.durable) batch (is_empty_batch batch) done.events answer) → Priority priority ≡ Priority (batch_priority answer) → (batch : OpenBatch) × HasProcessed w r (batch_cid batch) w2) [
+      | None ↦ λ plan says. absurd (some (ap number_in says))
+      | Some written ↦ λ plan says.
+          let open_now = in_run step.old.state.run (λ batch. BatchBecomes (kept_of step.old.state.durable) batch (is_empty_batch batch) done.events (Some written)) plan in
+          (open_now.batch, becomes open_now.batch written (is_empty_batch open_now.batch) open_now.holds)
+    ] done.plan.1 done.plan.2
+      where
+        becomes : (batch : OpenBatch) (written : Written) (empty : Bool) → BatchBecomes (kept_of step.old.state.durable) batch empty done.events (Some written) → HasProcessed w r (batch_cid batch) w2
+        becomes batch written true plan = absurd (true≢false (ap is_some plan.1))
+        becomes batch written false plan =
+            let made : List Event = made_events (kept_of step.old.state.durable) (next_links (kept_of step.old.state.durable)) (delta_of_batch (kept_of step.old.state.durable) batch) in
+            let whole : Goes (made ++ Batch None ∷ []) step.old step.new = subst (λ events. Goes events step.old step.new) plan.0 done.goes in
+            let first = first_goes made (Batch None ∷ []) step.old step.new whole in
+            let grown = goes_grows grow (Batch None ∷ []) (all_happen step.old made) step.new (second_goes made (Batch None ∷ []) step.old step.new whole) in
+            record {
+              old = step.old;
+              new = step.new;
+              stood = step.stands;
+              stands = ap (λ x. slice_get x r) step.after ∙ set_stands w r step.old step.new step.stands;
+              processed =
+                  ap (λ (order : List Cid). slice_get order (length step.old.state.durable.order)) grown.order
+                  ∙ still_stands (all_happen step.old made).state.durable.order grown.processed (length step.old.state.durable.order) (batch_cid batch (kept_of step.old.state.durable))
+                  (law (kept_of step.old.state.durable) (next_links (kept_of step.old.state.durable)) (delta_of_batch (kept_of step.old.state.durable) batch) step.old (all_happen step.old made) refl first);
+            }
+
+-- the blocks of a delete, one after another
+
+made_order : (stored : Bool) (changes : Changes) (cid : Cid) (durable : Durable) (run : Option Running) (fuse : Option Fuse)
+    → MayHappen (record { state = record { durable = durable; run = run }; fuse = fuse }) (with_store (cond stored None (Some changes)) (Process (cid ∷ []) ∷ []))
+    → (all_happen (record { state = record { durable = durable; run = run }; fuse = fuse }) (with_store (cond stored None (Some changes)) (Process (cid ∷ []) ∷ []))).state.durable.order ≡ durable.order ++ cid ∷ []
+made_order true changes cid durable (Some run) fuse may = refl
+made_order true changes cid durable None fuse may = absurd may.0
+made_order false changes cid durable (Some run) fuse may = refl
+made_order false changes cid durable None fuse may = absurd may.0
+
+chain_order : (deltas : List Delta) (kept : Kept) (links : List Cid) (s new : ReplicaState) → Goes (chain_events kept links deltas) s new → new.state.durable.order ≡ s.state.durable.order ++ chain_cids links deltas
+chain_order [] kept links s new g = ap (λ (x : ReplicaState). x.state.durable.order) g.ends ∙ sym (append-nil s.state.durable.order)
+chain_order (delta ∷ deltas) kept links s new g =
+    let made : List Event = made_events kept links delta in
+    let rest : List Event = chain_events (with_made kept (made_cid links delta) (made_bytes links delta)) (made_cid links delta ∷ []) deltas in
+    chain_order deltas (with_made kept (made_cid links delta) (made_bytes links delta)) (made_cid links delta ∷ []) (all_happen s made) new (second_goes made rest s new g)
+    ∙ ap (λ (order : List Cid). order ++ chain_cids (made_cid links delta ∷ []) deltas)
+    (made_order (is_stored kept.graph (made_cid links delta)) _ (made_cid links delta) s.state.durable s.state.run s.fuse (may_first made rest s g.may))
+    ∙ append_assoc s.state.durable.order (made_cid links delta ∷ []) (chain_cids (made_cid links delta ∷ []) deltas)
+
+count_in : Reply → ℕ
+count_in (Deleted blocks) = blocks
+count_in (Priority priority) = 0
+count_in Done = 0
+count_in (Value value) = 0
+count_in (Has found) = 0
+count_in (Rows rows) = 0
+count_in (Heads heads) = 0
+count_in Stopped = 0
+count_in FaultKeeper = 0
+count_in (RefusedKey number) = 0
+count_in RefusedValue = 0
+count_in (RefusedSize len) = 0
+count_in RefusedPriority = 0
+count_in (RefusedClash cid) = 0
+count_in RefusedBatch = 0
+
+is_count : Reply → Bool
+is_count (Deleted blocks) = true
+is_count (Priority priority) = false
+is_count Done = false
+is_count (Value value) = false
+is_count (Has found) = false
+is_count (Rows rows) = false
+is_count (Heads heads) = false
+is_count Stopped = false
+is_count FaultKeeper = false
+is_count (RefusedKey number) = false
+is_count RefusedValue = false
+is_count (RefusedSize len) = false
+is_count RefusedPriority = false
+is_count (RefusedClash cid) = false
+is_count RefusedBatch = false
+
+no_count : (error : CoreError) (count : ℕ) → IsReply error (Deleted count) → ⊥
+unfolding is_count
+no_count core.KeeperFault count e = e
+no_count core.Memory count e = e
+no_count (core.BadKey fault) count e = true≢false (ap is_count e)
+no_count core.ValueTooLong count e = true≢false (ap is_count e)
+no_count (core.BlockTooLarge len) count e = true≢false (ap is_count e)
+no_count core.PriorityFull count e = true≢false (ap is_count e)
+no_count (core.Clash cid) count e = true≢false (ap is_count e)
+no_count core.Stopped count e = true≢false (ap is_count e)
+no_count core.NoBatch count e = true≢false (ap is_count e)
+no_count core.BatchOpen count e = true≢false (ap is_count e)
+
+pub delete_is_processed : (w : List ReplicaState) (r : ℕ) (key : List ℕ) (entry : LineEntry) (count : ℕ) (w2 : List ReplicaState) → Step w (Del r key) entry (Deleted count) w2 → HasDeleted w r key count w2
+unfolding is_count count_in
+delete_is_processed w r key entry count w2 step = over step.step
+  where
+    over : ReplicaStep step.old (Del r key) (is_named entry.keepers r ≡ true) (is_named entry.own r ≡ true) step.new (Deleted count) → HasDeleted w r key count w2
+    over (inl (inl refused)) = absurd (no_count refused.cause.0 count refused.cause.2)
+    over (inr faulted) = absurd (true≢false (ap is_count faulted.says))
+    over (inl (inr done)) = record {
+      old = step.old;
+      new = step.new;
+      deltas = done.plan.1.0;
+      stood = step.stands;
+      stands = ap (λ x. slice_get x r) step.after ∙ set_stands w r step.old step.new step.stands;
+      are = done.plan.1.1;
+      counted = ap count_in done.plan.2 ∙ done.plan.1.3;
+      processed =
+          chain_order done.plan.1.0 (kept_of step.old.state.durable) (next_links (kept_of step.old.state.durable)) step.old step.new (subst (λ events. Goes events step.old step.new) done.plan.1.2 done.goes);
+    }

@@ -4,7 +4,12 @@ use Rattle.mc_base.specs.Told.{Told}
 use Rattle.mc_base.specs.declared.cid.Cid.{Cid}
 use Rattle.mc_model.specs.Events.{GoesOn}
 use Rattle.mc_model.specs.Kept.{Kept}
-use Rattle.mc_model.specs.State.{kept_of}
+use Rattle.mc_model.specs.Made.{made_cid}
+use Rattle.mc_model.specs.State.{OpenBatch, kept_of}
+use Rattle.mc_model.specs.declared.delta.Delta.{Delta}
+use Rattle.mc_core.specs.Batches.{delta_of_batch}
+use Rattle.mc_core.specs.Deletes.{IsDeltas}
+use Rattle.mc_core.specs.Puts.{next_links}
 use Rattle.mc_core.specs.Events.{ReplicaState}
 use Rattle.mc_script.specs.declared.command.Command.{Command}
 use Rattle.mc_script.specs.declared.command.Command.TheVariants.{Put, Del, Begin, BatchPut, BatchDel, Commit, Get, Has, Query, Heads}
@@ -20,6 +25,26 @@ pub record HasProcessed (w : List ReplicaState) (r : ℕ) (cid : Kept → Cid) (
   pub stood : slice_get w r ≡ Some old
   pub stands : slice_get w2 r ≡ Some new
   pub processed : slice_get new.state.durable.order (length old.state.durable.order) ≡ Some (cid (kept_of old.state.durable))
+
+-- the identifiers of blocks of which the first has these links, and each later one links to the one before
+abbrev pub chain_cids : List Cid → List Delta → List Cid
+chain_cids links [] = []
+chain_cids links (delta ∷ deltas) = made_cid links delta ∷ chain_cids (made_cid links delta ∷ []) deltas
+
+-- the replica with this number has processed all blocks of a delete, and no other
+pub record HasDeleted (w : List ReplicaState) (r : ℕ) (key : List ℕ) (count : ℕ) (w2 : List ReplicaState) : Type 0 where
+  pub old : ReplicaState
+  pub new : ReplicaState
+  pub deltas : List Delta
+  pub stood : slice_get w r ≡ Some old
+  pub stands : slice_get w2 r ≡ Some new
+  pub are : IsDeltas (kept_of old.state.durable) key deltas
+  pub counted : count ≡ length deltas
+  pub processed : new.state.durable.order ≡ old.state.durable.order ++ chain_cids (next_links (kept_of old.state.durable)) deltas
+
+-- the block of a batch
+abbrev pub batch_cid : OpenBatch → Kept → Cid
+batch_cid batch kept = made_cid (next_links kept) (delta_of_batch kept batch)
 
 -- a command that only reads
 abbrev pub is_read : Command → Bool

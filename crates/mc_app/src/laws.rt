@@ -1,18 +1,18 @@
 // What is promised of every run, by the definitions.
-ghost use Rattle.std.specs.Prelude.{◌≡◌, ℕ, List, Option, true};
+ghost use Rattle.std.specs.Prelude.{◌≡◌, ◌≢◌, ℕ, List, Option, true};
 ghost use Rattle.mc_base.specs.Told.{Told};
 ghost use Rattle.mc_model.specs.Made.{made_cid};
 ghost use Rattle.mc_model.specs.Events.{Event};
 ghost use Rattle.mc_model.specs.SameMembers.{SameMembers};
-ghost use Rattle.mc_model.specs.State.{blocks_of};
+ghost use Rattle.mc_model.specs.State.{OpenBatch, blocks_of};
 ghost use Rattle.mc_core.specs.Events.{ReplicaState};
 ghost use Rattle.mc_core.specs.Puts.{next_links, delta_of_put};
 ghost use Rattle.mc_script.specs.declared.command.Command.{Command as Asked};
-ghost use Rattle.mc_script.specs.declared.command.Command.TheVariants.{Put};
+ghost use Rattle.mc_script.specs.declared.command.Command.TheVariants.{Put, Del, Commit};
 ghost use Rattle.mc_script.specs.declared.reply.Reply.{Reply as Said};
-ghost use Rattle.mc_script.specs.declared.reply.Reply.TheVariants.{Priority};
+ghost use Rattle.mc_script.specs.declared.reply.Reply.TheVariants.{Priority, Deleted};
 ghost use Rattle.mc_app.specs.declared.entry.LineEntry.{LineEntry as Entry};
-ghost use Rattle.mc_app.specs.Promises.{HasProcessed, OnlyGrows, is_read};
+ghost use Rattle.mc_app.specs.Promises.{HasDeleted, HasProcessed, OnlyGrows, batch_cid, is_read};
 ghost use Rattle.mc_app.specs.Runs.{Answer, Runs};
 ghost use Rattle.mc_app.specs.Step.{Plan, Step};
 
@@ -35,6 +35,21 @@ pub fn acknowledged_puts_are_processed()
 {
     written_blocks_stand();
 }
+
+/// A commit of a batch that is answered by `ok` and a number that isn't 0 has processed the batch's block, at the end of
+/// what was processed before.
+pub fn acknowledged_commits_are_processed()
+    ensures { (w : List ReplicaState) (r : ℕ) (entry : Entry) (priority : ℕ) (w2 : List ReplicaState) → Step w (Commit r) entry (Priority priority) w2 → priority ≢ 0 →
+        (batch : OpenBatch) × HasProcessed w r (batch_cid batch) w2 }
+{
+    order_and_store_grow();
+    written_blocks_stand();
+}
+
+/// A delete that is answered by `deleted N` has processed its N blocks, at the end of what was processed before.
+pub fn acknowledged_deletes_are_processed()
+    ensures { (w : List ReplicaState) (r : ℕ) (key : List ℕ) (entry : Entry) (count : ℕ) (w2 : List ReplicaState) → Step w (Del r key) entry (Deleted count) w2 → HasDeleted w r key count w2 }
+{}
 
 /// Replicas with equal processed blocks, in whatever order, give equal answers to every command that only reads.
 pub fn equal_blocks_answer_equally()
