@@ -18,7 +18,7 @@ use Rattle.mc_app.proofs.StepFacts.{row_map}
 
 first_place : (command : Command) → has_replica command ≡ true → place_of command ≡ 0
 first_place (Put r key bytes) is = eqb-true r 0 is
-first_place (Del r key) is = absurd (true≢false (sym is))
+first_place (Del r key) is = eqb-true r 0 is
 first_place (Begin r) is = eqb-true r 0 is
 first_place (BatchPut r key bytes) is = eqb-true r 0 is
 first_place (BatchDel r key) is = eqb-true r 0 is
@@ -67,9 +67,12 @@ pub act_line : {K : Type 0} (faults own : K → ℕ) (keeper keeper_new : K) (ol
 act_line faults own keeper keeper_new old new command entry reply entries after rose own_rose there grows keepers owns desks f g step = record {
   entry = entry;
   grows = grows;
-  holds = (record {
-    keepers = λ r is. rose_at faults keeper keeper_new rose r f.0 (subst (λ (l : List ℕ). is_named l r ≡ true) keepers is);
-    desks = desks;
-    inside = λ r is. rose_at own keeper keeper_new own_rose r g.0 (subst (λ (l : List ℕ). is_named l r ≡ true) owns is);
-  }, act_step old new command entry reply rose own_rose _ _ there keepers owns f.1 g.1 step);
+  holds = (
+    record {
+      keepers = λ r is. rose_at faults keeper keeper_new rose r f.0 (subst (λ (l : List ℕ). is_named l r ≡ true) keepers is);
+      desks = desks;
+      inside = λ r is. rose_at own keeper keeper_new own_rose r g.0 (subst (λ (l : List ℕ). is_named l r ≡ true) owns is);
+    },
+    act_step old new command entry reply rose own_rose _ _ there keepers owns f.1 g.1 step,
+  );
 }

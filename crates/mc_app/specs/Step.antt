@@ -1,5 +1,5 @@
 -- What a command may do to a world, and what is answered.
-use Rattle.std.specs.Prelude.{◌≡◌, ◌⊎◌, ⊤, ℕ, Bool, true, false, List, [], ◌∷◌, ◌++◌, ◌==◌, Option, Some, None, Result, Ok, Err, slice_get, set}
+use Rattle.std.specs.Prelude.{◌≡◌, ◌⊎◌, ⊤, ℕ, Bool, true, List, [], ◌∷◌, ◌++◌, ◌==◌, Option, Some, None, Result, Ok, Err, slice_get, set}
 use Rattle.std.specs.List.{list_any}
 use Rattle.mc_key.specs.KeyRule.{fault_number}
 use Rattle.mc_key.specs.Prefix.{is_under}
@@ -14,6 +14,7 @@ use Rattle.mc_core.specs.declared.error.CoreError.TheVariants as core
 use Rattle.mc_core.specs.declared.made.Written.{Written}
 use Rattle.mc_core.specs.Batches.{begin_refusal, BeginPlan, batch_put_refusal, BatchPutPlan, batch_delete_refusal, BatchDeletePlan, commit_refusal, CommitPlan}
 use Rattle.mc_core.specs.Calls.{Begins, Faults}
+use Rattle.mc_core.specs.Deletes.{DeleteRefusal, DeletePlan}
 use Rattle.mc_core.specs.Events.{ReplicaState, Goes}
 use Rattle.mc_core.specs.Puts.{put_refusal, PutPlan}
 use Rattle.mc_core.specs.Reads.{read_refusal, Reads}
@@ -21,7 +22,7 @@ use Rattle.mc_core.specs.Refusals.{Is}
 use Rattle.mc_script.specs.declared.command.Command.{Command}
 use Rattle.mc_script.specs.declared.command.Command.TheVariants.{Put, Del, Begin, BatchPut, BatchDel, Commit, Get, Has as HasKey, Query, Heads as HeadsOf}
 use Rattle.mc_script.specs.declared.reply.Reply.{Reply}
-use Rattle.mc_script.specs.declared.reply.Reply.TheVariants.{Done, Priority, Value, Has, Rows, Heads, Stopped, FaultKeeper, RefusedKey, RefusedValue, RefusedSize, RefusedPriority, RefusedClash, RefusedBatch}
+use Rattle.mc_script.specs.declared.reply.Reply.TheVariants.{Done, Priority, Deleted, Value, Has, Rows, Heads, Stopped, FaultKeeper, RefusedKey, RefusedValue, RefusedSize, RefusedPriority, RefusedClash, RefusedBatch}
 use Rattle.mc_app.specs.declared.acting.ActError.{ActError}
 use Rattle.mc_app.specs.declared.acting.ActError.TheVariants.{Memory}
 use Rattle.mc_app.specs.declared.entry.LineEntry.{LineEntry}
@@ -42,7 +43,7 @@ place_of (HeadsOf r) = r
 -- whether the command names the replica `a`
 abbrev pub has_replica : Command → Bool
 has_replica (Put r key bytes) = r == 0
-has_replica (Del r key) = false
+has_replica (Del r key) = r == 0
 has_replica (Begin r) = r == 0
 has_replica (BatchPut r key bytes) = r == 0
 has_replica (BatchDel r key) = r == 0
@@ -95,7 +96,7 @@ batch_priority (Some written) = written.priority
 -- which refusal is due: none, or this reply
 abbrev pub Refuses : ReplicaState → Command → Option Reply → Type 0
 Refuses s (Put r key bytes) = ByReply (Is (put_refusal s key bytes))
-Refuses s (Del r key) = λ refusal. ⊥
+Refuses s (Del r key) = ByReply (DeleteRefusal s key)
 Refuses s (Begin r) = ByReply (Is (begin_refusal s))
 Refuses s (BatchPut r key bytes) = ByReply (Is (batch_put_refusal s key bytes))
 Refuses s (BatchDel r key) = ByReply (Is (batch_delete_refusal s key))
@@ -108,7 +109,7 @@ Refuses s (HeadsOf r) = ByReply (Is (read_refusal s))
 -- the events of a command that is not refused, and its reply
 abbrev pub Plan : ReplicaState → Command → List Event → Reply → Type 0
 Plan s (Put r key bytes) = Answers (PutPlan s key bytes) (λ written reply. reply ≡ Priority written.priority)
-Plan s (Del r key) = λ events reply. ⊥
+Plan s (Del r key) = Answers (DeletePlan s key) (λ deleted reply. reply ≡ Deleted deleted.blocks)
 Plan s (Begin r) = Answers (BeginPlan {T = ⊤}) (λ done reply. reply ≡ Done)
 Plan s (BatchPut r key bytes) = Answers (BatchPutPlan {T = ⊤} s key bytes) (λ done reply. reply ≡ Done)
 Plan s (BatchDel r key) = Answers (BatchDeletePlan {T = ⊤} s key) (λ done reply. reply ≡ Done)

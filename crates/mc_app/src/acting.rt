@@ -8,7 +8,7 @@ ghost use Rattle.mc_app.specs.Record.{NamesRisen, Recorded, numbers_of};
 ghost use Rattle.mc_app.specs.Step.{ReplicaStep, Step, has_replica};
 ghost use Rattle.mc_app.specs.Worlds.{world_state};
 
-use crate::replies::{batch_delete, batch_put, begin, commit, get, has, heads, put, query};
+use crate::replies::{batch_delete, batch_put, begin, commit, delete, get, has, heads, put, query};
 use crate::{LineEntry, World};
 use mc_base::List;
 use mc_core::Replica;
@@ -80,7 +80,6 @@ fn act_at<K: Keeper>(
     alloc: Global,
     command: &Command,
 ) -> Result<Reply, ActError>
-    requires there { has_replica command.now ≡ true }
     ensures step { Told (replica_state K.told K.fuse replica.old) (replica_state K.told K.fuse replica.new) (λ s new. IfOk result (λ reply.
         ReplicaStep s command.now (Rose (K.faults replica.old.keeper) (K.faults replica.new.keeper)) (Rose (K.own replica.old.keeper) (K.own replica.new.keeper)) new reply)) }
     ensures not_bad { IsErrOf result ActError.BadLine → ⊥ }
@@ -89,7 +88,7 @@ fn act_at<K: Keeper>(
 {
     match command {
         Command::Put { r, key, bytes } => put(replica, alloc, *r, key.as_str(), bytes.as_slice()),
-        Command::Del { .. } => Err(ActError::Memory),
+        Command::Del { r, key } => delete(replica, alloc, *r, key.as_str()),
         Command::Begin { r } => begin(replica, alloc, *r),
         Command::BatchPut { r, key, bytes } => {
             batch_put(replica, *r, key.as_str(), bytes.as_slice())
@@ -114,7 +113,7 @@ fn has_replica(command: &Command) -> bool
 {
     match command {
         Command::Put { r, .. } => *r == 0,
-        Command::Del { .. } => false,
+        Command::Del { r, .. } => *r == 0,
         Command::Begin { r } => *r == 0,
         Command::BatchPut { r, .. } => *r == 0,
         Command::BatchDel { r, .. } => *r == 0,

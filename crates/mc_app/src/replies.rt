@@ -5,7 +5,7 @@ ghost use Rattle.mc_base.specs.Told.{Told};
 ghost use Rattle.mc_keep.specs.Changes.{heads_in_rows};
 ghost use Rattle.mc_query.specs.Places.{pair_of};
 ghost use Rattle.mc_core.specs.Replica.{replica_state};
-ghost use Rattle.mc_script.specs.declared.command.Command.TheVariants.{Put, Begin, BatchPut, BatchDel, Commit, Get, Has as HasKey, Query, Heads as HeadsOf};
+ghost use Rattle.mc_script.specs.declared.command.Command.TheVariants.{Put, Del, Begin, BatchPut, BatchDel, Commit, Get, Has as HasKey, Query, Heads as HeadsOf};
 ghost use Rattle.mc_script.specs.declared.reply.Reply.TheVariants.{FaultKeeper};
 ghost use Rattle.mc_app.specs.declared.acting.ActError.{ActError};
 ghost use Rattle.mc_app.specs.Step.{Plan, Refuses, Row, answer_of, batch_priority};
@@ -59,11 +59,27 @@ pub fn put<K: Keeper>(
     }
 }
 
-pub fn begin<K: Keeper>(
+pub fn delete<K: Keeper>(
     replica: &mut Replica<K>,
     alloc: Global,
     r: u64,
+    key: &str,
 ) -> Result<Reply, ActError>
+    ensures step { Told (replica_state K.told K.fuse replica.old) (replica_state K.told K.fuse replica.new) (λ s new. IfOk result (λ reply.
+        Row (Refuses s (Del r key.now)) (Plan s (Del r key.now)) (Rose (K.faults replica.old.keeper) (K.faults replica.new.keeper)) (Rose (K.own replica.old.keeper) (K.own replica.new.keeper)) s new reply)) }
+    ensures cause { Counts (K.faults replica.old.keeper) (K.faults replica.new.keeper) (result ≡ Ok FaultKeeper) }
+    ensures own { K.own replica.old.keeper ≤ K.own replica.new.keeper }
+    ensures not_bad { IsErrOf result ActError.BadLine → ⊥ }
+{
+    match replica.delete(alloc, key) {
+        Ok(deleted) => Ok(Reply::Deleted {
+            blocks: deleted.blocks,
+        }),
+        Err(error) => answer(error),
+    }
+}
+
+pub fn begin<K: Keeper>(replica: &mut Replica<K>, alloc: Global, r: u64) -> Result<Reply, ActError>
     ensures step { Told (replica_state K.told K.fuse replica.old) (replica_state K.told K.fuse replica.new) (λ s new. IfOk result (λ reply.
         Row (Refuses s (Begin r)) (Plan s (Begin r)) (Rose (K.faults replica.old.keeper) (K.faults replica.new.keeper)) (Rose (K.own replica.old.keeper) (K.own replica.new.keeper)) s new reply)) }
     ensures cause { Counts (K.faults replica.old.keeper) (K.faults replica.new.keeper) (result ≡ Ok FaultKeeper) }
@@ -111,11 +127,7 @@ pub fn batch_delete<K: Keeper>(
     }
 }
 
-pub fn commit<K: Keeper>(
-    replica: &mut Replica<K>,
-    alloc: Global,
-    r: u64,
-) -> Result<Reply, ActError>
+pub fn commit<K: Keeper>(replica: &mut Replica<K>, alloc: Global, r: u64) -> Result<Reply, ActError>
     ensures step { Told (replica_state K.told K.fuse replica.old) (replica_state K.told K.fuse replica.new) (λ s new. IfOk result (λ reply.
         Row (Refuses s (Commit r)) (Plan s (Commit r)) (Rose (K.faults replica.old.keeper) (K.faults replica.new.keeper)) (Rose (K.own replica.old.keeper) (K.own replica.new.keeper)) s new reply)) }
     ensures cause { Counts (K.faults replica.old.keeper) (K.faults replica.new.keeper) (result ≡ Ok FaultKeeper) }
@@ -148,11 +160,7 @@ pub fn get<K: Keeper>(
     }
 }
 
-pub fn has<K: Keeper>(
-    replica: &mut Replica<K>,
-    r: u64,
-    key: &str,
-) -> Result<Reply, ActError>
+pub fn has<K: Keeper>(replica: &mut Replica<K>, r: u64, key: &str) -> Result<Reply, ActError>
     ensures step { Told (replica_state K.told K.fuse replica.old) (replica_state K.told K.fuse replica.new) (λ s new. IfOk result (λ reply.
         Row (Refuses s (HasKey r key.now)) (Plan s (HasKey r key.now)) (Rose (K.faults replica.old.keeper) (K.faults replica.new.keeper)) (Rose (K.own replica.old.keeper) (K.own replica.new.keeper)) s new reply)) }
     ensures cause { Counts (K.faults replica.old.keeper) (K.faults replica.new.keeper) (result ≡ Ok FaultKeeper) }
@@ -187,11 +195,7 @@ pub fn query<K: Keeper>(
     }
 }
 
-pub fn heads<K: Keeper>(
-    replica: &mut Replica<K>,
-    alloc: Global,
-    r: u64,
-) -> Result<Reply, ActError>
+pub fn heads<K: Keeper>(replica: &mut Replica<K>, alloc: Global, r: u64) -> Result<Reply, ActError>
     ensures step { Told (replica_state K.told K.fuse replica.old) (replica_state K.told K.fuse replica.new) (λ s new. IfOk result (λ reply.
         Row (Refuses s (HeadsOf r)) (Plan s (HeadsOf r)) (Rose (K.faults replica.old.keeper) (K.faults replica.new.keeper)) (Rose (K.own replica.old.keeper) (K.own replica.new.keeper)) s new reply)) }
     ensures cause { Counts (K.faults replica.old.keeper) (K.faults replica.new.keeper) (result ≡ Ok FaultKeeper) }

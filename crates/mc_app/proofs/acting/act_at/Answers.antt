@@ -11,3 +11,6 @@ returns-in-BatchDel-clause-step g c = rw (c.in-BatchDel.is) (rw (c.as_str-in-Bat
 
 pub returns-in-Get-clause-step : goal.returns-in-Get-clause-step
 returns-in-Get-clause-step g c = rw (c.in-Get.is) (rw (c.as_str-in-Get.ensures) at c.get.ensures.step)
+
+pub returns-in-Del-clause-step : goal.returns-in-Del-clause-step
+returns-in-Del-clause-step g c = rw (c.in-Del.is) (rw (c.as_str-in-Del.ensures) at c.delete.ensures.step)
