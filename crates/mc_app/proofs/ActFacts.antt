@@ -1,5 +1,5 @@
 -- From a replica's step to the world's.
-use Rattle.std.proofs.Common.{◌≡◌, ◌≤◌, ℕ, zero, suc, Bool, true, false, true≢false, List, [], ◌∷◌, ◌++◌, Option, Some, None, Result, Ok, Err, refl, sym, ◌∙◌, ap, subst, slice_set}
+use Rattle.std.proofs.Common.{◌≡◌, ℕ, Bool, true, false, true≢false, List, [], ◌∷◌, ◌++◌, Option, Some, None, refl, sym, ◌∙◌, ap, subst, slice_set}
 use Rattle.std.specs.Prelude.{◌==◌, ◌||◌, ◌↔◌, ⊤}
 use Rattle.std.specs.List.{slice_get}
 use Rattle.std.proofs.lemmas.Bool.{eqb-true}
@@ -9,7 +9,6 @@ use Rattle.mc_core.specs.Events.{ReplicaState}
 use Rattle.mc_script.specs.declared.command.Command.{Command}
 use Rattle.mc_script.specs.declared.command.Command.TheVariants.{Put, Del, Begin, BatchPut, BatchDel, Commit, Get, Has, Query, Heads}
 use Rattle.mc_script.specs.declared.reply.Reply.{Reply}
-use Rattle.mc_app.specs.declared.acting.ActError.{ActError}
 use Rattle.mc_app.specs.declared.entry.LineEntry.{LineEntry}
 use Rattle.mc_app.specs.Record.{NamesRisen, Recorded, RoseAt, numbers_of}
 use Rattle.mc_app.specs.Step.{Plan, Refuses, ReplicaStep, Step, has_replica, is_named, place_of}

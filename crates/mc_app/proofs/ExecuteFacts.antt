@@ -1,6 +1,6 @@
 -- A line whose command was done.
-use Rattle.std.proofs.Common.{◌≡◌, ◌≤◌, ◌+◌, ◌-◌, ◌^◌, ℕ, Bool, true, false, List, [], ◌∷◌, Option, Some, None, Result, Ok, Err, refl, subst, sym, ap, arith}
-use Rattle.std.specs.Prelude.{OnOk, IfOk, min, cond}
+use Rattle.std.proofs.Common.{◌≡◌, ◌≤◌, ℕ, true, List, Option, Some, Result, Ok, Err, refl, subst, sym, ap, arith}
+use Rattle.std.specs.Prelude.{OnOk, IfOk, cond}
 use Rattle.std.specs.Io.KnownBytes.{Appends}
 use Rattle.mc_base.specs.Causes.{Counts, Rose}
 use Rattle.mc_base.specs.Told.{Told, AppendsPart}
@@ -12,7 +12,7 @@ use Rattle.mc_script.specs.declared.reply.Reply.TheVariants.{Done, Priority, Del
 use Rattle.mc_app.specs.declared.acting.ActError.{ActError}
 use Rattle.mc_app.specs.declared.entry.LineEntry.{LineEntry}
 use Rattle.mc_app.specs.Record.{Recorded}
-use Rattle.mc_app.specs.Runs.{Answer, LineStep, IsWithin, fault_of, is_fault}
+use Rattle.mc_app.specs.Runs.{IsWithin, is_fault}
 use Rattle.mc_app.specs.Step.{Step, has_replica}
 use Rattle.mc_app.specs.Executes.{Executes, ExecutesPart, IsAnswered}
 

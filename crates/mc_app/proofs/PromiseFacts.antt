@@ -1,6 +1,6 @@
 -- What is promised of every run.
-use Rattle.std.proofs.Common.{◌≡◌, ℕ, zero, suc, Bool, true, false, true≢false, List, [], ◌∷◌, ◌++◌, length, Option, Some, None, refl, sym, ◌∙◌, ap, subst, ◌⊎◌, inl, inr, slice_set}
-use Rattle.std.specs.Prelude.{slice_get, map}
+use Rattle.std.proofs.Common.{◌≡◌, ℕ, zero, suc, Bool, true, false, true≢false, List, [], ◌∷◌, ◌++◌, length, Option, Some, None, refl, sym, ◌∙◌, ap, subst, inl, inr, slice_set}
+use Rattle.std.specs.Prelude.{slice_get}
 use Rattle.std.proofs.lemmas.List.{append-nil, append_assoc}
 use Rattle.mc_base.specs.Told.{Told}
 use Rattle.mc_base.specs.declared.cid.Cid.{Cid}
@@ -27,7 +27,6 @@ use Rattle.mc_core.proofs.EventFacts.{all_happen-append}
 use Rattle.mc_core.specs.Events.{ReplicaState, Goes, MayHappen, goes_on, all_happen}
 use Rattle.mc_core.specs.Puts.{made_events, next_links, delta_of_put}
 use Rattle.mc_core.proofs.GrowthFacts.{GrowLaw, goes_grows, breaks_grows}
-use Rattle.mc_key.specs.KeyRule.{fault_number}
 use Rattle.mc_core.specs.declared.error.CoreError.{CoreError}
 use Rattle.mc_core.specs.declared.error.CoreError.TheVariants as core
 use Rattle.mc_script.specs.Line.{line_of}

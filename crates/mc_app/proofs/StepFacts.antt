@@ -1,19 +1,17 @@
 -- From a call of a replica to the step of a command.
-use Rattle.std.proofs.Common.{◌≡◌, ◌≤◌, ℕ, Bool, true, false, true≢false, List, [], Option, Some, None, Result, Ok, Err, refl, sym, ap, subst, inl, inr}
-use Rattle.std.specs.Prelude.{◌⊎◌, IfOk}
-use Rattle.mc_base.specs.Causes.{Counts, Rose}
+use Rattle.std.proofs.Common.{◌≡◌, List, Option, Some, None, Result, Ok, Err, refl, sym, subst, inl, inr}
+use Rattle.std.specs.Prelude.{IfOk}
 use Rattle.mc_base.specs.Told.{Told}
 use Rattle.mc_model.specs.Events.{Event}
 use Rattle.mc_core.specs.declared.error.CoreError.{CoreError}
 use Rattle.mc_core.specs.declared.error.CoreError.TheVariants as core
-use Rattle.mc_core.specs.Calls.{Begins, Call, Faults}
+use Rattle.mc_core.specs.Calls.{Begins, Call}
 use Rattle.mc_core.specs.Events.{ReplicaState}
-use Rattle.mc_core.specs.Refusals.{CoreCause, OnFault}
+use Rattle.mc_core.specs.Refusals.{OnFault}
 use Rattle.mc_core.proofs.EventFacts.{breaks_rose}
 use Rattle.mc_script.specs.declared.reply.Reply.{Reply}
-use Rattle.mc_script.specs.declared.reply.Reply.TheVariants.{FaultKeeper}
 use Rattle.mc_app.specs.declared.acting.ActError.{ActError}
-use Rattle.mc_app.specs.Step.{answer_of, ByReply, IsRefused, IsDone, IsFaulted, Row}
+use Rattle.mc_app.specs.Step.{answer_of, ByReply, Row}
 
 -- what a plan of calls gives for a plan of replies
 abbrev pub Gives : {T : Type 0} → (List Event → T → Type 0) → (List Event → Reply → Type 0) → Type 0

@@ -3,7 +3,6 @@ use Rattle.std.specs.Prelude.{ℕ, List, Option, Some, ◌≡◌}
 use Rattle.std.specs.Io.KnownBytes.{Appends}
 use Rattle.mc_base.specs.Told.{AppendsPart}
 use Rattle.mc_core.specs.Events.{ReplicaState}
-use Rattle.mc_script.specs.Line.{line_of}
 use Rattle.mc_script.specs.declared.command.Command.{Command}
 use Rattle.mc_script.specs.declared.reply.Reply.{Reply}
 use Rattle.mc_app.specs.Runs.{Answer, LineStep, IsWithin, fault_of, text_of_answer}

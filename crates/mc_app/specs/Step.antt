@@ -1,19 +1,19 @@
 -- What a command may do to a world, and what is answered.
-use Rattle.std.specs.Prelude.{◌≡◌, ◌⊎◌, ⊤, ℕ, Bool, true, List, [], ◌∷◌, ◌++◌, ◌==◌, Option, Some, None, Result, Ok, Err, slice_get, set}
+use Rattle.std.specs.Prelude.{◌≡◌, ◌⊎◌, ⊤, ℕ, Bool, true, List, ◌==◌, Option, Some, None, Result, Ok, Err, slice_get, set}
 use Rattle.std.specs.List.{list_any}
 use Rattle.mc_key.specs.KeyRule.{fault_number}
 use Rattle.mc_key.specs.Prefix.{is_under}
 use Rattle.mc_model.specs.Answers as answers
 use Rattle.mc_model.specs.Answers.{has_value}
 use Rattle.mc_model.specs.Events.{Event}
-use Rattle.mc_model.specs.Front.{Head, heads}
-use Rattle.mc_model.specs.Kept.{Kept, processed}
+use Rattle.mc_model.specs.Front.{heads}
+use Rattle.mc_model.specs.Kept.{processed}
 use Rattle.mc_model.specs.Live.{value}
 use Rattle.mc_core.specs.declared.error.CoreError.{CoreError}
 use Rattle.mc_core.specs.declared.error.CoreError.TheVariants as core
 use Rattle.mc_core.specs.declared.made.Written.{Written}
 use Rattle.mc_core.specs.Batches.{begin_refusal, BeginPlan, batch_put_refusal, BatchPutPlan, batch_delete_refusal, BatchDeletePlan, commit_refusal, CommitPlan}
-use Rattle.mc_core.specs.Calls.{Begins, Faults}
+use Rattle.mc_core.specs.Calls.{Faults}
 use Rattle.mc_core.specs.Deletes.{DeleteRefusal, DeletePlan}
 use Rattle.mc_core.specs.Events.{ReplicaState, Goes}
 use Rattle.mc_core.specs.Puts.{put_refusal, PutPlan}

@@ -1,5 +1,4 @@
 use Rattle.std.proofs.Common.{refl}
-use Rattle.std.specs.Prelude.{◌≡◌}
 use Rattle.mc_core.specs.Deletes.{DeleteRefusal, DeletePlan, DeleteShort}
 use Rattle.mc_script.specs.declared.command.Command.TheVariants.{Del}
 use Rattle.mc_script.specs.declared.reply.Reply.TheVariants.{Deleted}
