@@ -23,7 +23,7 @@ const WHOLE: Plan = Plan {
     failing: 0,
 };
 
-#[derive(Drop)]
+#[derive(Clone, Copy)]
 struct Row {
     script: &'static str,
     reads: Plan,
@@ -83,9 +83,14 @@ fn run_over(
     Ok((status, out))
 }
 
+// Whether a row's script is answered as it says.
+fn is_so(alloc: Global, row: Row) -> Result<bool, Fail> {
+    let (status, out) = run_over(alloc, row.script.as_bytes(), row.reads, row.writes)?;
+    Ok((status, status.code()) == (row.status, row.code) && out.bytes() == row.written.as_bytes())
+}
+
 #[test]
 fn scripts_are_answered_line_by_line(rt: HostRuntime) -> Result<(), Fail> {
-    let alloc = rt.alloc();
     let done = Status::Done;
     let bad = |line| Status::BadLine { line };
     let rows = [
@@ -101,31 +106,6 @@ fn scripts_are_answered_line_by_line(rt: HostRuntime) -> Result<(), Fail> {
         without_fault("put a /a 01\nput a /a 0", bad(2), 3, "ok 1\nbad line 2\n"),
         without_fault("frob", bad(1), 3, "bad line 1\n"),
         without_fault("get a /a\n\n# none\nget a /a\n", done, 0, "none\nnone\n"),
-        without_fault("put d /a 01", bad(1), 3, "bad line 1\n"),
-        without_fault(
-            "put a /a -\nget a /a\nhas a /a\nget a /b\nhas a /b",
-            done,
-            0,
-            "ok 1\n-\nyes\nnone\nno\n",
-        ),
-        without_fault(
-            "put a / 01\nput a a 01\nput a /a//b 01\nput a /a/.. 01",
-            done,
-            0,
-            "refused key 4\nrefused key 2\nrefused key 4\nrefused key 5\n",
-        ),
-        without_fault(
-            "begin a\nbput a /k 01\nbdel a /k\nbput a /k 02\ncommit a\nget a /k\nbegin a\ncommit a\ncommit a\nbegin a\nbegin a",
-            done,
-            0,
-            "ok\nok\nok\nok\nok 1\n02\nok\nok 0\nrefused batch\nok\nrefused batch\n",
-        ),
-        without_fault(
-            "put a /a 01\nput a /ab 02\nput a /a/b 03\nput a /a/c 04\nquery a /a 0 10\nquery a / 1 2\nquery a /a/ 5 5\ndel a /zz",
-            done,
-            0,
-            "ok 1\nok 2\nok 3\nok 4\nrows 2\n/a/b 03\n/a/c 04\nrows 2\n/a/b 03\n/a/c 04\nrows 0\ndeleted 0\n",
-        ),
         Row {
             reads: Plan {
                 piece: 0,
@@ -164,30 +144,84 @@ fn scripts_are_answered_line_by_line(rt: HostRuntime) -> Result<(), Fail> {
             )
         },
     ];
-    for row in &rows {
+    for row in rows {
         let script = row.script;
-        let (status, out) = run_over(alloc, script.as_bytes(), row.reads, row.writes)?;
-        assert_eq!(rt;
-            (status, status.code()),
-            (row.status, row.code),
-            "at {script}"
-        );
-        assert_eq!(rt; out.bytes(), row.written.as_bytes(), "at {script}");
+        assert!(rt; is_so(rt.alloc(), row)?, "at {script}");
     }
-    let mut script = MemorySource::new(
-        Bytes::from_slice(alloc, b"get a /a\n")?,
-        0,
-        List::new(alloc),
-    );
+    Ok(())
+}
+
+#[test]
+fn commands_are_answered(rt: HostRuntime) -> Result<(), Fail> {
+    let done = Status::Done;
+    let bad = |line| Status::BadLine { line };
+    let rows = [
+        without_fault("put d /a 01", bad(1), 3, "bad line 1\n"),
+        without_fault(
+            "put a /a -\nget a /a\nhas a /a\nget a /b\nhas a /b",
+            done,
+            0,
+            "ok 1\n-\nyes\nnone\nno\n",
+        ),
+        without_fault(
+            "put a / 01\nput a a 01\nput a /a//b 01\nput a /a/.. 01",
+            done,
+            0,
+            "refused key 4\nrefused key 2\nrefused key 4\nrefused key 5\n",
+        ),
+        without_fault(
+            "begin a\nbput a /k 01\nbdel a /k\nbput a /k 02\ncommit a\nget a /k\nbegin a\ncommit a\ncommit a\nbegin a\nbegin a",
+            done,
+            0,
+            "ok\nok\nok\nok\nok 1\n02\nok\nok 0\nrefused batch\nok\nrefused batch\n",
+        ),
+        without_fault(
+            "put a /a 01\nput a /ab 02\nput a /a/b 03\nput a /a/c 04\nquery a /a 0 10\nquery a / 1 2\nquery a /a/ 5 5\ndel a /zz",
+            done,
+            0,
+            "ok 1\nok 2\nok 3\nok 4\nrows 2\n/a/b 03\n/a/c 04\nrows 2\n/a/b 03\n/a/c 04\nrows 0\ndeleted 0\n",
+        ),
+    ];
+    for row in rows {
+        let script = row.script;
+        assert!(rt; is_so(rt.alloc(), row)?, "at {script}");
+    }
+    Ok(())
+}
+
+fn empty_sink(alloc: Global) -> MemorySink {
+    MemorySink::new(Bytes::new(alloc), 0, List::new(alloc))
+}
+
+fn one_line(alloc: Global) -> Result<MemorySource, Fail> {
+    let line = Bytes::from_slice(alloc, b"get a /a\n")?;
+    Ok(MemorySource::new(line, 0, List::new(alloc)))
+}
+
+#[test]
+fn a_sink_may_take_nothing_more(rt: HostRuntime) -> Result<(), Fail> {
+    let alloc = rt.alloc();
+    let mut script = one_line(alloc)?;
     let mut out = Writing::new(Cursor::new([0; 3]));
     let status = run_in_memory(alloc, &["run"], &mut script, &mut out)?;
     assert_eq!(rt; (status, status.code()), (Status::WriteFault, 5));
+    Ok(())
+}
+
+// How a run with these words ends, and how many bytes it writes.
+fn run_words(alloc: Global, words: &[&str]) -> Result<(Status, usize), Fail> {
+    let mut script = one_line(alloc)?;
+    let mut out = empty_sink(alloc);
+    let status = run_in_memory(alloc, words, &mut script, &mut out)?;
+    Ok((status, out.bytes().len()))
+}
+
+#[test]
+fn other_words_are_refused(rt: HostRuntime) -> Result<(), Fail> {
     let refused: [&[&str]; 5] = [&[], &["gen"], &["run", "run"], &["Run"], &["--help"]];
     for words in refused {
-        let mut out = MemorySink::new(Bytes::new(alloc), 0, List::new(alloc));
-        let status = run_in_memory(alloc, words, &mut script, &mut out)?;
-        assert_eq!(rt; (status, status.code()), (Status::Usage, 2));
-        assert_eq!(rt; out.bytes().len(), 0);
+        let ended = run_words(rt.alloc(), words)?;
+        assert_eq!(rt; ended, (Status::Usage, 0));
     }
     Ok(())
 }
@@ -296,18 +330,22 @@ fn push_zeros(script: &mut Vec<u8>, line: &[u8], zeros: usize) -> Result<(), Fai
     Ok(())
 }
 
-#[test]
-fn values_and_blocks_end_at_their_limits(rt: HostRuntime) -> Result<(), Fail> {
-    let alloc = rt.alloc();
+// A batch that is too large for a block, and a value that is too long.
+fn large_script(alloc: Global) -> Result<Vec<u8>, Fail> {
     let mut script = b"begin a\n".to_vec(alloc)?;
-    push_zeros(&mut script, b"bput a /a ", 262_144)?;
-    push_zeros(&mut script, b"bput a /b ", 262_144)?;
-    push_zeros(&mut script, b"bput a /c ", 262_144)?;
-    push_zeros(&mut script, b"bput a /d ", 262_144)?;
+    for line in [b"bput a /a ", b"bput a /b ", b"bput a /c ", b"bput a /d "] {
+        push_zeros(&mut script, line.as_slice(), 262_144)?;
+    }
     script.extend_from_slice(b"commit a\nbput a /d -\ncommit a\n")?;
     push_zeros(&mut script, b"put a /a ", 262_145)?;
+    Ok(script)
+}
+
+#[test]
+fn values_and_blocks_end_at_their_limits(rt: HostRuntime) -> Result<(), Fail> {
+    let script = large_script(rt.alloc())?;
     let text = b"ok\nok\nok\nok\nok\nrefused size 1048630\nok\nok 1\nrefused value\n";
-    assert!(rt; is_answered(alloc, script.as_slice(), text.as_slice())?);
+    assert!(rt; is_answered(rt.alloc(), script.as_slice(), text.as_slice())?);
     Ok(())
 }
 
