@@ -321,10 +321,10 @@ fn keys_end_at_their_limit(rt: HostRuntime) -> Result<(), Fail> {
     Ok(())
 }
 
-// A line with this many zero bytes as its value.
+// A line whose value has this many zero digits.
 fn push_zeros(script: &mut Vec<u8>, line: &[u8], zeros: usize) -> Result<(), Fail> {
     script.extend_from_slice(line)?;
-    let len = script.len() + 2 * zeros;
+    let len = script.len().saturating_add(zeros);
     script.resize(len, b'0')?;
     script.push(b'\n')?;
     Ok(())
@@ -334,10 +334,10 @@ fn push_zeros(script: &mut Vec<u8>, line: &[u8], zeros: usize) -> Result<(), Fai
 fn large_script(alloc: Global) -> Result<Vec<u8>, Fail> {
     let mut script = b"begin a\n".to_vec(alloc)?;
     for line in [b"bput a /a ", b"bput a /b ", b"bput a /c ", b"bput a /d "] {
-        push_zeros(&mut script, line.as_slice(), 262_144)?;
+        push_zeros(&mut script, line.as_slice(), 524_288)?;
     }
     script.extend_from_slice(b"commit a\nbput a /d -\ncommit a\n")?;
-    push_zeros(&mut script, b"put a /a ", 262_145)?;
+    push_zeros(&mut script, b"put a /a ", 524_290)?;
     Ok(script)
 }
 
@@ -352,7 +352,7 @@ fn values_and_blocks_end_at_their_limits(rt: HostRuntime) -> Result<(), Fail> {
 // The replies to so many puts of one key, and to its delete.
 fn replies_of(alloc: Global, puts: u64, last: &str) -> Result<Vec<u8>, Fail> {
     let mut text = Vec::new(alloc);
-    for number in 1..puts + 1 {
+    for number in 1..=puts {
         let line = format!(in alloc; "ok {number}\n")?;
         text.extend_from_slice(line.as_bytes())?;
     }
