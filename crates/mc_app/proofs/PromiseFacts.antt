@@ -15,7 +15,7 @@ use Rattle.mc_model.specs.SameMembers.{SameMembers}
 use Rattle.mc_model.specs.State.{Durable, OpenBatch, Running, blocks_of, kept_of}
 use Rattle.mc_key.specs.Prefix.{is_under}
 use Rattle.std.proofs.Common.{◌≢◌, cond}
-use Rattle.std.specs.Prelude.{is_some}
+use Rattle.std.specs.Prelude.{is_some, unwrap_or}
 use Rattle.mc_keep.specs.declared.changes.Changes.{Changes}
 use Rattle.mc_keep.specs.declared.fuse.Fuse.{Fuse}
 use Rattle.mc_model.specs.Batch.{is_empty_batch}
@@ -26,29 +26,18 @@ use Rattle.mc_core.specs.declared.made.Written.{Written}
 use Rattle.mc_core.proofs.EventFacts.{all_happen-append}
 use Rattle.mc_core.specs.Events.{ReplicaState, Goes, MayHappen, goes_on, all_happen}
 use Rattle.mc_core.specs.Puts.{made_events, next_links, delta_of_put}
-use Rattle.mc_core.proofs.GrowthFacts.{GrowLaw, goes_grows, breaks_grows}
+use Rattle.mc_core.proofs.GrowthFacts.{GrowLaw, same_goes, goes_then, goes_grows, breaks_grows}
 use Rattle.mc_core.specs.declared.error.CoreError.{CoreError}
 use Rattle.mc_core.specs.declared.error.CoreError.TheVariants as core
 use Rattle.mc_script.specs.Line.{line_of}
 use Rattle.mc_script.specs.declared.command.Command.{Command}
 use Rattle.mc_script.specs.declared.command.Command.TheVariants.{Put, Del, Begin, BatchPut, BatchDel, Commit, Get, Has as HasKey, Query, Heads as HeadsOf}
 use Rattle.mc_script.specs.declared.reply.Reply.{Reply}
-use Rattle.mc_script.specs.declared.reply.Reply.TheVariants.{Done, Priority, Deleted, Value, Has, Rows, Heads, Stopped, FaultKeeper, RefusedKey, RefusedValue, RefusedSize, RefusedPriority, RefusedClash, RefusedBatch}
+use Rattle.mc_script.specs.declared.reply.Reply.TheVariants.{Priority, Deleted, Value, Has, Rows, Heads}
 use Rattle.mc_app.specs.declared.entry.LineEntry.{LineEntry}
 use Rattle.mc_app.specs.Promises.{HasDeleted, HasProcessed, OnlyGrows, batch_cid, chain_cids, is_read}
 use Rattle.mc_app.specs.Runs.{Answer, LineStep, Runs}
 use Rattle.mc_app.specs.Step.{IsReply, Plan, ReplicaStep, Row, Step, batch_priority, is_named, place_of}
-
-same_goes : (d : Durable) → GoesOn d d
-same_goes d = record { processed = []; stored = []; order = sym (append-nil d.order); graph = sym (append-nil d.graph) }
-
-goes_then : (a b c : Durable) → GoesOn a b → GoesOn b c → GoesOn a c
-goes_then a b c g h = record {
-  processed = g.processed ++ h.processed;
-  stored = g.stored ++ h.stored;
-  order = h.order ∙ ap (λ (front : List Cid). front ++ h.processed) g.order ∙ append_assoc a.order g.processed h.processed;
-  graph = h.graph ∙ ap (λ front. front ++ h.stored) g.graph ∙ append_assoc a.graph g.stored h.stored;
-}
 
 abbrev Grows : Option ReplicaState → Option ReplicaState → Type 0
 Grows s t = Told s t (λ s t. GoesOn s.state.durable t.state.durable)
@@ -125,45 +114,37 @@ abbrev pub WrittenLaw : Type 0
 WrittenLaw = (kept : Kept) (links : List Cid) (delta : Delta) (s new : ReplicaState) → kept ≡ kept_of s.state.durable → Goes (made_events kept links delta) s new
     → slice_get new.state.durable.order (length kept.order) ≡ Some (made_cid links delta)
 
--- no refusal is answered by `ok P`
-is_number : Reply → Bool
-is_number (Priority priority) = true
-is_number Done = false
-is_number (Deleted blocks) = false
-is_number (Value value) = false
-is_number (Has found) = false
-is_number (Rows rows) = false
-is_number (Heads heads) = false
-is_number Stopped = false
-is_number FaultKeeper = false
-is_number (RefusedKey number) = false
-is_number RefusedValue = false
-is_number (RefusedSize len) = false
-is_number RefusedPriority = false
-is_number (RefusedClash cid) = false
-is_number RefusedBatch = false
+-- the numbers of `ok P` and `deleted N`
+number_in : Reply → Option ℕ
+number_in (Priority priority) = Some priority
+number_in reply = None
 
+count_in : Reply → Option ℕ
+count_in (Deleted blocks) = Some blocks
+count_in reply = None
+
+-- no refusal is answered so
 no_number : (error : CoreError) (priority : ℕ) → IsReply error (Priority priority) → ⊥
-unfolding is_number
+unfolding number_in
 no_number core.KeeperFault priority e = e
 no_number core.Memory priority e = e
-no_number (core.BadKey fault) priority e = true≢false (ap is_number e)
-no_number core.ValueTooLong priority e = true≢false (ap is_number e)
-no_number (core.BlockTooLarge len) priority e = true≢false (ap is_number e)
-no_number core.PriorityFull priority e = true≢false (ap is_number e)
-no_number (core.Clash cid) priority e = true≢false (ap is_number e)
-no_number core.Stopped priority e = true≢false (ap is_number e)
-no_number core.NoBatch priority e = true≢false (ap is_number e)
-no_number core.BatchOpen priority e = true≢false (ap is_number e)
+no_number (core.BadKey fault) priority e = true≢false (ap (λ r. is_some (number_in r)) e)
+no_number core.ValueTooLong priority e = true≢false (ap (λ r. is_some (number_in r)) e)
+no_number (core.BlockTooLarge len) priority e = true≢false (ap (λ r. is_some (number_in r)) e)
+no_number core.PriorityFull priority e = true≢false (ap (λ r. is_some (number_in r)) e)
+no_number (core.Clash cid) priority e = true≢false (ap (λ r. is_some (number_in r)) e)
+no_number core.Stopped priority e = true≢false (ap (λ r. is_some (number_in r)) e)
+no_number core.NoBatch priority e = true≢false (ap (λ r. is_some (number_in r)) e)
+no_number core.BatchOpen priority e = true≢false (ap (λ r. is_some (number_in r)) e)
 
 pub put_is_processed : (law : WrittenLaw) (w : List ReplicaState) (r : ℕ) (key bytes : List ℕ) (entry : LineEntry) (priority : ℕ) (w2 : List ReplicaState) → Step w (Put r key bytes) entry (Priority priority) w2
     → HasProcessed w r (λ kept. made_cid (next_links kept) (delta_of_put kept key bytes)) w2
-unfolding is_number
+unfolding number_in
 put_is_processed law w r key bytes entry priority w2 step = over step.step
   where
     over : ReplicaStep step.old (Put r key bytes) (is_named entry.keepers r ≡ true) (is_named entry.own r ≡ true) step.new (Priority priority) → HasProcessed w r (λ kept. made_cid (next_links kept) (delta_of_put kept key bytes)) w2
     over (inl (inl refused)) = absurd (no_number refused.cause.0 priority refused.cause.2)
-    over (inr faulted) = absurd (true≢false (ap is_number faulted.says))
+    over (inr faulted) = absurd (true≢false (ap (λ r. is_some (number_in r)) faulted.says))
     over (inl (inr done)) = record {
       old = step.old;
       new = step.new;
@@ -232,26 +213,9 @@ in_run (Some run) P h = in_batch run.batch h
     in_batch None h = absurd h
     in_batch (Some batch) h = record { batch = batch; holds = h }
 
-number_in : Reply → ℕ
-number_in (Priority priority) = priority
-number_in Done = 0
-number_in (Deleted blocks) = 0
-number_in (Value value) = 0
-number_in (Has found) = 0
-number_in (Rows rows) = 0
-number_in (Heads heads) = 0
-number_in Stopped = 0
-number_in FaultKeeper = 0
-number_in (RefusedKey number) = 0
-number_in RefusedValue = 0
-number_in (RefusedSize len) = 0
-number_in RefusedPriority = 0
-number_in (RefusedClash cid) = 0
-number_in RefusedBatch = 0
-
 pub commit_is_processed : (grow : GrowLaw) (law : WrittenLaw) (w : List ReplicaState) (r : ℕ) (entry : LineEntry) (priority : ℕ) (w2 : List ReplicaState) → Step w (Commit r) entry (Priority priority) w2 → priority ≢ 0
     → (batch : OpenBatch) × HasProcessed w r (batch_cid batch) w2
-unfolding is_number number_in
+unfolding number_in
 commit_is_processed grow law w r entry priority w2 step some = over step.step
   where
     kept : Kept
@@ -259,9 +223,9 @@ commit_is_processed grow law w r entry priority w2 step some = over step.step
 
     over : ReplicaStep step.old (Commit r) (is_named entry.keepers r ≡ true) (is_named entry.own r ≡ true) step.new (Priority priority) → (batch : OpenBatch) × HasProcessed w r (batch_cid batch) w2
     over (inl (inl refused)) = absurd (no_number refused.cause.0 priority refused.cause.2)
-    over (inr faulted) = absurd (true≢false (ap is_number faulted.says))
+    over (inr faulted) = absurd (true≢false (ap (λ r. is_some (number_in r)) faulted.says))
     over (inl (inr done)) = elim done.plan.0 as (λ answer. OfRun step.old.state.run (λ batch. BatchBecomes (kept_of step.old.state.durable) batch (is_empty_batch batch) done.events answer) → Priority priority ≡ Priority (batch_priority answer) → (batch : OpenBatch) × HasProcessed w r (batch_cid batch) w2) [
-      | None ↦ λ plan says. absurd (some (ap number_in says))
+      | None ↦ λ plan says. absurd (some (ap (λ r. unwrap_or (number_in r) 0) says))
       | Some written ↦ λ plan says.
           let open_now = in_run step.old.state.run (λ batch. BatchBecomes (kept_of step.old.state.durable) batch (is_empty_batch batch) done.events (Some written)) plan in
           (open_now.batch, becomes open_now.batch written (is_empty_batch open_now.batch) open_now.holds)
@@ -305,60 +269,26 @@ chain_order (delta ∷ deltas) kept links s new g =
     (made_order (is_stored kept.graph (made_cid links delta)) _ (made_cid links delta) s.state.durable s.state.run s.fuse (may_first made rest s g.may))
     ∙ append_assoc s.state.durable.order (made_cid links delta ∷ []) (chain_cids (made_cid links delta ∷ []) deltas)
 
-count_in : Reply → ℕ
-count_in (Deleted blocks) = blocks
-count_in (Priority priority) = 0
-count_in Done = 0
-count_in (Value value) = 0
-count_in (Has found) = 0
-count_in (Rows rows) = 0
-count_in (Heads heads) = 0
-count_in Stopped = 0
-count_in FaultKeeper = 0
-count_in (RefusedKey number) = 0
-count_in RefusedValue = 0
-count_in (RefusedSize len) = 0
-count_in RefusedPriority = 0
-count_in (RefusedClash cid) = 0
-count_in RefusedBatch = 0
-
-is_count : Reply → Bool
-is_count (Deleted blocks) = true
-is_count (Priority priority) = false
-is_count Done = false
-is_count (Value value) = false
-is_count (Has found) = false
-is_count (Rows rows) = false
-is_count (Heads heads) = false
-is_count Stopped = false
-is_count FaultKeeper = false
-is_count (RefusedKey number) = false
-is_count RefusedValue = false
-is_count (RefusedSize len) = false
-is_count RefusedPriority = false
-is_count (RefusedClash cid) = false
-is_count RefusedBatch = false
-
 no_count : (error : CoreError) (count : ℕ) → IsReply error (Deleted count) → ⊥
-unfolding is_count
+unfolding count_in
 no_count core.KeeperFault count e = e
 no_count core.Memory count e = e
-no_count (core.BadKey fault) count e = true≢false (ap is_count e)
-no_count core.ValueTooLong count e = true≢false (ap is_count e)
-no_count (core.BlockTooLarge len) count e = true≢false (ap is_count e)
-no_count core.PriorityFull count e = true≢false (ap is_count e)
-no_count (core.Clash cid) count e = true≢false (ap is_count e)
-no_count core.Stopped count e = true≢false (ap is_count e)
-no_count core.NoBatch count e = true≢false (ap is_count e)
-no_count core.BatchOpen count e = true≢false (ap is_count e)
+no_count (core.BadKey fault) count e = true≢false (ap (λ r. is_some (count_in r)) e)
+no_count core.ValueTooLong count e = true≢false (ap (λ r. is_some (count_in r)) e)
+no_count (core.BlockTooLarge len) count e = true≢false (ap (λ r. is_some (count_in r)) e)
+no_count core.PriorityFull count e = true≢false (ap (λ r. is_some (count_in r)) e)
+no_count (core.Clash cid) count e = true≢false (ap (λ r. is_some (count_in r)) e)
+no_count core.Stopped count e = true≢false (ap (λ r. is_some (count_in r)) e)
+no_count core.NoBatch count e = true≢false (ap (λ r. is_some (count_in r)) e)
+no_count core.BatchOpen count e = true≢false (ap (λ r. is_some (count_in r)) e)
 
 pub delete_is_processed : (w : List ReplicaState) (r : ℕ) (key : List ℕ) (entry : LineEntry) (count : ℕ) (w2 : List ReplicaState) → Step w (Del r key) entry (Deleted count) w2 → HasDeleted w r key count w2
-unfolding is_count count_in
+unfolding count_in
 delete_is_processed w r key entry count w2 step = over step.step
   where
     over : ReplicaStep step.old (Del r key) (is_named entry.keepers r ≡ true) (is_named entry.own r ≡ true) step.new (Deleted count) → HasDeleted w r key count w2
     over (inl (inl refused)) = absurd (no_count refused.cause.0 count refused.cause.2)
-    over (inr faulted) = absurd (true≢false (ap is_count faulted.says))
+    over (inr faulted) = absurd (true≢false (ap (λ r. is_some (count_in r)) faulted.says))
     over (inl (inr done)) = record {
       old = step.old;
       new = step.new;
@@ -366,7 +296,7 @@ delete_is_processed w r key entry count w2 step = over step.step
       stood = step.stands;
       stands = ap (λ x. slice_get x r) step.after ∙ set_stands w r step.old step.new step.stands;
       are = done.plan.1.1;
-      counted = ap count_in done.plan.2 ∙ done.plan.1.3;
+      counted = ap (λ r. unwrap_or (count_in r) 0) done.plan.2 ∙ done.plan.1.3;
       processed =
           chain_order done.plan.1.0 (kept_of step.old.state.durable) (next_links (kept_of step.old.state.durable)) step.old step.new (subst (λ events. Goes events step.old step.new) done.plan.1.2 done.goes);
     }

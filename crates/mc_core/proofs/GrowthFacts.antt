@@ -24,10 +24,10 @@ all_after : (events : List Event) (s : ReplicaState) → (all_happen s events).s
 all_after [] s = refl
 all_after (event ∷ events) s = all_after events (goes_on s event)
 
-same_goes : (d : Durable) → GoesOn d d
+pub same_goes : (d : Durable) → GoesOn d d
 same_goes d = record { processed = []; stored = []; order = sym (append-nil d.order); graph = sym (append-nil d.graph) }
 
-goes_then : (a b c : Durable) → GoesOn a b → GoesOn b c → GoesOn a c
+pub goes_then : (a b c : Durable) → GoesOn a b → GoesOn b c → GoesOn a c
 goes_then a b c g h = record {
   processed = g.processed ++ h.processed;
   stored = g.stored ++ h.stored;
