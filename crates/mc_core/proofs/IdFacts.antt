@@ -1,15 +1,14 @@
 -- Processed blocks with one id are one block: an id has all the bits of a digest.
-use Rattle.std.proofs.Common.{◌≡◌, ◌<◌, ℕ, Bool, true, false, not, cond, List, [], ◌∷◌, ◌++◌, length, drop, suc, zero, Option, Some, None, Err, refl, sym, ◌∙◌, ap, subst, arith, inl, inr}
-use Rattle.std.specs.Prelude.{nat_le, find, is_some, slice_index}
-use Rattle.std.specs.Int.{w32, to_be_bytes}
-use Rattle.std.specs.List.{list_all, AllByRecursion}
+use Rattle.std.proofs.Common.{◌≡◌, ◌<◌, ℕ, Bool, true, false, not, cond, List, [], ◌∷◌, ◌++◌, length, drop, Option, Some, None, Err, refl, sym, ◌∙◌, ap, subst, arith, inl, inr}
+use Rattle.std.specs.Prelude.{nat_le, find, is_some}
+use Rattle.std.specs.List.{list_all}
 use Rattle.std.specs.Option.{option_map}
 use Rattle.std.specs.Result.{is_ok, result_ok}
 use Rattle.std.specs.Str.{bytes_eq}
 use Rattle.std.proofs.lemmas.Bool.{and_parts}
 use Rattle.std.proofs.lemmas.Slice.Eq.{bytes_eq-Decides}
-use Rattle.sha2.specs.Sha256.{sha256, digest_bytes}
 use Rattle.mc_base.specs.Base32.{base32_of}
+use Rattle.mc_base.proofs.Digest.{AreBytes, digest_bytes_below}
 use Rattle.mc_base.specs.Cid.{digest_of}
 use Rattle.mc_base.specs.NodeRead.{node_of}
 use Rattle.mc_base.specs.declared.base32.Case.TheVariants.{Upper}
@@ -27,28 +26,7 @@ use Rattle.mc_write.proofs.Membership.{In, Passing, in_from_any}
 abbrev pub AreApart : Kept → Type 0
 AreApart kept = (a b : Cid) → is_among kept.order a ≡ true → is_among kept.order b ≡ true → id_text a.0 ≡ id_text b.0 → a ≡ b
 
--- the bytes of a digest
-
-abbrev AreBytes : List ℕ → Type 0
-AreBytes bytes = AllByRecursion (λ byte. byte < 256) bytes
-
-bytes_append : (xs ys : List ℕ) → AreBytes xs → AreBytes ys → AreBytes (xs ++ ys)
-bytes_append [] ys p q = q
-bytes_append (x ∷ xs) ys p q = (p.0, bytes_append xs ys p.1 q)
-
-word_bytes : (word : ℕ) → AreBytes (to_be_bytes w32 word)
-word_bytes word = (omega arith, (omega arith, (omega arith, (omega arith, tt))))
-
-some_bytes : (words : List ℕ) (n : ℕ) → AreBytes (digest_bytes words n)
-unfolding digest_bytes
-some_bytes words zero = tt
-some_bytes words (suc n) = bytes_append (digest_bytes words n) (to_be_bytes w32 (slice_index words n)) (some_bytes words n) (word_bytes (slice_index words n))
-
-are_bytes : (bytes : List ℕ) → AreBytes (digest_of bytes)
-unfolding sha256
-are_bytes bytes = some_bytes _ 8
-
--- so one id has one digest
+-- one id has one digest
 
 or_nothing : Option (List ℕ) → List ℕ
 or_nothing None = []
@@ -105,5 +83,5 @@ are_apart kept sound = λ a b i j e.
     let x = is_digest kept a sound i in
     let y = is_digest kept b sound j in
     let same : a.0 ≡ b.0 =
-    same_id a.0 b.0 (subst AreBytes (sym x.1) (are_bytes x.0)) (subst AreBytes (sym y.1) (are_bytes y.0)) e in
+    same_id a.0 b.0 (subst AreBytes (sym x.1) (digest_bytes_below x.0)) (subst AreBytes (sym y.1) (digest_bytes_below y.0)) e in
     λ k. record { 0 = same k }

@@ -2,3 +2,4 @@ pub mod Commits
 pub mod ElementTies
 pub mod Processed
 pub mod Fitting
+pub mod Lives

@@ -6,3 +6,4 @@ pub mod New
 pub mod Next
 pub mod Plan
 pub mod Tables
+pub mod Live

@@ -13,6 +13,7 @@ ghost use Rattle.mc_keep.specs.Causes.{IfTold, KeepCause, StaysQuiet, burnt, fir
 ghost use Rattle.mc_keep.specs.Changes.{row_count, changed, heads_in_rows};
 ghost use Rattle.mc_keep.specs.Next.{IsNext};
 ghost use Rattle.mc_keep.specs.ElementOrder.{element_cmp};
+ghost use Rattle.mc_keep.specs.Live.{IsHolder};
 ghost use Rattle.mc_keep.specs.Plan.{Schedule, DeskSchedule, ReadsAsPlanned, DeskAsPlanned, DeskReadsAsPlanned, CommitsAsPlanned, is_fault};
 ghost use Rattle.mc_keep.specs.Tables.{ChangesFit, IsSummary, IsSmall, IsValueRow, element_rows_of};
 
@@ -189,6 +190,18 @@ pub trait Keeper: Counted + Send + Sync {
     /// The value row of a key, or none where it has no value.
     fn value(&mut self, alloc: Global, key: &str) -> Result<Option<ValueRow>, KeepError>
         ensures row { IfTold (told self.old) result (λ kept row. IsValueRow (processed kept) key.now row) }
+        ensures told { told self.new ≡ told self.old }
+        ensures fuse { fuse self.new ≡ fuse self.old }
+        ensures spare { spare self.old ≤ spare self.new }
+        ensures own { KeepCause (own self.old) (own self.new) result }
+        ensures quiet { StaysQuiet (quiet self.old) (quiet self.new) (own self.old) (own self.new) }
+        ensures planned { ReadsAsPlanned (schedule self.old) (schedule self.new) (is_fault result) }
+        ensures cause { KeepCause (Self.faults self.old) (Self.faults self.new) result };
+
+    /// A processed block with a live element of the key that has the value and the priority of the key's value row, or none
+    /// where the key has no value. Which of several it is, is the keeper's choice.
+    fn holder(&mut self, alloc: Global, key: &str) -> Result<Option<Cid>, KeepError>
+        ensures row { IfTold (told self.old) result (λ kept cid. IsHolder (processed kept) key.now cid) }
         ensures told { told self.new ≡ told self.old }
         ensures fuse { fuse self.new ≡ fuse self.old }
         ensures spare { spare self.old ≤ spare self.new }

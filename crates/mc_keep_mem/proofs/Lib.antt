@@ -15,3 +15,4 @@ pub mod NextFacts
 pub mod Reserves
 pub mod Empty
 pub mod DeskCounts
+pub mod HolderFacts

@@ -8,3 +8,4 @@ pub mod Tombs
 pub mod Values
 pub mod Faults
 pub mod Desks
+pub mod Holder

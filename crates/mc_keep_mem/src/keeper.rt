@@ -147,6 +147,11 @@ impl<S: BuildHasher + Drop + Send + Sync> Keeper for MemKeeper<S> {
         Ok(self.store.value(alloc, key)?)
     }
 
+    fn holder(&mut self, alloc: Global, key: &str) -> Result<Option<Cid>, KeepError> {
+        self.faults.read()?;
+        Ok(self.store.holder(alloc, key)?)
+    }
+
     fn has(&mut self, key: &str) -> Result<bool, Failed> {
         self.faults.read()?;
         Ok(self.store.has(key))

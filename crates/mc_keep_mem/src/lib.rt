@@ -6,6 +6,7 @@ mod elements;
 mod front;
 mod graph;
 mod heads;
+mod holder;
 mod keeper;
 mod keepers;
 mod next;

@@ -6,6 +6,7 @@ ghost use Rattle.mc_model.specs.Front.{same_cid, is_linked, heads};
 ghost use Rattle.mc_model.specs.Live.{has_tomb, value_row};
 ghost use Rattle.mc_model.specs.Kept.{processed, bytes_at, is_stored, nothing_kept};
 ghost use Rattle.mc_keep.specs.Changes.{row_count, changed, heads_in_rows};
+ghost use Rattle.mc_keep.specs.Live.{IsHolder};
 ghost use Rattle.mc_keep.specs.Next.{IsNext};
 ghost use Rattle.mc_keep.specs.ElementOrder.{element_cmp};
 ghost use Rattle.mc_keep.specs.Tables.{ChangesFit, IsSummary, IsSmall, IsValueRow, element_rows_of};
@@ -15,6 +16,7 @@ use crate::cids::{cid_at, has_cid, position_of};
 use crate::elements::{Elements, elements_of};
 use crate::graph::{block_bytes, has_block};
 use crate::heads::head_rows;
+use crate::holder::holder_of;
 use crate::next::next_row;
 use crate::tables::{Tables, commit_tables, reserve_tables};
 use crate::tombs::{Tombs, has_tomb as has_tomb_row};
@@ -146,6 +148,15 @@ impl<S: BuildHasher + Drop> Store<S> {
         ensures { IfOk result (λ row. IsValueRow (processed (kept_in self.now.tables)) key.now row) }
     {
         value_of(alloc, &self.tables.values.rows, key)
+    }
+
+    pub(crate) fn holder(&self, alloc: Global, key: &str) -> Result<Option<Cid>, AllocError>
+        ensures { IfOk result (λ cid. IsHolder (processed (kept_in self.now.tables)) key.now cid) }
+    {
+        match self.tables.values.rows.get(key) {
+            Some(held) => holder_of(alloc, &self.tables.elements, &self.tables.tombs, key, held),
+            None => Ok(None),
+        }
     }
 
     pub(crate) fn has(&self, key: &str) -> bool

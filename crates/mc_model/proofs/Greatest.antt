@@ -1,6 +1,6 @@
 -- The greatest of a list depends on its members alone.
-use Rattle.std.proofs.Common.{◌≡◌, Bool, true, false, cond, List, [], ◌∷◌, ◌++◌, Some, None, ◌||◌, sym, refl, ap, ◌∙◌, subst}
-use Rattle.std.specs.Prelude.{fold, All, Contains, slice_index_or}
+use Rattle.std.proofs.Common.{◌≡◌, Bool, true, false, cond, ◌&&◌, ℕ, List, [], ◌∷◌, ◌++◌, Some, None, ◌||◌, sym, refl, ap, ◌∙◌, subst}
+use Rattle.std.specs.Prelude.{nat_eq, fold, All, Contains, slice_index_or}
 use Rattle.std.specs.List.{list_any}
 use Rattle.std.specs.Cmp.{IsTotalOrder}
 use Rattle.std.specs.Cmp.Lexicographic.{slice_cmp}
@@ -8,8 +8,11 @@ use Rattle.std.specs.Ordering.{is_lt, is_gt, is_eq, nat_cmp, ordering_reverse, o
 use Rattle.std.specs.declared.cmp.Ordering.{Ordering}
 use Rattle.std.specs.declared.cmp.Ordering.TheVariants.{Less, Equal, Greater}
 use Rattle.std.specs.FinMap.{nat_cmp-IsAntisymmetric, slice_cmp-IsAntisymmetric}
+use Rattle.std.proofs.lemmas.Bool.{and_parts, eqb-true, eq-eqb}
+use Rattle.std.proofs.lemmas.Slice.Eq.{bytes_eq-Decides}
+use Rattle.std.specs.Str.{bytes_eq}
 use Rattle.std.proofs.lemmas.Cmp.{then_total, on_total, nat_cmp_total, nat_list_cmp_total, upto, tied_itself}
-use Rattle.mc_model.specs.Rank.{Ranked, rank_cmp, greater, greatest, IsGreatestOf}
+use Rattle.mc_model.specs.Rank.{Ranked, rank_cmp, same_ranked, greater, greatest, IsGreatestOf}
 use Rattle.std.proofs.lemmas.List.Elements.{All-nil, All-cons}
 use Rattle.std.proofs.lemmas.List.Folds.{Any-from_list_any}
 use Rattle.mc_model.specs.SameMembers.{SameMembers}
@@ -172,3 +175,50 @@ greatest_is_greatest (x ∷ xs) =
       member = tied_member m (x ∷ xs) (fold_member xs x m found.1);
       bound = none_above m (x ∷ xs) (both_false _ _ bound.0 bound.1);
     })
+
+-- the order ties just what is one
+
+tied_same : (m x : Ranked) → is_eq (rank_cmp m x) ≡ same_ranked m x
+tied_same m x =
+    elim (same_ranked m x) as (λ t. same_ranked m x ≡ t → is_eq (rank_cmp m x) ≡ t) [
+      | true ↦ λ e. ap (λ (z : Ranked). is_eq (rank_cmp m z)) (sym (same_one m x e)) ∙ ap is_eq (tied_itself rank_total m)
+      | false ↦ λ e. apart (rank_cmp m x) (λ tied. absurd (let no : false ≡ true = sym e ∙ ap (same_ranked m) (sym (rank_tied m x tied)) ∙ one_itself m in cc))
+    ] refl
+  where
+    same_one : (m x : Ranked) → same_ranked m x ≡ true → m ≡ x
+    same_one (p, v) (q, w) e =
+        let parts = and_parts (nat_eq p q) (bytes_eq v w) e in
+        let first : p ≡ q = eqb-true p q parts.0 in
+        let second : v ≡ w = (bytes_eq-Decides v w).0 parts.1 in
+        cc
+
+    one_itself : (m : Ranked) → same_ranked m m ≡ true
+    one_itself (p, v) = ap (λ b. b && bytes_eq v v) (eq-eqb p p refl) ∙ (bytes_eq-Decides v v).1 refl
+
+    apart : (o : Ordering) → (o ≡ Equal → is_eq o ≡ false) → is_eq o ≡ false
+    apart Less h = refl
+    apart Equal h = h refl
+    apart Greater h = refl
+
+tied_all : (m : Ranked) (xs : List Ranked) → list_any (λ x. is_eq (rank_cmp m x)) xs ≡ list_any (same_ranked m) xs
+tied_all m [] = refl
+tied_all m (x ∷ xs) = ap (λ b. b || list_any (λ x. is_eq (rank_cmp m x)) xs) (tied_same m x) ∙ ap (λ b. same_ranked m x || b) (tied_all m xs)
+
+-- the greatest is one of the list
+pub greatest_member : (xs : List Ranked) (m : Ranked) → greatest xs ≡ Some m → list_any (same_ranked m) xs ≡ true
+greatest_member [] m e = absurd (cc)
+greatest_member (x ∷ xs) m e = sym (tied_all m (x ∷ xs)) ∙ fold_member xs x m e
+
+-- what stays the greatest of fewer, where it is one of them
+pub greatest_of_fewer : (xs ys : List Ranked) (m : Ranked) → greatest xs ≡ Some m → ((test : Ranked → Bool) → list_any test xs ≡ false → list_any test ys ≡ false) → list_any (same_ranked m) ys ≡ true
+    → greatest ys ≡ Some m
+greatest_of_fewer [] ys m e fewer there = absurd (cc)
+greatest_of_fewer (x ∷ xs) [] m e fewer there = absurd (let no : false ≡ true = there in cc)
+greatest_of_fewer (x ∷ xs) (y ∷ ys) m e fewer there =
+    let found = fold_some ys y in
+    let n : Ranked = found.0 in
+    let bound : list_any (λ z. is_gt (rank_cmp z m)) (y ∷ ys) ≡ false = fewer (λ z. is_gt (rank_cmp z m)) (let b = fold_bound xs x m e in both_false _ _ b.0 b.1) in
+    let bound' : list_any (λ z. is_gt (rank_cmp z n)) (y ∷ ys) ≡ false = let b = fold_bound ys y n found.1 in both_false _ _ b.0 b.1 in
+    let member : list_any (λ z. is_eq (rank_cmp m z)) (y ∷ ys) ≡ true = tied_all m (y ∷ ys) ∙ there in
+    let member' : list_any (λ z. is_eq (rank_cmp n z)) (y ∷ ys) ≡ true = fold_member ys y n found.1 in
+    found.1 ∙ ap (λ (z : Ranked). Some z) (neither_gt n m (tied_gt (y ∷ ys) n m member' bound) (tied_gt (y ∷ ys) m n member bound'))

@@ -185,6 +185,10 @@ impl Keeper for FakeKeeper {
         Ok(find_row(alloc, self.rows.as_slice(), key)?)
     }
 
+    fn holder(&mut self, _alloc: Global, _key: &str) -> Result<Option<Cid>, KeepError> {
+        Ok(None)
+    }
+
     fn has(&mut self, key: &str) -> Result<bool, Failed> {
         Ok(has_row(self.rows.as_slice(), key))
     }

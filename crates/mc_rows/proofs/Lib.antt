@@ -6,3 +6,4 @@ pub mod Step
 pub mod OnceRows
 pub mod FitAll
 pub mod Distinct
+pub mod Held

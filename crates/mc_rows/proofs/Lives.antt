@@ -1,5 +1,5 @@
 -- What lives of the rows of a key, against what lives of the blocks that the rows are of.
-use Rattle.std.proofs.Common.{◌≡◌, ℕ, Bool, true, false, cond, List, [], ◌∷◌, ◌++◌, map, ◌||◌, ◌&&◌, ◌⊎◌, inl, inr, sym, refl, ap, ◌∙◌, subst}
+use Rattle.std.proofs.Common.{◌≡◌, ℕ, Bool, true, false, not, cond, List, [], ◌∷◌, ◌++◌, map, ◌||◌, ◌&&◌, sym, refl, ap, ◌∙◌, subst}
 use Rattle.std.specs.Prelude.{filter, fold, Option, None}
 use Rattle.std.specs.List.{list_any}
 use Rattle.std.specs.Str.{bytes_eq}
@@ -7,52 +7,29 @@ use Rattle.std.proofs.lemmas.List.Folds.{list_any-append}
 use Rattle.std.proofs.lemmas.List.Concat.{flat_map-append}
 use Rattle.std.proofs.lemmas.List.Elements.{filter-append}
 use Rattle.std.proofs.lemmas.List.{append-nil}
+use Rattle.std.proofs.lemmas.Slice.Eq.{bytes_eq-Decides}
+use Rattle.mc_base.specs.declared.cid.Cid.{Cid}
 use Rattle.mc_model.specs.declared.block.Block.{Block}
-use Rattle.mc_model.specs.declared.delta.Element.{Element}
+use Rattle.mc_model.specs.Front.{same_cid}
 use Rattle.mc_model.specs.Id.{id_text}
 use Rattle.mc_model.specs.SameMembers.{SameMembers}
-use Rattle.mc_model.specs.Rank.{Ranked, greatest, greater, IsGreatestOf}
-use Rattle.mc_model.specs.Value.{ranked_elements}
-use Rattle.mc_model.specs.Live.{has_tomb, is_hidden, ranked_in, live_among, live, value_row}
+use Rattle.mc_model.specs.Rank.{Ranked, same_ranked, greatest, greater, IsGreatestOf}
+use Rattle.mc_model.specs.Live.{has_tomb, live, value_row}
 use Rattle.mc_model.proofs.Counts.{or_none}
-use Rattle.mc_model.proofs.Greatest.{greatest_same, greatest_is_greatest, greatest-append}
+use Rattle.mc_model.proofs.Greatest.{greatest_of_fewer, greatest_same, greatest_is_greatest, greatest-append}
 use Rattle.mc_model.proofs.Members.{list_any-filter, same_flat_map}
 use Rattle.mc_keep.specs.declared.rows.ElementRow.{ElementRow}
 use Rattle.mc_keep.specs.declared.rows.TombRow.{TombRow}
 use Rattle.mc_keep.specs.Changes.{has_tomb_row}
 use Rattle.mc_keep.specs.Tables.{element_row, element_rows, element_rows_of}
-use Rattle.mc_rows.specs.Live.{hides, live_row, live_rows, rows_with, has_element_of, has_tomb_of, new_row, row_from}
-
--- the rows of one block's elements have what lives of that block
-live_rows_block : (all : List Block) (key : List ℕ) (block : Block) (elements : List Element)
-    → live_rows (has_tomb all key) (filter (λ (row : ElementRow). bytes_eq row.key key) (map (element_row block) elements)) ≡ cond (is_hidden all key block) [] (ranked_elements block.delta.priority elements key)
-live_rows_block all key block [] = elim (is_hidden all key block) as (λ t. ◌≡◌ {A = List Ranked} [] (cond t [] [])) [ true ↦ refl | false ↦ refl ]
-live_rows_block all key block (e ∷ elements) =
-    elim (bytes_eq e.key key) as (λ k. live_rows (has_tomb all key) (cond k (element_row block e ∷ filter (λ (row : ElementRow). bytes_eq row.key key) (map (element_row block) elements)) (filter (λ (row : ElementRow). bytes_eq row.key key) (map (element_row block) elements)))
-    ≡ cond (is_hidden all key block) [] (map (λ (element : Element). (block.delta.priority, element.value)) (cond k (e ∷ filter (λ (element : Element). bytes_eq element.key key) elements) (filter (λ (element : Element). bytes_eq element.key key) elements)))) [
-      | true ↦
-          let rest = live_rows_block all key block elements in
-          ap (λ tail. live_row (has_tomb all key) (element_row block e) ++ tail) rest ∙ joined (is_hidden all key block) (block.delta.priority, e.value) (ranked_elements block.delta.priority elements key)
-      | false ↦ live_rows_block all key block elements
-    ]
-  where
-    joined : (hidden : Bool) (first : Ranked) (rest : List Ranked) → cond hidden [] (first ∷ []) ++ cond hidden [] rest ≡ cond hidden [] (first ∷ rest)
-    joined true first rest = refl
-    joined false first rest = refl
+use Rattle.mc_keep.specs.Live.{ranked_of, is_row_of, live_row, live_rows, HoldsValue}
+use Rattle.mc_keep.proofs.Lives.{live_rows-element_rows_of, live_rows_any}
+use Rattle.mc_rows.specs.Live.{hides, rows_with, has_element_of, has_tomb_of, new_row, row_from, Stands}
 
 rows_of_key-append : (blocks more : List Block) (key : List ℕ) → element_rows_of (blocks ++ more) key ≡ element_rows_of blocks key ++ element_rows_of more key
 rows_of_key-append blocks more key =
     ap (filter (λ (row : ElementRow). bytes_eq row.key key)) (flat_map-append (λ (block : Block). map (element_row block) block.delta.elements) blocks more)
     ∙ filter-append (λ (row : ElementRow). bytes_eq row.key key) (element_rows blocks) (element_rows more)
-
--- the rows of the key have what lives of the blocks
-live_rows-element_rows_of : (all blocks : List Block) (key : List ℕ) → live_rows (has_tomb all key) (element_rows_of blocks key) ≡ live_among all key blocks
-live_rows-element_rows_of all [] key = refl
-live_rows-element_rows_of all (b ∷ blocks) key =
-    ap (live_rows (has_tomb all key)) (filter-append (λ (row : ElementRow). bytes_eq row.key key) (map (element_row b) b.delta.elements) (element_rows blocks))
-    ∙ flat_map-append (live_row (has_tomb all key)) (filter (λ (row : ElementRow). bytes_eq row.key key) (map (element_row b) b.delta.elements)) (element_rows_of blocks key)
-    ∙ ap (λ front. front ++ live_rows (has_tomb all key) (element_rows_of blocks key)) (live_rows_block all key b b.delta.elements)
-    ∙ ap (λ rest. cond (is_hidden all key b) [] (ranked_in key b) ++ rest) (live_rows-element_rows_of all blocks key)
 
 -- what is hidden alike lives alike
 live_rows_alike : (h h' : List ℕ → Bool) → ((id : List ℕ) → h id ≡ h' id) → (rows : List ElementRow) → live_rows h rows ≡ live_rows h' rows
@@ -107,13 +84,15 @@ no_tomb_row (r ∷ rows) key id e =
     both_none true b c e f = absurd (cc)
     both_none false b c e f = f
 
--- without a new tombstone of the key, or without a value before, the old row stands
-pub old_row_stands : (blocks : List Block) (tombs : List TombRow) (key : List ℕ) → (value_row blocks key ≡ None) ⊎ (has_tomb_of tombs key ≡ false)
-    → greatest (live_rows (hides blocks tombs key) (element_rows_of blocks key)) ≡ value_row blocks key
-old_row_stands blocks tombs key (inr none) =
+-- without a new tombstone of the key the old row stands
+pub untouched_row_stands : (blocks : List Block) (tombs : List TombRow) (key : List ℕ) → has_tomb_of tombs key ≡ false → Stands blocks tombs key
+untouched_row_stands blocks tombs key none =
     ap greatest (live_rows_alike (hides blocks tombs key) (has_tomb blocks key) (λ id. ap (λ b. b || has_tomb blocks key id) (no_tomb_row tombs key id none)) (element_rows_of blocks key))
     ∙ ap greatest (live_rows-element_rows_of blocks blocks key)
-old_row_stands blocks tombs key (inl none) =
+
+-- where there was no value there is none
+pub no_row_stands : (blocks : List Block) (tombs : List TombRow) (key : List ℕ) → value_row blocks key ≡ None → Stands blocks tombs key
+no_row_stands blocks tombs key none =
     ap greatest (nothing_lives (has_tomb blocks key) (hides blocks tombs key) (λ id e. or_later (has_tomb_row tombs key id) (has_tomb blocks key id) e) (element_rows_of blocks key) (live_rows-element_rows_of blocks blocks key ∙ empty (live blocks key) none))
     ∙ sym none
   where
@@ -123,6 +102,58 @@ old_row_stands blocks tombs key (inl none) =
 
     empty : (ranked : List Ranked) → greatest ranked ≡ None → ranked ≡ []
     empty ranked e = subst (λ best. IsGreatestOf ranked best) e (greatest_is_greatest ranked)
+
+-- less lives where more is hidden
+fewer_live : (h h' : List ℕ → Bool) → ((id : List ℕ) → h id ≡ true → h' id ≡ true) → (test : Ranked → Bool) (rows : List ElementRow) → list_any test (live_rows h rows) ≡ false → list_any test (live_rows h' rows) ≡ false
+fewer_live h h' more test rows e = live_rows_any h' test rows ∙ fewer rows (sym (live_rows_any h test rows) ∙ e)
+  where
+    one : (a a' b : Bool) → (a ≡ true → a' ≡ true) → (not a && b) ≡ false → (not a' && b) ≡ false
+    one a true b up f = refl
+    one true false b up f = absurd (let no : false ≡ true = up refl in cc)
+    one false false b up f = f
+
+    fewer : (rows : List ElementRow) → list_any (λ (row : ElementRow). not (h (id_text row.cid.0)) && test (ranked_of row)) rows ≡ false → list_any (λ (row : ElementRow). not (h' (id_text row.cid.0)) && test (ranked_of row)) rows ≡ false
+    fewer [] f = refl
+    fewer (r ∷ rows) f =
+        let parts = or_none (not (h (id_text r.cid.0)) && test (ranked_of r)) (list_any (λ (row : ElementRow). not (h (id_text row.cid.0)) && test (ranked_of row)) rows) f in
+        ap (λ b. b || list_any (λ (row : ElementRow). not (h' (id_text row.cid.0)) && test (ranked_of row)) rows) (one (h (id_text r.cid.0)) (h' (id_text r.cid.0)) (test (ranked_of r)) (more (id_text r.cid.0)) parts.0)
+        ∙ fewer rows parts.1
+
+-- where a block that holds the value is not hidden, the old row stands
+pub held_row_stands : (blocks : List Block) (tombs : List TombRow) (key : List ℕ) (cid : Cid) → HoldsValue blocks key cid → has_tomb_row tombs key (id_text cid.0) ≡ false → Stands blocks tombs key
+held_row_stands blocks tombs key cid holds none =
+    greatest_of_fewer (live_rows (has_tomb blocks key) (element_rows_of blocks key)) (live_rows (hides blocks tombs key) (element_rows_of blocks key)) holds.ranked
+    (ap greatest (live_rows-element_rows_of blocks blocks key) ∙ holds.is_value)
+    (λ test e. fewer_live (has_tomb blocks key) (hides blocks tombs key) (λ id e. or_later (has_tomb_row tombs key id) (has_tomb blocks key id) e) test (element_rows_of blocks key) e)
+    (live_rows_any (hides blocks tombs key) (same_ranked holds.ranked) (element_rows_of blocks key) ∙ still (element_rows_of blocks key) holds.there)
+    ∙ sym holds.is_value
+  where
+    or_later : (a b : Bool) → b ≡ true → (a || b) ≡ true
+    or_later true b e = refl
+    or_later false b e = e
+
+    both_not : (a b : Bool) → a ≡ false → b ≡ false → not (a || b) ≡ true
+    both_not a b e f = ap (λ c. not (c || b)) e ∙ ap not f
+
+    lives : (row : ElementRow) → same_cid cid row.cid ≡ true → not (hides blocks tombs key (id_text row.cid.0)) ≡ true
+    lives row e =
+        let same : cid.0 ≡ row.cid.0 = (bytes_eq-Decides cid.0 row.cid.0).0 e in
+        ap (λ (digest : List ℕ). not (hides blocks tombs key (id_text digest))) (sym same) ∙ both_not (has_tomb_row tombs key (id_text cid.0)) (has_tomb blocks key (id_text cid.0)) none holds.lives
+
+    still : (rows : List ElementRow) → list_any (is_row_of cid holds.ranked) rows ≡ true → list_any (λ (row : ElementRow). not (hides blocks tombs key (id_text row.cid.0)) && same_ranked holds.ranked (ranked_of row)) rows ≡ true
+    still [] e = e
+    still (r ∷ rows) e =
+        elim (same_cid cid r.cid) as (λ t. same_cid cid r.cid ≡ t → ((t && same_ranked holds.ranked (ranked_of r)) || list_any (is_row_of cid holds.ranked) rows) ≡ true
+        → ((not (hides blocks tombs key (id_text r.cid.0)) && same_ranked holds.ranked (ranked_of r)) || list_any (λ (row : ElementRow). not (hides blocks tombs key (id_text row.cid.0)) && same_ranked holds.ranked (ranked_of row)) rows) ≡ true) [
+          | true ↦ λ t f.
+              ap (λ b. (b && same_ranked holds.ranked (ranked_of r)) || list_any (λ (row : ElementRow). not (hides blocks tombs key (id_text row.cid.0)) && same_ranked holds.ranked (ranked_of row)) rows) (lives r t)
+              ∙ or_more (same_ranked holds.ranked (ranked_of r)) (list_any (is_row_of cid holds.ranked) rows) _ (λ g. still rows g) f
+          | false ↦ λ t f. or_later (not (hides blocks tombs key (id_text r.cid.0)) && same_ranked holds.ranked (ranked_of r)) _ (still rows f)
+        ] refl e
+      where
+        or_more : (a b c : Bool) → (b ≡ true → c ≡ true) → (a || b) ≡ true → (a || c) ≡ true
+        or_more true b c up f = refl
+        or_more false b c up f = up f
 
 -- the row from all old rows, and then the new ones
 pub row_anew : (blocks : List Block) (tombs : List TombRow) (key : List ℕ) (rows run : List ElementRow) → SameMembers rows (element_rows_of blocks key)
@@ -134,10 +165,10 @@ row_anew blocks tombs key rows run same =
     (same_flat_map (live_row (hides blocks tombs key)) _ _ (same_before rows (element_rows_of blocks key) run same))
 
 -- the row from the old one, and then the new ones
-pub row_on : (blocks : List Block) (tombs : List TombRow) (key : List ℕ) (run : List ElementRow) → (value_row blocks key ≡ None) ⊎ (has_tomb_of tombs key ≡ false)
+pub row_on : (blocks : List Block) (tombs : List TombRow) (key : List ℕ) (run : List ElementRow) → Stands blocks tombs key
     → fold greater (value_row blocks key) (live_rows (hides blocks tombs key) run) ≡ row_from blocks run tombs key
 row_on blocks tombs key run stands =
-    ap (λ (old : Option Ranked). fold greater old (live_rows (hides blocks tombs key) run)) (sym (old_row_stands blocks tombs key stands))
+    ap (λ (old : Option Ranked). fold greater old (live_rows (hides blocks tombs key) run)) (sym stands)
     ∙ sym (greatest-append (live_rows (hides blocks tombs key) (element_rows_of blocks key)) (live_rows (hides blocks tombs key) run))
     ∙ ap greatest (sym (flat_map-append (live_row (hides blocks tombs key)) (element_rows_of blocks key) run))
 
@@ -147,7 +178,7 @@ pub new_row_untouched : (blocks : List Block) (elements : List ElementRow) (tomb
 new_row_untouched blocks elements tombs key none none' =
     ap (λ rows. greatest (live_rows (hides blocks tombs key) (element_rows_of blocks key ++ rows))) (none_kept elements none)
     ∙ ap (λ rows. greatest (live_rows (hides blocks tombs key) rows)) (append-nil (element_rows_of blocks key))
-    ∙ old_row_stands blocks tombs key (inr none')
+    ∙ untouched_row_stands blocks tombs key none'
   where
     none_kept : (rows : List ElementRow) → has_element_of rows key ≡ false → rows_with rows key ≡ []
     none_kept [] e = refl

@@ -1,6 +1,6 @@
 -- The change of one key's value row.
-use Rattle.std.proofs.Common.{◌≡◌, ℕ, false, List, ◌&&◌, ◌⊎◌, inl, inr, sym, ap, ◌∙◌, subst}
-use Rattle.std.specs.Prelude.{fold, IfSome, is_some, Option, Some, None}
+use Rattle.std.proofs.Common.{◌≡◌, ℕ, List, sym, ap, ◌∙◌, subst}
+use Rattle.std.specs.Prelude.{fold, IfSome, Option, Some, None}
 use Rattle.mc_model.specs.declared.block.Block.{Block}
 use Rattle.mc_model.specs.Ascending.{Ascends}
 use Rattle.mc_model.specs.Kept.{Kept, processed}
@@ -13,7 +13,8 @@ use Rattle.mc_keep.specs.declared.changes.ValueChange.{ValueChange}
 use Rattle.mc_keep.specs.Changes.{ranked_row}
 use Rattle.mc_keep.specs.ElementOrder.{element_cmp}
 use Rattle.mc_keep.specs.Tables.{IsValueRow, element_rows_of}
-use Rattle.mc_rows.specs.Live.{hides, live_rows, has_tomb_of, row_from}
+use Rattle.mc_keep.specs.Live.{live_rows}
+use Rattle.mc_rows.specs.Live.{hides, row_from, Stands}
 use Rattle.mc_rows.specs.Values.{IsChange}
 use Rattle.mc_rows.proofs.Lives.{row_anew, row_on}
 
@@ -42,7 +43,7 @@ anew_told (Some kept) run tombs key old rows best found change is ascends first 
 -- a change that was made from the old row
 pub on_told : (told : Option Kept) (run : List ElementRow) (tombs : List TombRow) (key : List ℕ) (old : Option ValueRow) (best found : Option Ranked) (change : Option ValueChange)
     → IfSome told (λ kept. IsValueRow (processed kept) key old)
-    → (is_some old && has_tomb_of tombs key) ≡ false
+    → IfSome told (λ kept. Stands (processed kept) tombs key)
     → best ≡ ranked_row old
     → IfSome told (λ kept. found ≡ fold greater best (live_rows (hides (processed kept) tombs key) run))
     → IsChange key (ranked_row old) found change
@@ -52,12 +53,8 @@ on_told (Some kept) run tombs key old best found change is stands first then mad
     changed_so key (ranked_row old) (value_row (processed kept) key) found (row_from (processed kept) run tombs key) change
     (row_read (processed kept) key old is)
     (then ∙ ap (λ (z : Option Ranked). fold greater z (live_rows (hides (processed kept) tombs key) run)) (first ∙ row_read (processed kept) key old is)
-    ∙ row_on (processed kept) tombs key run (either old is stands))
+    ∙ row_on (processed kept) tombs key run stands)
     made
-  where
-    either : (row : Option ValueRow) → IsValueRow (processed kept) key row → (is_some row && has_tomb_of tombs key) ≡ false → (value_row (processed kept) key ≡ None) ⊎ (has_tomb_of tombs key ≡ false)
-    either None is e = inl is
-    either (Some row) is e = inr e
 
 -- the run of the key among all new rows
 pub of_all_told : (told : Option Kept) (run rows : List ElementRow) (tombs : List TombRow) (key : List ℕ) (change : Option ValueChange) → run ≡ rows

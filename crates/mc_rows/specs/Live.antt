@@ -1,14 +1,14 @@
 -- What lives of the rows of a key.
-use Rattle.std.specs.Prelude.{ℕ, Bool, not, ◌||◌, List, [], ◌∷◌, ◌++◌, filter, Option, if◌then◌else◌}
-use Rattle.std.specs.List.{flat_map, list_any}
+use Rattle.std.specs.Prelude.{◌≡◌, ℕ, Bool, not, ◌||◌, List, ◌++◌, filter, Option}
+use Rattle.std.specs.List.{list_any}
 use Rattle.std.specs.Str.{bytes_eq}
 use Rattle.mc_model.specs.declared.block.Block.{Block}
-use Rattle.mc_model.specs.Id.{id_text}
-use Rattle.mc_model.specs.Live.{has_tomb}
+use Rattle.mc_model.specs.Live.{has_tomb, value_row}
 use Rattle.mc_model.specs.Rank.{Ranked, greatest}
 use Rattle.mc_keep.specs.declared.rows.ElementRow.{ElementRow}
 use Rattle.mc_keep.specs.declared.rows.TombRow.{TombRow}
 use Rattle.mc_keep.specs.Changes.{has_tomb_row}
+use Rattle.mc_keep.specs.Live.{live_rows}
 use Rattle.mc_keep.specs.Tables.{element_rows_of}
 
 -- whether a tombstone is in no block
@@ -18,13 +18,6 @@ is_unknown blocks row = not (has_tomb blocks row.key row.id)
 -- whether the new tombstones, or the blocks, have the tombstone
 abbrev pub hides : List Block → List TombRow → List ℕ → List ℕ → Bool
 hides blocks tombs key id = has_tomb_row tombs key id || has_tomb blocks key id
-
--- the values of rows of a key whose blocks have no such tombstone, with their priorities
-abbrev pub live_row : (List ℕ → Bool) → ElementRow → List Ranked
-live_row hidden row = if hidden (id_text row.cid.0) then [] else (row.priority, row.value) ∷ []
-
-abbrev pub live_rows : (List ℕ → Bool) → List ElementRow → List Ranked
-live_rows hidden rows = flat_map (live_row hidden) rows
 
 -- the rows of a key
 abbrev pub rows_with : List ElementRow → List ℕ → List ElementRow
@@ -44,3 +37,7 @@ row_from blocks run tombs key = greatest (live_rows (hides blocks tombs key) (el
 -- the same over all new rows
 abbrev pub new_row : List Block → List ElementRow → List TombRow → List ℕ → Option Ranked
 new_row blocks elements tombs key = row_from blocks (rows_with elements key) tombs key
+
+-- the value row of a key is still that of its old rows
+abbrev pub Stands : List Block → List TombRow → List ℕ → Type 0
+Stands blocks tombs key = greatest (live_rows (hides blocks tombs key) (element_rows_of blocks key)) ≡ value_row blocks key

@@ -1,5 +1,5 @@
 // The greatest of the values of a key, while they are looked at one after another.
-ghost use Rattle.std.specs.Prelude.{◌≡◌, true, Some, Option};
+ghost use Rattle.std.specs.Prelude.{◌≡◌, true, false, Some};
 ghost use Rattle.mc_model.specs.Rank.{greater, rank_cmp};
 ghost use Rattle.mc_keep.specs.Changes.{ranked_row};
 ghost use Rattle.mc_rows.specs.Values.{ranked_best};
@@ -14,13 +14,14 @@ pub(crate) struct Best<'a> {
     pub(crate) value: &'a [u8],
 }
 
-pub(crate) fn greater_of<'a>(best: Option<Best<'a>>, next: Best<'a>) -> Best<'a>
-    ensures { ranked_best (Some result) ≡ greater (ranked_best best.entry) (next.entry.priority, next.entry.value.now) }
+// Whether the next one is above the best.
+pub(crate) fn is_above(best: Option<Best<'_>>, next: Best<'_>) -> bool
+    ensures above { result ≡ true → greater (ranked_best best.entry) (next.entry.priority, next.entry.value.now) ≡ ranked_best (Some next.entry) }
+    ensures below { result ≡ false → greater (ranked_best best.entry) (next.entry.priority, next.entry.value.now) ≡ ranked_best best.entry }
 {
     match best {
-        Some(best) if compare(best, next).is_lt() => next,
-        Some(best) => best,
-        None => next,
+        Some(best) => compare(best, next).is_lt(),
+        None => true,
     }
 }
 

@@ -6,11 +6,12 @@ ghost use Rattle.mc_model.specs.Kept.{processed};
 ghost use Rattle.mc_model.specs.Rank.{greater, greatest};
 ghost use Rattle.mc_keep.specs.Causes.{IfTold, KeepCause, StaysQuiet};
 ghost use Rattle.mc_rows.specs.Rows.{new_tomb_cmp, rows_of, tombs_of};
-ghost use Rattle.mc_rows.specs.Live.{hides, live_rows};
+ghost use Rattle.mc_keep.specs.Live.{live_rows};
+ghost use Rattle.mc_rows.specs.Live.{hides};
 ghost use Rattle.mc_rows.specs.Seen.{SeenFits};
 ghost use Rattle.mc_rows.specs.Values.{ranked_best};
 
-use crate::best::{Best, greater_of};
+use crate::best::{Best, is_above};
 use crate::elements::NewElement;
 use crate::search::has_tomb;
 use crate::tombs::NewTomb;
@@ -81,7 +82,8 @@ fn see<K: Keeper>(
     Ok(Seen { cid: *cid, hidden })
 }
 
-// The greatest of these rows of the key, which are of processed blocks.
+// The greatest of these rows of the key, which are of processed blocks. Just those above all before are looked for in the
+// tombstones.
 pub(crate) fn best_of_old<'a, K: Keeper>(
     keeper: &mut K,
     alloc: Global,
@@ -101,16 +103,16 @@ pub(crate) fn best_of_old<'a, K: Keeper>(
     let mut best = None;
     let mut last = None;
     for row in rows {
-        let seen = see(keeper, alloc, key, &row.cid, tombs, last)?;
-        last = Some(seen);
-        if !seen.hidden {
-            best = Some(greater_of(
-                best,
-                Best {
-                    priority: row.priority,
-                    value: row.value.as_slice(),
-                },
-            ));
+        let next = Best {
+            priority: row.priority,
+            value: row.value.as_slice(),
+        };
+        if is_above(best, next) {
+            let seen = see(keeper, alloc, key, &row.cid, tombs, last)?;
+            last = Some(seen);
+            if !seen.hidden {
+                best = Some(next);
+            }
         }
     }
     Ok(best)
@@ -135,14 +137,12 @@ pub(crate) fn best_with_new<'a, K: Keeper>(
 {
     let mut best = best;
     for element in elements {
-        if !is_hidden(keeper, key, element.block.id.as_str(), tombs)? {
-            best = Some(greater_of(
-                best,
-                Best {
-                    priority: element.priority(),
-                    value: element.value,
-                },
-            ));
+        let next = Best {
+            priority: element.priority(),
+            value: element.value,
+        };
+        if is_above(best, next) && !is_hidden(keeper, key, element.block.id.as_str(), tombs)? {
+            best = Some(next);
         }
     }
     Ok(best)

@@ -1,5 +1,5 @@
 // The new value row of one key.
-ghost use Rattle.std.specs.Prelude.{◌≡◌, ◌≤◌, ◌&&◌, ◌∷◌, ◌++◌, [], false, is_some, IfOk, IfSome, OnOk};
+ghost use Rattle.std.specs.Prelude.{◌≡◌, ◌≤◌, false, IfOk, IfSome};
 ghost use Rattle.std.specs.List.Sorted.{IsStrictlySortedBy};
 ghost use Rattle.mc_model.specs.Kept.{processed};
 ghost use Rattle.mc_model.specs.Live.{value_row};
@@ -7,16 +7,17 @@ ghost use Rattle.mc_keep.specs.Causes.{IfTold, KeepCause, StaysQuiet};
 ghost use Rattle.mc_keep.specs.Changes.{ranked_row};
 ghost use Rattle.mc_keep.specs.Tables.{IsValueRow};
 ghost use Rattle.mc_rows.specs.Rows.{new_element_cmp, new_tomb_cmp, rows_of, tombs_of};
-ghost use Rattle.mc_rows.specs.Live.{has_tomb_of, new_row, row_from};
+ghost use Rattle.mc_rows.specs.Live.{new_row, row_from, Stands};
 ghost use Rattle.mc_rows.specs.Values.{ranked_best, ChangesTo, IsChange};
 
 use crate::best::{Best, best_of, is_unchanged};
 use crate::elements::NewElement;
 use crate::live::{best_of_old, best_with_new};
-use crate::search::{elements_with, has_tomb_with};
+use crate::search::{elements_with, has_tomb, has_tomb_with};
 use crate::tombs::NewTomb;
 use mc_base::{Bytes, Text};
 use mc_keep::{KeepError, Keeper, ValueChange, ValueRow};
+use mc_model::id_of;
 use std::alloc::{AllocError, Global};
 
 // The change of a key's value row by the new elements and tombstones, or none where the row stays.
@@ -39,21 +40,44 @@ pub(crate) fn change_of<K: Keeper>(
 {
     let old = keeper.value(alloc, key)?;
     let elements = elements_with(elements, key);
-    if looks_again(&old, tombs, key) {
+    if is_hidden_anew(keeper, alloc, key, tombs, &old)? {
         return change_anew(keeper, alloc, key, elements, tombs, &old);
     }
     change_on(keeper, alloc, key, elements, tombs, &old)
 }
 
-// Whether the old elements of the key are looked at again: it has a value, and a new tombstone.
-fn looks_again(old: &Option<ValueRow>, tombs: &[NewTomb<'_>], key: &str) -> bool
-    requires { IsStrictlySortedBy new_tomb_cmp tombs.now }
-    ensures { result ≡ (is_some old.now && has_tomb_of (tombs_of tombs.now) key.now) }
+// Whether a new tombstone hides the block of the key's value. Where it says no, the value is still that of the old rows.
+fn is_hidden_anew<K: Keeper>(
+    keeper: &mut K,
+    alloc: Global,
+    key: &str,
+    tombs: &[NewTomb<'_>],
+    old: &Option<ValueRow>,
+) -> Result<bool, KeepError>
+    requires tombs { IsStrictlySortedBy new_tomb_cmp tombs.now }
+    requires old { IfSome (K.told keeper.old) (λ kept. IsValueRow (processed kept) key.now old.now) }
+    ensures stands { IfTold (K.told keeper.old) result (λ kept hidden. hidden ≡ false → Stands (processed kept) (tombs_of tombs.now) key.now) }
+    ensures told { K.told keeper.new ≡ K.told keeper.old }
+    ensures fuse { K.fuse keeper.new ≡ K.fuse keeper.old }
+    ensures spare { K.spare keeper.old ≤ K.spare keeper.new }
+    ensures own { KeepCause (K.own keeper.old) (K.own keeper.new) result }
+    ensures quiet { StaysQuiet (K.quiet keeper.old) (K.quiet keeper.new) (K.own keeper.old) (K.own keeper.new) }
+    ensures cause { KeepCause (K.faults keeper.old) (K.faults keeper.new) result }
 {
-    old.is_some() && has_tomb_with(tombs, key)
+    if old.is_none() {
+        return Ok(false);
+    }
+    if !has_tomb_with(tombs, key) {
+        return Ok(false);
+    }
+    let Some(cid) = keeper.holder(alloc, key)? else {
+        return Ok(true);
+    };
+    let id = id_of(alloc, &cid)?;
+    Ok(has_tomb(tombs, key, id.as_str()))
 }
 
-// The change where new tombstones may hide what lived: all rows of the key are looked at.
+// The change where new tombstones hide what was the value: all rows of the key are looked at.
 fn change_anew<K: Keeper>(
     keeper: &mut K,
     alloc: Global,
@@ -89,7 +113,7 @@ fn change_on<K: Keeper>(
 ) -> Result<Option<ValueChange>, KeepError>
     requires tombs { IsStrictlySortedBy new_tomb_cmp tombs.now }
     requires old { IfSome (K.told keeper.old) (λ kept. IsValueRow (processed kept) key.now old.now) }
-    requires stands { (is_some old.now && has_tomb_of (tombs_of tombs.now) key.now) ≡ false }
+    requires stands { IfSome (K.told keeper.old) (λ kept. Stands (processed kept) (tombs_of tombs.now) key.now) }
     ensures change { IfTold (K.told keeper.old) result (λ kept change. IsChange key.now (value_row (processed kept) key.now) (row_from (processed kept) (rows_of elements.now) (tombs_of tombs.now) key.now) change) }
     ensures told { K.told keeper.new ≡ K.told keeper.old }
     ensures fuse { K.fuse keeper.new ≡ K.fuse keeper.old }

@@ -100,7 +100,7 @@ has_row blocks key block element i j e =
     (in_flat_map (λ (b : Block). map (element_row b) b.delta.elements) block (element_row block element) blocks i (in_map (element_row block) element block.delta.elements j)) e
 
 -- a processed block is the one that its identifier names
-pub is_own : (graph : List Stored) (order : List Cid) (block : Block) → In block (blocks_in graph order) → block_in graph block.cid ≡ block
+is_own : (graph : List Stored) (order : List Cid) (block : Block) → In block (blocks_in graph order) → block_in graph block.cid ≡ block
 is_own graph [] block i = absurd i
 is_own graph (c ∷ order) block (inl same) = ap (block_in graph) (ap (λ (b : Block). b.cid) same ∙ block_in_cid graph c) ∙ sym same
 is_own graph (c ∷ order) block (inr i) = is_own graph order block i

@@ -169,6 +169,10 @@ impl Keeper for FakeKeeper {
         Ok(None)
     }
 
+    fn holder(&mut self, _alloc: Global, _key: &str) -> Result<Option<Cid>, KeepError> {
+        Ok(None)
+    }
+
     fn has(&mut self, _key: &str) -> Result<bool, Failed> {
         Ok(self.count > 0)
     }

@@ -4,7 +4,8 @@ use Rattle.mc_model.specs.Kept.{processed}
 use Rattle.mc_model.specs.Rank.{greatest}
 use Rattle.mc_keep.specs.Causes.{StaysQuiet}
 use Rattle.mc_rows.specs.Rows.{tombs_of}
-use Rattle.mc_rows.specs.Live.{hides, live_rows}
+use Rattle.mc_keep.specs.Live.{live_rows}
+use Rattle.mc_rows.specs.Live.{hides}
 use Rattle.mc_rows.specs.Seen.{SeenFits}
 use Rattle.mc_rows.specs.Values.{ranked_best}
 use Rattle.mc_rows.proofs.live.best_of_old.Given as goal

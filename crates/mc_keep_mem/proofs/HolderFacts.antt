@@ -1,0 +1,108 @@
+-- The block of a key's value: found among the rows of the key, it holds the value.
+use Rattle.std.proofs.Common.{◌≡◌, ℕ, Bool, true, false, not, cond, List, [], ◌∷◌, ◌&&◌, ◌||◌, Option, Some, None, sym, refl, ap, ◌∙◌}
+use Rattle.std.specs.Prelude.{find}
+use Rattle.std.specs.List.{list_any}
+use Rattle.std.specs.Option.{option_map}
+use Rattle.std.proofs.lemmas.Bool.{and_parts}
+use Rattle.std.proofs.lemmas.Slice.Eq.{bytes_eq-Decides}
+use Rattle.mc_base.specs.declared.cid.Cid.{Cid}
+use Rattle.mc_model.specs.declared.block.Block.{Block}
+use Rattle.mc_model.specs.Front.{same_cid}
+use Rattle.mc_model.specs.Id.{id_text}
+use Rattle.mc_model.specs.Live.{has_tomb, live, value_row}
+use Rattle.mc_model.specs.Rank.{Ranked, same_ranked}
+use Rattle.mc_model.specs.SameMembers.{SameMembers}
+use Rattle.mc_model.proofs.Greatest.{greatest_member}
+use Rattle.mc_keep.specs.declared.rows.ElementRow.{ElementRow}
+use Rattle.mc_keep.specs.Live.{ranked_of, is_row_of, HoldsValue, IsHolder}
+use Rattle.mc_keep.specs.Tables.{element_rows_of}
+use Rattle.mc_keep.proofs.Lives.{live_rows-element_rows_of, live_rows_any}
+use Rattle.mc_keep_mem.specs.Holder.{is_held, holder_among}
+
+any_alike : {A : Type 0} (p q : A → Bool) → ((x : A) → p x ≡ q x) → (xs : List A) → list_any p xs ≡ list_any q xs
+any_alike p q same [] = refl
+any_alike p q same (x ∷ xs) = ap (λ b. b || list_any p xs) (same x) ∙ ap (λ b. q x || b) (any_alike p q same xs)
+
+same_cid_itself : (cid : Cid) → same_cid cid cid ≡ true
+same_cid_itself cid = (bytes_eq-Decides cid.0 cid.0).1 refl
+
+-- what is found: a row that passes, and that is one of the list
+pub record IsFound (test : ElementRow → Bool) (rows : List ElementRow) (row : ElementRow) : Type 0 where
+  pub passes : test row ≡ true
+  pub there : (other : ElementRow → Bool) → other row ≡ true → list_any other rows ≡ true
+
+found_row : (test : ElementRow → Bool) (rows : List ElementRow) (row : ElementRow) → find test rows ≡ Some row → IsFound test rows row
+found_row test [] row e = absurd (let no : None ≡ Some row = e in cc)
+found_row test (r ∷ rows) row e =
+    elim (test r) as (λ t. test r ≡ t → cond t (Some r) (find test rows) ≡ Some row → IsFound test (r ∷ rows) row) [
+      | true ↦ λ t h.
+          let same : r ≡ row = cc (h) in
+          record {
+            passes = ap test (sym same) ∙ t;
+            there = λ other o. ap (λ b. b || list_any other rows) (ap other same ∙ o);
+          }
+      | false ↦ λ t h.
+          let rest = found_row test rows row h in
+          record {
+            passes = rest.passes;
+            there = λ other o. or_right (other r) (list_any other rows) (rest.there other o);
+          }
+    ] refl e
+  where
+    or_right : (a b : Bool) → b ≡ true → (a || b) ≡ true
+    or_right true b e = refl
+    or_right false b e = e
+
+none_found : (test : ElementRow → Bool) (rows : List ElementRow) → find test rows ≡ None → list_any test rows ≡ false
+none_found test [] e = refl
+none_found test (r ∷ rows) e =
+    elim (test r) as (λ t. cond t (Some r) (find test rows) ≡ None → (t || list_any test rows) ≡ false) [
+      | true ↦ λ h. absurd (let no : Some r ≡ None = h in cc)
+      | false ↦ λ h. none_found test rows h
+    ] e
+
+-- a value is that of a row that is not hidden
+some_row : (blocks : List Block) (key : List ℕ) (ranked : Ranked) → value_row blocks key ≡ Some ranked → list_any (is_held (has_tomb blocks key) ranked) (element_rows_of blocks key) ≡ true
+some_row blocks key ranked e =
+    any_alike (is_held (has_tomb blocks key) ranked) (λ (row : ElementRow). not (has_tomb blocks key (id_text row.cid.0)) && same_ranked ranked (ranked_of row)) (λ row. turned (same_ranked ranked (ranked_of row)) (not (has_tomb blocks key (id_text row.cid.0)))) (element_rows_of blocks key)
+    ∙ sym (live_rows_any (has_tomb blocks key) (same_ranked ranked) (element_rows_of blocks key))
+    ∙ ap (list_any (same_ranked ranked)) (live_rows-element_rows_of blocks blocks key)
+    ∙ greatest_member (live blocks key) ranked e
+  where
+    turned : (a b : Bool) → (a && b) ≡ (b && a)
+    turned true true = refl
+    turned true false = refl
+    turned false true = refl
+    turned false false = refl
+
+module _ (blocks : List Block) (key : List ℕ) (rows : List ElementRow) (hidden : List ℕ → Bool) (ranked : Ranked)
+    (same : SameMembers rows (element_rows_of blocks key)) (alike : (id : List ℕ) → hidden id ≡ has_tomb blocks key id) (is_value : value_row blocks key ≡ Some ranked) where
+  none : find (is_held hidden ranked) rows ≡ None → ⊥
+  none e =
+      let here : list_any (is_held hidden ranked) rows ≡ true =
+      same.same (is_held hidden ranked) ∙ any_alike (is_held hidden ranked) (is_held (has_tomb blocks key) ranked) (λ row. ap (λ b. same_ranked ranked (ranked_of row) && not b) (alike (id_text row.cid.0))) (element_rows_of blocks key)
+      ∙ some_row blocks key ranked is_value in
+      let no : true ≡ false = sym here ∙ none_found (is_held hidden ranked) rows e in
+      cc
+
+  held : (row : ElementRow) → find (is_held hidden ranked) rows ≡ Some row → HoldsValue blocks key row.cid
+  held row e =
+      let found = found_row (is_held hidden ranked) rows row e in
+      let parts = and_parts (same_ranked ranked (ranked_of row)) (not (hidden (id_text row.cid.0))) found.passes in
+      record {
+        ranked = ranked;
+        is_value = is_value;
+        there = sym (same.same (is_row_of row.cid ranked)) ∙ found.there (is_row_of row.cid ranked) (ap (λ b. b && same_ranked ranked (ranked_of row)) (same_cid_itself row.cid) ∙ parts.0);
+        lives = sym (alike (id_text row.cid.0)) ∙ not_true (hidden (id_text row.cid.0)) parts.1;
+      }
+    where
+      not_true : (b : Bool) → not b ≡ true → b ≡ false
+      not_true true e = absurd (let no : false ≡ true = e in cc)
+      not_true false e = refl
+
+  pub holder_holds : IsHolder blocks key (holder_among hidden ranked rows)
+  holder_holds = by (find (is_held hidden ranked) rows) refl
+    where
+      by : (found : Option ElementRow) → find (is_held hidden ranked) rows ≡ found → IsHolder blocks key (option_map (λ (row : ElementRow). row.cid) found)
+      by None e = absurd (none e)
+      by (Some row) e = held row e

@@ -1,0 +1,53 @@
+// The block of a key's value is looked for along the key's rows, from the one that came last.
+ghost use Rattle.std.specs.Prelude.{◌≡◌, IfOk};
+ghost use Rattle.mc_keep_mem.specs.Chains.{rows_in, row_of_node};
+ghost use Rattle.mc_keep_mem.specs.Holder.{is_held, holder_among};
+ghost use Rattle.mc_keep_mem.specs.Tombs.{has_tomb_in};
+
+use crate::elements::{Elements, Node};
+use crate::tombs::{Tombs, has_tomb};
+use crate::values::Held;
+use mc_base::Cid;
+use mc_model::id_of;
+use std::alloc::{AllocError, Global};
+use std::hash::BuildHasher;
+
+/// The block of the last row of the key that has this value with its priority and is not hidden, or none where no row is.
+pub(crate) fn holder_of<S: BuildHasher + Drop>(
+    alloc: Global,
+    elements: &Elements<S>,
+    tombs: &Tombs<S>,
+    key: &str,
+    held: &Held,
+) -> Result<Option<Cid>, AllocError>
+    ensures { IfOk result (λ cid. cid ≡ holder_among (has_tomb_in tombs.now.keys.keys tombs.now.ids.keys tombs.now.pairs.keys key.now) (held.now.priority, held.now.value) (rows_in elements.now.nodes.items elements.now.lasts key.now)) }
+{
+    let mut at = elements.lasts.get(key).copied();
+    while let Some(place) = at {
+        let Some(node) = elements.nodes.get(place) else {
+            return Ok(None);
+        };
+        if holds(alloc, tombs, key, held, node)? {
+            return Ok(Some(node.cid));
+        }
+        at = node.before;
+    }
+    Ok(None)
+}
+
+// Whether a row of the key has this value with its priority and is not hidden.
+fn holds<S: BuildHasher + Drop>(
+    alloc: Global,
+    tombs: &Tombs<S>,
+    key: &str,
+    held: &Held,
+    node: &Node,
+) -> Result<bool, AllocError>
+    ensures { IfOk result (λ found. found ≡ is_held (has_tomb_in tombs.now.keys.keys tombs.now.ids.keys tombs.now.pairs.keys key.now) (held.now.priority, held.now.value) (row_of_node key.now node.now)) }
+{
+    if held.priority != node.priority || held.value.as_slice() != node.value.as_slice() {
+        return Ok(false);
+    }
+    let id = id_of(alloc, &node.cid)?;
+    Ok(!has_tomb(tombs, key, id.as_str()))
+}

@@ -1,0 +1,32 @@
+-- Where no new tombstone hides the block of a key's value, the value stands.
+use Rattle.std.proofs.Common.{◌≡◌, ℕ, Bool, false, List, Option, Some, None, sym, ap, ◌∙◌, subst}
+use Rattle.std.specs.Prelude.{IfSome, is_some}
+use Rattle.mc_base.specs.declared.cid.Cid.{Cid}
+use Rattle.mc_model.specs.Id.{id_text}
+use Rattle.mc_model.specs.Kept.{Kept, processed}
+use Rattle.mc_keep.specs.declared.rows.TombRow.{TombRow}
+use Rattle.mc_keep.specs.declared.rows.ValueRow.{ValueRow}
+use Rattle.mc_keep.specs.Changes.{has_tomb_row}
+use Rattle.mc_keep.specs.Live.{IsHolder}
+use Rattle.mc_keep.specs.Tables.{IsValueRow}
+use Rattle.mc_rows.specs.Live.{has_tomb_of, Stands}
+use Rattle.mc_rows.proofs.Lives.{untouched_row_stands, no_row_stands, held_row_stands}
+
+-- the key has no value
+pub no_value_told : (told : Option Kept) (tombs : List TombRow) (key : List ℕ) (old : Option ValueRow) → IfSome told (λ kept. IsValueRow (processed kept) key old) → is_some old ≡ false
+    → IfSome told (λ kept. false ≡ false → Stands (processed kept) tombs key)
+no_value_told None tombs key old is none = tt
+no_value_told (Some kept) tombs key None is none = λ e. no_row_stands (processed kept) tombs key is
+no_value_told (Some kept) tombs key (Some row) is none = absurd (cc)
+
+-- no new tombstone has the key
+pub no_tomb_told : (told : Option Kept) (tombs : List TombRow) (key : List ℕ) → has_tomb_of tombs key ≡ false → IfSome told (λ kept. false ≡ false → Stands (processed kept) tombs key)
+no_tomb_told None tombs key none = tt
+no_tomb_told (Some kept) tombs key none = λ e. untouched_row_stands (processed kept) tombs key none
+
+-- the block that holds the value may be hidden
+pub held_told : (told : Option Kept) (tombs : List TombRow) (key id : List ℕ) (cid : Cid) (found : Option Cid) (hidden : Bool) → IfSome told (λ kept. IsHolder (processed kept) key found) → found ≡ Some cid
+    → id ≡ id_text cid.0 → hidden ≡ has_tomb_row tombs key id → IfSome told (λ kept. hidden ≡ false → Stands (processed kept) tombs key)
+held_told None tombs key id cid found hidden holds is named asked = tt
+held_told (Some kept) tombs key id cid found hidden holds is named asked =
+    λ e. held_row_stands (processed kept) tombs key cid (subst (IsHolder (processed kept) key) is holds) (ap (has_tomb_row tombs key) (sym named) ∙ sym asked ∙ e)
