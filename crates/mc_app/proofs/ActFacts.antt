@@ -1,16 +1,17 @@
 -- From a replica's step to the world's.
-use Rattle.std.proofs.Common.{◌≡◌, ℕ, Bool, true, false, true≢false, List, [], ◌∷◌, ◌++◌, Option, Some, None, refl, sym, ◌∙◌, ap, subst, slice_set}
+use Rattle.std.proofs.Common.{◌≡◌, ℕ, Bool, true, false, true≢false, List, [], ◌∷◌, ◌++◌, Option, Some, None, refl, sym, ◌∙◌, ap, subst, slice_set, arith}
 use Rattle.std.specs.Prelude.{◌==◌, ◌||◌, ◌↔◌, ⊤}
 use Rattle.std.specs.List.{slice_get}
 use Rattle.std.proofs.lemmas.Bool.{eqb-true}
 use Rattle.mc_base.specs.Causes.{Rose}
 use Rattle.mc_base.specs.Told.{Told}
+use Rattle.mc_keep.specs.Causes.{StaysQuiet}
 use Rattle.mc_core.specs.Events.{ReplicaState}
 use Rattle.mc_script.specs.declared.command.Command.{Command}
 use Rattle.mc_script.specs.declared.command.Command.TheVariants.{Put, Del, Begin, BatchPut, BatchDel, Commit, Get, Has, Query, Heads}
 use Rattle.mc_script.specs.declared.reply.Reply.{Reply}
 use Rattle.mc_app.specs.declared.entry.LineEntry.{LineEntry}
-use Rattle.mc_app.specs.Record.{NamesRisen, Recorded, RoseAt, numbers_of}
+use Rattle.mc_app.specs.Record.{IsCalm, NamesRisen, Recorded, RoseAt, numbers_of}
 use Rattle.mc_app.specs.Step.{Plan, Refuses, ReplicaStep, Step, has_replica, is_named, place_of}
 use Rattle.mc_app.specs.Worlds.{both_told}
 use Rattle.mc_app.proofs.StepFacts.{row_map}
@@ -59,11 +60,17 @@ rose_at : {K : Type 0} (count : K → ℕ) (old new : K) (rose : Bool) (r : ℕ)
 rose_at count old new true r f is = subst (λ (n : ℕ). RoseAt count (slice_get (old ∷ []) n) (slice_get (new ∷ []) n)) (eqb-true 0 r (or_none (0 == r) is)) (f refl)
 rose_at count old new false r f is = absurd (true≢false (sym is))
 
-pub act_line : {K : Type 0} (faults own : K → ℕ) (keeper keeper_new : K) (old new : Option ReplicaState) (command : Command) (entry : LineEntry) (reply : Reply) (entries after : List LineEntry) (rose own_rose : Bool) → has_replica command ≡ true → after ≡ entries ++ entry ∷ [] → entry.keepers ≡ numbers_of rose → entry.own ≡ numbers_of own_rose → entry.desks ≡ []
+-- a calm keeper does not fail by itself
+none_own : (own own_new : ℕ) (quiet quiet_new own_rose : Bool) (numbers : List ℕ) → StaysQuiet quiet quiet_new own own_new → numbers ≡ numbers_of own_rose → (own_rose ≡ true → Rose own own_new) → IsCalm quiet own → numbers ≡ []
+none_own own own_new quiet quiet_new true numbers stays are rose calm = absurd (let same = (stays calm.0).1 in let up = rose refl in omega (arith, calm.1, same, up))
+none_own own own_new quiet quiet_new false numbers stays are rose calm = are
+
+pub act_line : {K : Type 0} (faults own : K → ℕ) (quiet : K → Bool) (keeper keeper_new : K) (old new : Option ReplicaState) (command : Command) (entry : LineEntry) (reply : Reply) (entries after : List LineEntry) (rose own_rose : Bool) → has_replica command ≡ true → after ≡ entries ++ entry ∷ [] → entry.keepers ≡ numbers_of rose → entry.own ≡ numbers_of own_rose → entry.desks ≡ []
     → (rose ≡ true) ↔ Rose (faults keeper) (faults keeper_new) → (own_rose ≡ true) ↔ Rose (own keeper) (own keeper_new)
+    → StaysQuiet (quiet keeper) (quiet keeper_new) (own keeper) (own keeper_new)
     → Told old new (λ s x. ReplicaStep s command (Rose (faults keeper) (faults keeper_new)) (Rose (own keeper) (own keeper_new)) x reply)
-    → Recorded (λ e. NamesRisen faults own (keeper ∷ []) (keeper_new ∷ []) e × Told (both_told old (Some [])) (both_told new (Some [])) (λ w w2. Step w command e reply w2)) entries after
-act_line faults own keeper keeper_new old new command entry reply entries after rose own_rose there grows keepers owns desks f g step = record {
+    → Recorded (λ e. NamesRisen faults own (keeper ∷ []) (keeper_new ∷ []) e × (IsCalm (quiet keeper) (own keeper) → e.own ≡ []) × Told (both_told old (Some [])) (both_told new (Some [])) (λ w w2. Step w command e reply w2)) entries after
+act_line faults own quiet keeper keeper_new old new command entry reply entries after rose own_rose there grows keepers owns desks f g stays step = record {
   entry = entry;
   grows = grows;
   holds = (
@@ -72,6 +79,7 @@ act_line faults own keeper keeper_new old new command entry reply entries after 
       desks = desks;
       inside = λ r is. rose_at own keeper keeper_new own_rose r g.0 (subst (λ (l : List ℕ). is_named l r ≡ true) owns is);
     },
+    λ calm. none_own (own keeper) (own keeper_new) (quiet keeper) (quiet keeper_new) own_rose entry.own stays owns g.0 calm,
     act_step old new command entry reply rose own_rose _ _ there keepers owns f.1 g.1 step,
   );
 }

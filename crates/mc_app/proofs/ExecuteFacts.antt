@@ -1,5 +1,5 @@
 -- A line whose command was done.
-use Rattle.std.proofs.Common.{◌≡◌, ◌≤◌, ℕ, true, List, Option, Some, Result, Ok, Err, refl, subst, sym, ap, arith}
+use Rattle.std.proofs.Common.{◌≡◌, ◌≤◌, ℕ, true, List, [], Option, Some, Result, Ok, Err, refl, subst, sym, ap, arith}
 use Rattle.std.specs.Prelude.{OnOk, IfOk, cond}
 use Rattle.std.specs.Io.KnownBytes.{Appends}
 use Rattle.mc_base.specs.Causes.{Counts, Rose}
@@ -12,7 +12,7 @@ use Rattle.mc_script.specs.declared.reply.Reply.TheVariants.{Done, Priority, Del
 use Rattle.mc_app.specs.declared.acting.ActError.{ActError}
 use Rattle.mc_app.specs.declared.entry.LineEntry.{LineEntry}
 use Rattle.mc_app.specs.Record.{Recorded}
-use Rattle.mc_app.specs.Runs.{IsWithin, is_fault}
+use Rattle.mc_app.specs.Runs.{IsWithin, is_fault, names_none}
 use Rattle.mc_app.specs.Step.{Step, has_replica}
 use Rattle.mc_app.specs.Executes.{Executes, ExecutesPart, IsAnswered}
 
@@ -37,21 +37,22 @@ within_one RefusedPriority before now later rose = within_none before now later
 within_one (RefusedClash cid) before now later rose = within_none before now later
 within_one RefusedBatch before now later rose = within_none before now later
 
-module _ (old : Option (List ReplicaState)) (faults : ℕ) (command : Command) (new : Option (List ReplicaState)) (faults_now : ℕ) where
+module _ (calm : Type 0) (old : Option (List ReplicaState)) (faults : ℕ) (command : Command) (new : Option (List ReplicaState)) (faults_now : ℕ) where
   pub answered : (Names : LineEntry → Type 0) (entries after : List LineEntry) (result : Result Reply ActError)
-      → IfOk result (λ reply. Recorded (λ e. Names e × Told old new (λ w w2. Step w command e reply w2)) entries after) → OnOk result (has_replica command ≡ true) → Counts faults faults_now (result ≡ Ok FaultKeeper)
-      → IfOk result (IsAnswered old faults command new faults_now)
+      → IfOk result (λ reply. Recorded (λ e. Names e × (calm → e.own ≡ []) × Told old new (λ w w2. Step w command e reply w2)) entries after) → OnOk result (has_replica command ≡ true) → Counts faults faults_now (result ≡ Ok FaultKeeper)
+      → IfOk result (IsAnswered calm old faults command new faults_now)
   answered Names entries after (Err error) line there cause = tt
   answered Names entries after (Ok reply) line there cause = record {
     answer = record { reply = reply; entry = line.entry };
     says = refl;
-    step = (there, line.holds.1);
+    step = (there, line.holds.2);
     counted = within_one reply faults faults_now cause.later (λ fault. cause.rose (ap (λ (r : Reply). Ok r) fault));
+    owned = λ c. ap names_none (line.holds.1 c);
   }
 
-  pub executes : {E : Type 0} (reply : Reply) (before after : Option (List ℕ)) (result : Result (Unit {0}) E) → IsAnswered old faults command new faults_now reply → OnOk result (Appends before after (reply_text reply)) → OnOk result (Executes old faults (Some (Some command)) new faults_now before after)
+  pub executes : {E : Type 0} (reply : Reply) (before after : Option (List ℕ)) (result : Result (Unit {0}) E) → IsAnswered calm old faults command new faults_now reply → OnOk result (Appends before after (reply_text reply)) → OnOk result (Executes calm old faults (Some (Some command)) new faults_now before after)
   executes reply before after (Err error) is written = tt
-  executes reply before after (Ok done) is written = record { answer = Some is.answer; step = is.step; counted = is.counted; written = subst (λ (r : Reply). Appends before after (reply_text r)) (sym is.says) written }
+  executes reply before after (Ok done) is written = record { answer = Some is.answer; step = is.step; counted = is.counted; owned = is.owned; written = subst (λ (r : Reply). Appends before after (reply_text r)) (sym is.says) written }
 
-  pub executes_part : (reply : Reply) (before after : Option (List ℕ)) → IsAnswered old faults command new faults_now reply → AppendsPart before after (reply_text reply) → ExecutesPart old faults (Some (Some command)) new faults_now before after
-  executes_part reply before after is written = record { answer = Some is.answer; step = is.step; counted = is.counted; written = subst (λ (r : Reply). AppendsPart before after (reply_text r)) (sym is.says) written }
+  pub executes_part : (reply : Reply) (before after : Option (List ℕ)) → IsAnswered calm old faults command new faults_now reply → AppendsPart before after (reply_text reply) → ExecutesPart calm old faults (Some (Some command)) new faults_now before after
+  executes_part reply before after is written = record { answer = Some is.answer; step = is.step; counted = is.counted; owned = is.owned; written = subst (λ (r : Reply). AppendsPart before after (reply_text r)) (sym is.says) written }

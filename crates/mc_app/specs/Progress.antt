@@ -5,12 +5,12 @@ use Rattle.mc_core.specs.Events.{ReplicaState}
 use Rattle.mc_script.specs.Line.{line_of}
 use Rattle.mc_script.specs.declared.command.Command.{Command}
 use Rattle.mc_app.specs.Lines.{lines_of, line_max, script_max, IsTooLong}
-use Rattle.mc_app.specs.Runs.{Answer, Runs, faults_in}
+use Rattle.mc_app.specs.Runs.{Answer, Runs}
 use Rattle.mc_app.specs.Step.{has_replica}
 
 -- the first lines of a script, which keep the limits, with their answers and what is told of the world after them; `May` says
--- how many of the answers may be faults
-pub record Progress (script : List ℕ) (start : Option (List ReplicaState)) (May : ℕ → Type 0) : Type 0 where
+-- what may be answered
+pub record Progress (script : List ℕ) (start : Option (List ReplicaState)) (May : List (Option Answer) → Type 0) : Type 0 where
   pub taken : List ℕ
   pub ahead : List ℕ
   pub lines : List (List ℕ)
@@ -19,7 +19,7 @@ pub record Progress (script : List ℕ) (start : Option (List ReplicaState)) (Ma
   pub bytes : script ≡ taken ++ ahead
   pub split : lines_of script ≡ lines ++ lines_of ahead
   pub runs : Runs start lines answers world
-  pub faults : May (faults_in answers)
+  pub faults : May answers
   pub within : All (λ line. length line ≤ line_max) lines
   pub in_script : length taken ≤ script_max
 
@@ -41,7 +41,7 @@ abbrev pub IsBadLine : ℕ → List ℕ → Type 0
 IsBadLine room ahead = IsTooLong room ahead ⊎ IsNoCommand ahead
 
 -- the line behind those that were answered has this number, counted from 1, and is bad
-pub record MeetsBadLine (script : List ℕ) (start : Option (List ReplicaState)) (May : ℕ → Type 0) (progress : Progress script start May) (number : ℕ) : Type 0 where
+pub record MeetsBadLine (script : List ℕ) (start : Option (List ReplicaState)) (May : List (Option Answer) → Type 0) (progress : Progress script start May) (number : ℕ) : Type 0 where
   pub counted : number ≡ length progress.lines + 1
   pub bad : IsBadLine (script_max - length progress.taken) progress.ahead
 

@@ -26,3 +26,7 @@ pub record NamesRisen {K : Type 0} (faults own : K → ℕ) (old new : List K) (
   pub keepers : (r : ℕ) → is_named entry.keepers r ≡ true → RoseAt faults (slice_get old r) (slice_get new r)
   pub desks : entry.desks ≡ []
   pub inside : (r : ℕ) → is_named entry.own r ≡ true → RoseAt own (slice_get old r) (slice_get new r)
+
+-- the keeper is quiet, and has not failed by itself
+abbrev pub IsCalm : Bool → ℕ → Type 0
+IsCalm quiet own = (quiet ≡ true) × (own ≡ 0)

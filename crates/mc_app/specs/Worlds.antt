@@ -1,7 +1,8 @@
 -- What a world stands for.
-use Rattle.std.specs.Prelude.{◌≡◌, ℕ, List, [], ◌∷◌, Option, Some, None}
+use Rattle.std.specs.Prelude.{◌≡◌, ◌≤◌, ℕ, Bool, List, [], ◌∷◌, Option, Some, None}
 use Rattle.mc_base.specs.Causes.{Rose}
 use Rattle.mc_model.specs.Kept.{Kept}
+use Rattle.mc_keep.specs.Causes.{StaysQuiet}
 use Rattle.mc_keep.specs.declared.fuse.Fuse.{Fuse}
 use Rattle.mc_core.specs.Events.{ReplicaState}
 use Rattle.mc_core.specs.Replica.{replica_state, opened_state}
@@ -43,14 +44,28 @@ AreParts fuse [] = ⊥
 AreParts fuse (part ∷ []) = IsFresh fuse part
 AreParts fuse (part ∷ next ∷ parts) = ⊥
 
--- a part whose keeper failed in opening: it tells what it told, and has counted the fault
-pub record IsLeft {K Desk : Type 0} (told : K → Option Kept) (fuse : K → Option Fuse) (faults : K → ℕ) (part left : Part K Desk) : Type 0 where
+-- a part whose keeper failed in opening by itself: it tells what it told, and has counted the fault
+pub record IsLeft {K Desk : Type 0} (told : K → Option Kept) (fuse : K → Option Fuse) (faults own : K → ℕ) (quiet : K → Bool) (part left : Part K Desk) : Type 0 where
   pub tells : told left.keeper ≡ told part.keeper
   pub keeps_fuse : fuse left.keeper ≡ fuse part.keeper
   pub keeps_desks : left.desks ≡ part.desks
   pub rose : Rose (faults part.keeper) (faults left.keeper)
+  pub own_rose : Rose (own part.keeper) (own left.keeper)
+  pub stays : StaysQuiet (quiet part.keeper) (quiet left.keeper) (own part.keeper) (own left.keeper)
 
 -- the parts that are handed back where no world was made
-abbrev pub AreLeft : {K Desk : Type 0} → (K → Option Kept) → (K → Option Fuse) → (K → ℕ) → List (Part K Desk) → List (Part K Desk) → Type 0
-AreLeft told fuse faults (part ∷ []) (left ∷ []) = IsLeft told fuse faults part left
-AreLeft told fuse faults parts left = ⊥
+abbrev pub AreLeft : {K Desk : Type 0} → (K → Option Kept) → (K → Option Fuse) → (K → ℕ) → (K → ℕ) → (K → Bool) → List (Part K Desk) → List (Part K Desk) → Type 0
+AreLeft told fuse faults own quiet (part ∷ []) (left ∷ []) = IsLeft told fuse faults own quiet part left
+AreLeft told fuse faults own quiet parts left = ⊥
+
+-- the keeper of the only part stays quiet while it becomes this one
+abbrev pub StaysQuietIn : {K Desk : Type 0} → (K → Bool) → (K → ℕ) → List (Part K Desk) → K → Type 0
+StaysQuietIn quiet own [] keeper = ⊥
+StaysQuietIn quiet own (part ∷ []) keeper = StaysQuiet (quiet part.keeper) (quiet keeper) (own part.keeper) (own keeper)
+StaysQuietIn quiet own (part ∷ next ∷ parts) keeper = ⊥
+
+-- its count does not fall
+abbrev pub ComesLater : {K Desk : Type 0} → (K → ℕ) → List (Part K Desk) → K → Type 0
+ComesLater faults [] keeper = ⊥
+ComesLater faults (part ∷ []) keeper = faults part.keeper ≤ faults keeper
+ComesLater faults (part ∷ next ∷ parts) keeper = ⊥

@@ -2,9 +2,10 @@
 ghost use Rattle.std.specs.Prelude.{◌≡◌, ◌≤◌, ◌↔◌, ◌++◌, [], ◌∷◌, true, false, Ok, IfOk, OnOk, IsErrOf, ⊤};
 ghost use Rattle.mc_base.specs.Causes.{Counts, Rose};
 ghost use Rattle.mc_base.specs.Told.{Told};
+ghost use Rattle.mc_keep.specs.Causes.{StaysQuiet};
 ghost use Rattle.mc_core.specs.Replica.{replica_state};
 ghost use Rattle.mc_script.specs.declared.reply.Reply.TheVariants.{FaultKeeper};
-ghost use Rattle.mc_app.specs.Record.{NamesRisen, Recorded, numbers_of};
+ghost use Rattle.mc_app.specs.Record.{IsCalm, NamesRisen, Recorded, numbers_of};
 ghost use Rattle.mc_app.specs.Step.{ReplicaStep, Step, has_replica};
 ghost use Rattle.mc_app.specs.Worlds.{world_state};
 
@@ -40,7 +41,7 @@ impl From<AllocError> for ActError {
 }
 
 /// Executes one command. The world and the reply are by `Step`, and the record grows by one entry, which names only
-/// keepers whose counts rose. `BadLine` comes exactly where the command names a replica that isn't there, and changes
+/// keepers whose counts rose, and no quiet one among those that failed by themselves. `BadLine` comes exactly where the command names a replica that isn't there, and changes
 /// nothing. After `Memory` some events of the command may have happened.
 pub fn act<K: Keeper>(
     world: &mut World<K>,
@@ -48,12 +49,14 @@ pub fn act<K: Keeper>(
     command: &Command,
 ) -> Result<Reply, ActError>
     ensures line { IfOk result (λ reply. Recorded (λ entry. NamesRisen K.faults K.own (world.old.replica.keeper ∷ []) (world.new.replica.keeper ∷ []) entry
+        × (IsCalm (K.quiet world.old.replica.keeper) (K.own world.old.replica.keeper) → entry.own ≡ [])
         × Told (world_state K.told K.fuse world.old) (world_state K.told K.fuse world.new) (λ w w2. Step w command.now entry reply w2)) world.old.entries world.new.entries) }
     ensures told { Told (world_state K.told K.fuse world.old) (world_state K.told K.fuse world.new) (λ _ _. ⊤) }
     ensures there { OnOk result (has_replica command.now ≡ true) }
     ensures bad { IsErrOf result ActError.BadLine → (has_replica command.now ≡ false) × (world.new ≡ world.old) }
     ensures cause { Counts (K.faults world.old.replica.keeper) (K.faults world.new.replica.keeper) (result ≡ Ok FaultKeeper) }
     ensures own { K.own world.old.replica.keeper ≤ K.own world.new.replica.keeper }
+    ensures quiet { StaysQuiet (K.quiet world.old.replica.keeper) (K.quiet world.new.replica.keeper) (K.own world.old.replica.keeper) (K.own world.new.replica.keeper) }
     ensures desks { world.new.desks ≡ world.old.desks }
 {
     if !has_replica(command) {
@@ -85,6 +88,7 @@ fn act_at<K: Keeper>(
     ensures not_bad { IsErrOf result ActError.BadLine → ⊥ }
     ensures cause { Counts (K.faults replica.old.keeper) (K.faults replica.new.keeper) (result ≡ Ok FaultKeeper) }
     ensures own { K.own replica.old.keeper ≤ K.own replica.new.keeper }
+    ensures quiet { StaysQuiet (K.quiet replica.old.keeper) (K.quiet replica.new.keeper) (K.own replica.old.keeper) (K.own replica.new.keeper) }
 {
     match command {
         Command::Put { r, key, bytes } => put(replica, alloc, *r, key.as_str(), bytes.as_slice()),

@@ -3,11 +3,13 @@ ghost use Rattle.std.specs.Prelude.{◌≡◌, ◌≤◌, OnOk, IfOk, IsErrOf, S
 ghost use Rattle.std.specs.Io.KnownBytes.{Appends, Keeps};
 ghost use Rattle.mc_base.specs.Causes.{Counts};
 ghost use Rattle.mc_base.specs.Told.{AppendsPart};
+ghost use Rattle.mc_keep.specs.Causes.{StaysQuiet};
 ghost use Rattle.mc_script.specs.Line.{line_of};
 ghost use Rattle.mc_script.specs.ReplyText.{reply_text};
 ghost use Rattle.mc_app.specs.declared.acting.ActError.{ActError};
 ghost use Rattle.mc_app.specs.Executes.{Executes, ExecutesPart, IsAnswered};
 ghost use Rattle.mc_app.specs.Progress.{IsBadCommand};
+ghost use Rattle.mc_app.specs.Record.{IsCalm};
 ghost use Rattle.mc_app.specs.Step.{has_replica};
 ghost use Rattle.mc_app.specs.Worlds.{world_state};
 ghost use Rattle.mc_app.specs.declared.execute.ExecuteError.TheVariants.{Failed as WriteFailed, Memory};
@@ -59,11 +61,12 @@ pub fn execute_line<K: Keeper, O: Sink>(
     line: &[u8],
     out: &mut O,
 ) -> Result<(), ExecuteError>
-    ensures ok { OnOk result (Executes (world_state K.told K.fuse world.old) (K.faults world.old.replica.keeper) (line_of line.now) (world_state K.told K.fuse world.new) (K.faults world.new.replica.keeper) (O.written out.old) (O.written out.new)) }
+    ensures ok { OnOk result (Executes (IsCalm (K.quiet world.old.replica.keeper) (K.own world.old.replica.keeper)) (world_state K.told K.fuse world.old) (K.faults world.old.replica.keeper) (line_of line.now) (world_state K.told K.fuse world.new) (K.faults world.new.replica.keeper) (O.written out.old) (O.written out.new)) }
     ensures bad { IsErrOf result ExecuteError.Bad → IsBadCommand (line_of line.now) × Keeps (O.written out.old) (O.written out.new) }
-    ensures failed { IsErrOf result ExecuteError.Failed → ExecutesPart (world_state K.told K.fuse world.old) (K.faults world.old.replica.keeper) (line_of line.now) (world_state K.told K.fuse world.new) (K.faults world.new.replica.keeper) (O.written out.old) (O.written out.new) }
+    ensures failed { IsErrOf result ExecuteError.Failed → ExecutesPart (IsCalm (K.quiet world.old.replica.keeper) (K.own world.old.replica.keeper)) (world_state K.told K.fuse world.old) (K.faults world.old.replica.keeper) (line_of line.now) (world_state K.told K.fuse world.new) (K.faults world.new.replica.keeper) (O.written out.old) (O.written out.new) }
     ensures memory { IsErrOf result ExecuteError.Memory → Keeps (O.written out.old) (O.written out.new) }
     ensures later { K.faults world.old.replica.keeper ≤ K.faults world.new.replica.keeper }
+    ensures quiet { StaysQuiet (K.quiet world.old.replica.keeper) (K.quiet world.new.replica.keeper) (K.own world.old.replica.keeper) (K.own world.new.replica.keeper) }
     ensures desks { world.new.desks ≡ world.old.desks }
     ensures cause { Counts (O.faults out.old) (O.faults out.new) (IsErrOf result ExecuteError.Failed) }
 {
@@ -82,11 +85,12 @@ fn answer<K: Keeper, O: Sink>(
     command: &Command,
     out: &mut O,
 ) -> Result<(), ExecuteError>
-    ensures ok { OnOk result (Executes (world_state K.told K.fuse world.old) (K.faults world.old.replica.keeper) (Some (Some command.now)) (world_state K.told K.fuse world.new) (K.faults world.new.replica.keeper) (O.written out.old) (O.written out.new)) }
+    ensures ok { OnOk result (Executes (IsCalm (K.quiet world.old.replica.keeper) (K.own world.old.replica.keeper)) (world_state K.told K.fuse world.old) (K.faults world.old.replica.keeper) (Some (Some command.now)) (world_state K.told K.fuse world.new) (K.faults world.new.replica.keeper) (O.written out.old) (O.written out.new)) }
     ensures bad { IsErrOf result ExecuteError.Bad → (has_replica command.now ≡ false) × Keeps (O.written out.old) (O.written out.new) }
-    ensures failed { IsErrOf result ExecuteError.Failed → ExecutesPart (world_state K.told K.fuse world.old) (K.faults world.old.replica.keeper) (Some (Some command.now)) (world_state K.told K.fuse world.new) (K.faults world.new.replica.keeper) (O.written out.old) (O.written out.new) }
+    ensures failed { IsErrOf result ExecuteError.Failed → ExecutesPart (IsCalm (K.quiet world.old.replica.keeper) (K.own world.old.replica.keeper)) (world_state K.told K.fuse world.old) (K.faults world.old.replica.keeper) (Some (Some command.now)) (world_state K.told K.fuse world.new) (K.faults world.new.replica.keeper) (O.written out.old) (O.written out.new) }
     ensures memory { IsErrOf result ExecuteError.Memory → Keeps (O.written out.old) (O.written out.new) }
     ensures later { K.faults world.old.replica.keeper ≤ K.faults world.new.replica.keeper }
+    ensures quiet { StaysQuiet (K.quiet world.old.replica.keeper) (K.quiet world.new.replica.keeper) (K.own world.old.replica.keeper) (K.own world.new.replica.keeper) }
     ensures desks { world.new.desks ≡ world.old.desks }
     ensures cause { Counts (O.faults out.old) (O.faults out.new) (IsErrOf result ExecuteError.Failed) }
 {
@@ -117,9 +121,10 @@ fn act_on<K: Keeper>(
     world: &mut World<K>,
     command: &Command,
 ) -> Result<Reply, ActError>
-    ensures answered { IfOk result (IsAnswered (world_state K.told K.fuse world.old) (K.faults world.old.replica.keeper) command.now (world_state K.told K.fuse world.new) (K.faults world.new.replica.keeper)) }
+    ensures answered { IfOk result (IsAnswered (IsCalm (K.quiet world.old.replica.keeper) (K.own world.old.replica.keeper)) (world_state K.told K.fuse world.old) (K.faults world.old.replica.keeper) command.now (world_state K.told K.fuse world.new) (K.faults world.new.replica.keeper)) }
     ensures bad { IsErrOf result ActError.BadLine → has_replica command.now ≡ false }
     ensures later { K.faults world.old.replica.keeper ≤ K.faults world.new.replica.keeper }
+    ensures quiet { StaysQuiet (K.quiet world.old.replica.keeper) (K.quiet world.new.replica.keeper) (K.own world.old.replica.keeper) (K.own world.new.replica.keeper) }
     ensures desks { world.new.desks ≡ world.old.desks }
 {
     act(world, alloc, command)

@@ -2,6 +2,7 @@
 ghost use Rattle.std.specs.Prelude.{◌≡◌, ◌≤◌, Ok, IfOk, IsErrOf, map};
 ghost use Rattle.mc_base.specs.Causes.{Counts, Rose};
 ghost use Rattle.mc_base.specs.Told.{Told};
+ghost use Rattle.mc_keep.specs.Causes.{StaysQuiet};
 ghost use Rattle.mc_keep.specs.Changes.{heads_in_rows};
 ghost use Rattle.mc_query.specs.Places.{pair_of};
 ghost use Rattle.mc_core.specs.Replica.{replica_state};
@@ -49,6 +50,7 @@ pub fn put<K: Keeper>(
         Row (Refuses s (Put r key.now bytes.now)) (Plan s (Put r key.now bytes.now)) (Rose (K.faults replica.old.keeper) (K.faults replica.new.keeper)) (Rose (K.own replica.old.keeper) (K.own replica.new.keeper)) s new reply)) }
     ensures cause { Counts (K.faults replica.old.keeper) (K.faults replica.new.keeper) (result ≡ Ok FaultKeeper) }
     ensures own { K.own replica.old.keeper ≤ K.own replica.new.keeper }
+    ensures quiet { StaysQuiet (K.quiet replica.old.keeper) (K.quiet replica.new.keeper) (K.own replica.old.keeper) (K.own replica.new.keeper) }
     ensures not_bad { IsErrOf result ActError.BadLine → ⊥ }
 {
     match replica.put(alloc, key, bytes) {
@@ -69,6 +71,7 @@ pub fn delete<K: Keeper>(
         Row (Refuses s (Del r key.now)) (Plan s (Del r key.now)) (Rose (K.faults replica.old.keeper) (K.faults replica.new.keeper)) (Rose (K.own replica.old.keeper) (K.own replica.new.keeper)) s new reply)) }
     ensures cause { Counts (K.faults replica.old.keeper) (K.faults replica.new.keeper) (result ≡ Ok FaultKeeper) }
     ensures own { K.own replica.old.keeper ≤ K.own replica.new.keeper }
+    ensures quiet { StaysQuiet (K.quiet replica.old.keeper) (K.quiet replica.new.keeper) (K.own replica.old.keeper) (K.own replica.new.keeper) }
     ensures not_bad { IsErrOf result ActError.BadLine → ⊥ }
 {
     match replica.delete(alloc, key) {
@@ -84,6 +87,7 @@ pub fn begin<K: Keeper>(replica: &mut Replica<K>, alloc: Global, r: u64) -> Resu
         Row (Refuses s (Begin r)) (Plan s (Begin r)) (Rose (K.faults replica.old.keeper) (K.faults replica.new.keeper)) (Rose (K.own replica.old.keeper) (K.own replica.new.keeper)) s new reply)) }
     ensures cause { Counts (K.faults replica.old.keeper) (K.faults replica.new.keeper) (result ≡ Ok FaultKeeper) }
     ensures own { K.own replica.old.keeper ≤ K.own replica.new.keeper }
+    ensures quiet { StaysQuiet (K.quiet replica.old.keeper) (K.quiet replica.new.keeper) (K.own replica.old.keeper) (K.own replica.new.keeper) }
     ensures not_bad { IsErrOf result ActError.BadLine → ⊥ }
 {
     match replica.batch_begin(alloc) {
@@ -102,6 +106,7 @@ pub fn batch_put<K: Keeper>(
         Row (Refuses s (BatchPut r key.now bytes.now)) (Plan s (BatchPut r key.now bytes.now)) (Rose (K.faults replica.old.keeper) (K.faults replica.new.keeper)) (Rose (K.own replica.old.keeper) (K.own replica.new.keeper)) s new reply)) }
     ensures cause { Counts (K.faults replica.old.keeper) (K.faults replica.new.keeper) (result ≡ Ok FaultKeeper) }
     ensures own { K.own replica.old.keeper ≤ K.own replica.new.keeper }
+    ensures quiet { StaysQuiet (K.quiet replica.old.keeper) (K.quiet replica.new.keeper) (K.own replica.old.keeper) (K.own replica.new.keeper) }
     ensures not_bad { IsErrOf result ActError.BadLine → ⊥ }
 {
     match replica.batch_put(key, bytes) {
@@ -119,6 +124,7 @@ pub fn batch_delete<K: Keeper>(
         Row (Refuses s (BatchDel r key.now)) (Plan s (BatchDel r key.now)) (Rose (K.faults replica.old.keeper) (K.faults replica.new.keeper)) (Rose (K.own replica.old.keeper) (K.own replica.new.keeper)) s new reply)) }
     ensures cause { Counts (K.faults replica.old.keeper) (K.faults replica.new.keeper) (result ≡ Ok FaultKeeper) }
     ensures own { K.own replica.old.keeper ≤ K.own replica.new.keeper }
+    ensures quiet { StaysQuiet (K.quiet replica.old.keeper) (K.quiet replica.new.keeper) (K.own replica.old.keeper) (K.own replica.new.keeper) }
     ensures not_bad { IsErrOf result ActError.BadLine → ⊥ }
 {
     match replica.batch_delete(key) {
@@ -132,6 +138,7 @@ pub fn commit<K: Keeper>(replica: &mut Replica<K>, alloc: Global, r: u64) -> Res
         Row (Refuses s (Commit r)) (Plan s (Commit r)) (Rose (K.faults replica.old.keeper) (K.faults replica.new.keeper)) (Rose (K.own replica.old.keeper) (K.own replica.new.keeper)) s new reply)) }
     ensures cause { Counts (K.faults replica.old.keeper) (K.faults replica.new.keeper) (result ≡ Ok FaultKeeper) }
     ensures own { K.own replica.old.keeper ≤ K.own replica.new.keeper }
+    ensures quiet { StaysQuiet (K.quiet replica.old.keeper) (K.quiet replica.new.keeper) (K.own replica.old.keeper) (K.own replica.new.keeper) }
     ensures not_bad { IsErrOf result ActError.BadLine → ⊥ }
 {
     match replica.batch_commit(alloc) {
@@ -152,6 +159,7 @@ pub fn get<K: Keeper>(
         Row (Refuses s (Get r key.now)) (Plan s (Get r key.now)) (Rose (K.faults replica.old.keeper) (K.faults replica.new.keeper)) (Rose (K.own replica.old.keeper) (K.own replica.new.keeper)) s new reply)) }
     ensures cause { Counts (K.faults replica.old.keeper) (K.faults replica.new.keeper) (result ≡ Ok FaultKeeper) }
     ensures own { K.own replica.old.keeper ≤ K.own replica.new.keeper }
+    ensures quiet { StaysQuiet (K.quiet replica.old.keeper) (K.quiet replica.new.keeper) (K.own replica.old.keeper) (K.own replica.new.keeper) }
     ensures not_bad { IsErrOf result ActError.BadLine → ⊥ }
 {
     match replica.get(alloc, key) {
@@ -165,6 +173,7 @@ pub fn has<K: Keeper>(replica: &mut Replica<K>, r: u64, key: &str) -> Result<Rep
         Row (Refuses s (HasKey r key.now)) (Plan s (HasKey r key.now)) (Rose (K.faults replica.old.keeper) (K.faults replica.new.keeper)) (Rose (K.own replica.old.keeper) (K.own replica.new.keeper)) s new reply)) }
     ensures cause { Counts (K.faults replica.old.keeper) (K.faults replica.new.keeper) (result ≡ Ok FaultKeeper) }
     ensures own { K.own replica.old.keeper ≤ K.own replica.new.keeper }
+    ensures quiet { StaysQuiet (K.quiet replica.old.keeper) (K.quiet replica.new.keeper) (K.own replica.old.keeper) (K.own replica.new.keeper) }
     ensures not_bad { IsErrOf result ActError.BadLine → ⊥ }
 {
     match replica.has(key) {
@@ -185,6 +194,7 @@ pub fn query<K: Keeper>(
         Row (Refuses s (Query r prefix.now skip take)) (Plan s (Query r prefix.now skip take)) (Rose (K.faults replica.old.keeper) (K.faults replica.new.keeper)) (Rose (K.own replica.old.keeper) (K.own replica.new.keeper)) s new reply)) }
     ensures cause { Counts (K.faults replica.old.keeper) (K.faults replica.new.keeper) (result ≡ Ok FaultKeeper) }
     ensures own { K.own replica.old.keeper ≤ K.own replica.new.keeper }
+    ensures quiet { StaysQuiet (K.quiet replica.old.keeper) (K.quiet replica.new.keeper) (K.own replica.old.keeper) (K.own replica.new.keeper) }
     ensures not_bad { IsErrOf result ActError.BadLine → ⊥ }
 {
     match replica.query(alloc, prefix, skip, take) {
@@ -200,6 +210,7 @@ pub fn heads<K: Keeper>(replica: &mut Replica<K>, alloc: Global, r: u64) -> Resu
         Row (Refuses s (HeadsOf r)) (Plan s (HeadsOf r)) (Rose (K.faults replica.old.keeper) (K.faults replica.new.keeper)) (Rose (K.own replica.old.keeper) (K.own replica.new.keeper)) s new reply)) }
     ensures cause { Counts (K.faults replica.old.keeper) (K.faults replica.new.keeper) (result ≡ Ok FaultKeeper) }
     ensures own { K.own replica.old.keeper ≤ K.own replica.new.keeper }
+    ensures quiet { StaysQuiet (K.quiet replica.old.keeper) (K.quiet replica.new.keeper) (K.own replica.old.keeper) (K.own replica.new.keeper) }
     ensures not_bad { IsErrOf result ActError.BadLine → ⊥ }
 {
     match replica.heads(alloc) {

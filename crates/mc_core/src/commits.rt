@@ -5,6 +5,7 @@ ghost use Rattle.mc_base.specs.Told.{Told};
 ghost use Rattle.mc_model.specs.Events.{Store, Process};
 ghost use Rattle.mc_model.specs.Kept.{IsKept};
 ghost use Rattle.mc_model.specs.State.{vertices};
+ghost use Rattle.mc_keep.specs.Causes.{StaysQuiet};
 ghost use Rattle.mc_keep.specs.Changes.{changed, row_count};
 ghost use Rattle.mc_keep.specs.Tables.{ChangesFit};
 ghost use Rattle.mc_core.specs.Events.{Part};
@@ -36,6 +37,7 @@ impl<K: Keeper> Replica<K> {
         ensures batch { self.new.batch ≡ self.old.batch }
         ensures spare { K.spare self.old.keeper ≤ K.spare self.new.keeper + row_count store }
         ensures own { K.own self.old.keeper ≤ K.own self.new.keeper }
+        ensures quiet { StaysQuiet (K.quiet self.old.keeper) (K.quiet self.new.keeper) (K.own self.old.keeper) (K.own self.new.keeper) }
         ensures cause { HasCause (K.faults self.old.keeper) (K.faults self.new.keeper) result }
     {
         commits_are_events();
@@ -67,6 +69,7 @@ impl<K: Keeper> Replica<K> {
         ensures whole { self.new.whole ≡ self.old.whole }
         ensures batch { self.new.batch ≡ self.old.batch }
         ensures own { K.own self.old.keeper ≤ K.own self.new.keeper }
+        ensures quiet { StaysQuiet (K.quiet self.old.keeper) (K.quiet self.new.keeper) (K.own self.old.keeper) (K.own self.new.keeper) }
         ensures cause { HasCause (K.faults self.old.keeper) (K.faults self.new.keeper) result }
     {
         commits_are_events();
@@ -100,6 +103,7 @@ impl<K: Keeper> Replica<K> {
         ensures whole { self.new.whole ≡ self.old.whole }
         ensures batch { self.new.batch ≡ self.old.batch }
         ensures own { K.own self.old.keeper ≤ K.own self.new.keeper }
+        ensures quiet { StaysQuiet (K.quiet self.old.keeper) (K.quiet self.new.keeper) (K.own self.old.keeper) (K.own self.new.keeper) }
         ensures cause { HasCause (K.faults self.old.keeper) (K.faults self.new.keeper) result }
     {
         match self.commit_store(store) {
@@ -122,6 +126,7 @@ impl<K: Keeper> Replica<K> {
         ensures whole { self.new.whole ≡ self.old.whole }
         ensures batch { self.new.batch ≡ self.old.batch }
         ensures own { K.own self.old.keeper ≤ K.own self.new.keeper }
+        ensures quiet { StaysQuiet (K.quiet self.old.keeper) (K.quiet self.new.keeper) (K.own self.old.keeper) (K.own self.new.keeper) }
         ensures cause { HasCause (K.faults self.old.keeper) (K.faults self.new.keeper) result }
     {
         commits_are_events();

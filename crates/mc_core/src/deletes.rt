@@ -55,6 +55,7 @@ impl<K: Keeper> Replica<K> {
         ensures counted { StaysCounted self.new.stopped (K.told self.old.keeper) self.old.numbers (K.told self.new.keeper) self.new.numbers }
         ensures short { Told (replica_state K.told K.fuse self.old) (replica_state K.told K.fuse self.new) (ShortKeeps key.now result) }
         ensures own { K.own self.old.keeper ≤ K.own self.new.keeper }
+        ensures quiet { StaysQuiet (K.quiet self.old.keeper) (K.quiet self.new.keeper) (K.own self.old.keeper) (K.own self.new.keeper) }
         ensures cause { CoreCause (K.faults self.old.keeper) (K.faults self.new.keeper) result }
     {
         kept_is_durable();
@@ -81,6 +82,7 @@ impl<K: Keeper> Replica<K> {
             Takes blocks (Rose (K.own self.old.keeper) (K.own self.new.keeper)) result s new) }
         ensures counted { StaysCounted self.new.stopped (K.told self.old.keeper) self.old.numbers (K.told self.new.keeper) self.new.numbers }
         ensures own { K.own self.old.keeper ≤ K.own self.new.keeper }
+        ensures quiet { StaysQuiet (K.quiet self.old.keeper) (K.quiet self.new.keeper) (K.own self.old.keeper) (K.own self.new.keeper) }
         ensures cause { CoreCause (K.faults self.old.keeper) (K.faults self.new.keeper) result }
     {
         kept_is_durable();
@@ -107,6 +109,7 @@ impl<K: Keeper> Replica<K> {
         ensures batch { self.new.batch ≡ self.old.batch }
         ensures counted { StaysCounted self.new.stopped (K.told self.old.keeper) self.old.numbers (K.told self.new.keeper) self.new.numbers }
         ensures own { K.own self.old.keeper ≤ K.own self.new.keeper }
+        ensures quiet { StaysQuiet (K.quiet self.old.keeper) (K.quiet self.new.keeper) (K.own self.old.keeper) (K.own self.new.keeper) }
         ensures cause { CoreCause (K.faults self.old.keeper) (K.faults self.new.keeper) result }
     {
         kept_is_durable();

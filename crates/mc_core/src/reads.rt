@@ -9,6 +9,7 @@ ghost use Rattle.mc_model.specs.Answers.{has_value};
 ghost use Rattle.mc_model.specs.Front.{heads, same_cid};
 ghost use Rattle.mc_model.specs.Kept.{processed};
 ghost use Rattle.mc_model.specs.Live.{value};
+ghost use Rattle.mc_keep.specs.Causes.{StaysQuiet};
 ghost use Rattle.mc_keep.specs.Changes.{heads_in_rows};
 ghost use Rattle.mc_query.specs.Places.{pair_of};
 ghost use Rattle.mc_core.specs.Calls.{Call};
@@ -32,6 +33,7 @@ impl<K: Keeper> Replica<K> {
             Call (Is (read_refusal s)) (Reads (λ kept found. found ≡ value (processed kept) key.now) s) (λ left. left ≡ s) (Rose (K.own self.old.keeper) (K.own self.new.keeper)) result s new) }
         ensures counted { StaysCounted self.new.stopped (K.told self.old.keeper) self.old.numbers (K.told self.new.keeper) self.new.numbers }
         ensures own { K.own self.old.keeper ≤ K.own self.new.keeper }
+        ensures quiet { StaysQuiet (K.quiet self.old.keeper) (K.quiet self.new.keeper) (K.own self.old.keeper) (K.own self.new.keeper) }
         ensures cause { CoreCause (K.faults self.old.keeper) (K.faults self.new.keeper) result }
     {
         kept_is_durable();
@@ -54,6 +56,7 @@ impl<K: Keeper> Replica<K> {
             Call (Is (read_refusal s)) (Reads (λ kept found. found ≡ has_value (processed kept) key.now) s) (λ left. left ≡ s) (Rose (K.own self.old.keeper) (K.own self.new.keeper)) result s new) }
         ensures counted { StaysCounted self.new.stopped (K.told self.old.keeper) self.old.numbers (K.told self.new.keeper) self.new.numbers }
         ensures own { K.own self.old.keeper ≤ K.own self.new.keeper }
+        ensures quiet { StaysQuiet (K.quiet self.old.keeper) (K.quiet self.new.keeper) (K.own self.old.keeper) (K.own self.new.keeper) }
         ensures cause { CoreCause (K.faults self.old.keeper) (K.faults self.new.keeper) result }
     {
         kept_is_durable();
@@ -83,6 +86,7 @@ impl<K: Keeper> Replica<K> {
             Call (Is (read_refusal s)) (Reads (λ kept pairs. map pair_of pairs ≡ answers.query (processed kept) (is_under prefix.now) skip count) s) (λ left. left ≡ s) (Rose (K.own self.old.keeper) (K.own self.new.keeper)) result s new) }
         ensures counted { StaysCounted self.new.stopped (K.told self.old.keeper) self.old.numbers (K.told self.new.keeper) self.new.numbers }
         ensures own { K.own self.old.keeper ≤ K.own self.new.keeper }
+        ensures quiet { StaysQuiet (K.quiet self.old.keeper) (K.quiet self.new.keeper) (K.own self.old.keeper) (K.own self.new.keeper) }
         ensures cause { CoreCause (K.faults self.old.keeper) (K.faults self.new.keeper) result }
     {
         kept_is_durable();
@@ -105,6 +109,7 @@ impl<K: Keeper> Replica<K> {
             Call (Is (read_refusal s)) (Reads (λ kept rows. heads_in_rows rows ≡ heads (processed kept)) s) (λ left. left ≡ s) (Rose (K.own self.old.keeper) (K.own self.new.keeper)) result s new) }
         ensures counted { StaysCounted self.new.stopped (K.told self.old.keeper) self.old.numbers (K.told self.new.keeper) self.new.numbers }
         ensures own { K.own self.old.keeper ≤ K.own self.new.keeper }
+        ensures quiet { StaysQuiet (K.quiet self.old.keeper) (K.quiet self.new.keeper) (K.own self.old.keeper) (K.own self.new.keeper) }
         ensures cause { CoreCause (K.faults self.old.keeper) (K.faults self.new.keeper) result }
     {
         kept_is_durable();
@@ -128,6 +133,7 @@ impl<K: Keeper> Replica<K> {
             Call (Is (read_refusal s)) (Reads (λ kept place. place ≡ position (same_cid cid.now) kept.order) s) (λ left. left ≡ s) (Rose (K.own self.old.keeper) (K.own self.new.keeper)) result s new) }
         ensures counted { StaysCounted self.new.stopped (K.told self.old.keeper) self.old.numbers (K.told self.new.keeper) self.new.numbers }
         ensures own { K.own self.old.keeper ≤ K.own self.new.keeper }
+        ensures quiet { StaysQuiet (K.quiet self.old.keeper) (K.quiet self.new.keeper) (K.own self.old.keeper) (K.own self.new.keeper) }
         ensures cause { CoreCause (K.faults self.old.keeper) (K.faults self.new.keeper) result }
     {
         kept_is_durable();
@@ -150,6 +156,7 @@ impl<K: Keeper> Replica<K> {
             Call (Is (read_refusal s)) (Reads (λ kept cid. cid ≡ slice_get kept.order position) s) (λ left. left ≡ s) (Rose (K.own self.old.keeper) (K.own self.new.keeper)) result s new) }
         ensures counted { StaysCounted self.new.stopped (K.told self.old.keeper) self.old.numbers (K.told self.new.keeper) self.new.numbers }
         ensures own { K.own self.old.keeper ≤ K.own self.new.keeper }
+        ensures quiet { StaysQuiet (K.quiet self.old.keeper) (K.quiet self.new.keeper) (K.own self.old.keeper) (K.own self.new.keeper) }
         ensures cause { CoreCause (K.faults self.old.keeper) (K.faults self.new.keeper) result }
     {
         kept_is_durable();

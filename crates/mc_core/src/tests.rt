@@ -270,7 +270,9 @@ fn has_rows<K: Keeper>(
             && none.len() == 0
             && keeper.hidden("/k", id_of(alloc, hidden)?.as_str())?
             && !keeper.hidden("/k", id_of(alloc, kept)?.as_str())?
-            && !keeper.hidden("/", id_of(alloc, hidden)?.as_str())?,
+            && !keeper.hidden("/", id_of(alloc, hidden)?.as_str())?
+            && keeper.holder(alloc, "/k")? == Some(*kept)
+            && keeper.holder(alloc, "/")?.is_none(),
     )
 }
 

@@ -2,6 +2,7 @@
 ghost use Rattle.std.specs.Prelude.{◌≡◌, ◌≤◌, false, IfOk, IfErr, IfSome};
 ghost use Rattle.mc_base.specs.Causes.{Rose};
 ghost use Rattle.mc_base.specs.Told.{Told};
+ghost use Rattle.mc_keep.specs.Causes.{StaysQuiet};
 ghost use Rattle.mc_core.specs.declared.error.CoreError.{CoreError as Refused};
 ghost use Rattle.mc_core.specs.Calls.{Call};
 ghost use Rattle.mc_core.specs.Events.{Part};
@@ -29,6 +30,7 @@ impl<K: Keeper> Replica<K> {
             Call (Is (put_refusal s key.now value.now)) (PutPlan s key.now value.now) (λ left. left ≡ s) (Rose (K.own self.old.keeper) (K.own self.new.keeper)) result s new) }
         ensures counted { StaysCounted self.new.stopped (K.told self.old.keeper) self.old.numbers (K.told self.new.keeper) self.new.numbers }
         ensures own { K.own self.old.keeper ≤ K.own self.new.keeper }
+        ensures quiet { StaysQuiet (K.quiet self.old.keeper) (K.quiet self.new.keeper) (K.own self.old.keeper) (K.own self.new.keeper) }
         ensures cause { CoreCause (K.faults self.old.keeper) (K.faults self.new.keeper) result }
     {
         kept_is_durable();
@@ -59,6 +61,7 @@ impl<K: Keeper> Replica<K> {
         ensures batch { self.new.batch ≡ self.old.batch }
         ensures counted { StaysCounted self.new.stopped (K.told self.old.keeper) self.old.numbers (K.told self.new.keeper) self.new.numbers }
         ensures own { K.own self.old.keeper ≤ K.own self.new.keeper }
+        ensures quiet { StaysQuiet (K.quiet self.old.keeper) (K.quiet self.new.keeper) (K.own self.old.keeper) (K.own self.new.keeper) }
         ensures cause { CoreCause (K.faults self.old.keeper) (K.faults self.new.keeper) result }
     {
         let Planned { plan, written } = planned;

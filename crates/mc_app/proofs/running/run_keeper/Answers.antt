@@ -1,6 +1,6 @@
-use Rattle.std.proofs.Common.{arith}
-use Rattle.mc_app.proofs.RunFacts.{not_begun}
+use Rattle.std.proofs.Common.{arith, refl}
+use Rattle.mc_app.proofs.RunFacts.{not_begun, outcome_opened, still_calm}
 use Rattle.mc_app.proofs.running.run_keeper.Goals as goal
 
 pub returns-in-Err-clause-outcome : goal.returns-in-Err-clause-outcome
-returns-in-Err-clause-outcome g c = not_begun _ _ _ c.in-Err.ensures.refused _ _ _ _ (omega arith)
+returns-in-Err-clause-outcome g c = not_begun _ _ _ c.in-Err.ensures.refused _ _ _ _ (omega arith, λ calm. refl)

@@ -28,6 +28,7 @@ loop-made-preserved g c = record {
   up = c.in-Ok.ensures.up;
   counted = λ n. c.in-Ok.ensures.counted c.in-Ok.ensures.up (c.loop-made.invariant.counted n);
   own = omega (arith, c.loop-made.invariant.own, c.in-Ok.ensures.own);
+  quiet = λ q. let before = c.loop-made.invariant.quiet q in let now = c.in-Ok.ensures.quiet before.0 in (now.0, now.1 ∙ before.1);
   cause = omega (arith, c.loop-made.invariant.cause, c.in-Ok.ensures.cause.later);
 }
 
