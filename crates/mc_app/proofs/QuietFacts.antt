@@ -1,9 +1,8 @@
 -- Where no keeper fails by itself and none has a fuse, no reply is a fault.
-use Rattle.std.proofs.Common.{◌≡◌, ⊤, ℕ, zero, suc, ◌+◌, Bool, true, false, true≢false, ◌&&◌, List, [], ◌∷◌, ◌++◌, Option, Some, None, refl, sym, ◌∙◌, ap, subst, inl, inr, slice_set, arith, cond}
-use Rattle.std.specs.Prelude.{slice_get, fold, is_some, ◌⊎◌}
+use Rattle.std.proofs.Common.{◌≡◌, ℕ, zero, suc, Bool, true, false, true≢false, List, [], ◌∷◌, Option, Some, None, refl, sym, ◌∙◌, ap, subst, inl, inr, slice_set, arith, cond}
+use Rattle.std.specs.Prelude.{⊤, slice_get, is_some}
 use Rattle.std.proofs.lemmas.Bool.{and_parts}
-use Rattle.mc_base.specs.Told.{Told}
-use Rattle.mc_model.specs.Events.{Event}
+use Rattle.mc_model.specs.Events.{Event, happens}
 use Rattle.mc_model.specs.Kept.{Kept}
 use Rattle.mc_keep.specs.Causes.{burnt, fires, CommitFails}
 use Rattle.mc_keep.specs.declared.fuse.Fuse.{Fuse}
@@ -16,7 +15,7 @@ use Rattle.mc_script.specs.declared.command.Command.{Command}
 use Rattle.mc_script.specs.declared.command.Command.TheVariants.{Put, Del, Begin, BatchPut, BatchDel, Commit, Get, Has as HasKey, Query, Heads as HeadsOf}
 use Rattle.mc_script.specs.declared.reply.Reply.{Reply}
 use Rattle.mc_app.specs.Runs.{Answer, LineStep, Runs, is_fault, names_none, owns_none, own_free, fault_of, faults_in}
-use Rattle.mc_app.specs.Step.{IsReply, Plan, Refuses, ReplicaStep, Step, is_named, place_of}
+use Rattle.mc_app.specs.Step.{IsReply, Plan, Refuses, ReplicaStep, is_named, place_of}
 use Rattle.mc_app.specs.Worlds.{both_told, first_state}
 
 -- a keeper without a fuse does not get one
@@ -34,7 +33,7 @@ cut_by_itself : (rest : List Event) (own : Type 0) (s new : ReplicaState) → s.
 cut_by_itself [] own s new none cut = cut.0
 cut_by_itself (event ∷ rest) own s new none (inl cut) = cut.0
 cut_by_itself (event ∷ rest) own s new none (inr breaks) =
-    (subst (λ (f : Option Bool). CommitFails f own _ _ breaks.left) (ap fires none) breaks.fails).0
+    (subst (λ (f : Option Bool). CommitFails f own s.state.durable (happens s.state event).durable breaks.left) (ap fires none) breaks.fails).0
 
 broken_by_itself : (events : List Event) (own : Type 0) (s new : ReplicaState) → s.fuse ≡ None → Breaks events own s new → own
 broken_by_itself events own s new none breaks = cut_by_itself breaks.rest own (all_happen s breaks.so_far) new (no_fuse_after s breaks.so_far none) breaks.fate
@@ -108,12 +107,12 @@ first_none [] w e = subst HaveNoFuse (is_some_same e) (λ r. tt)
   where
     is_some_same : {A : Type 0} {x y : A} → Some x ≡ Some y → x ≡ y
     is_some_same e = cc
-first_none (start ∷ starts) w e = over (opened_state start None) (first_state starts) refl refl e
+first_none (start ∷ starts) w e = over (λ more g. first_none starts more g) (opened_state start None) (first_state starts) refl refl e
   where
-    over : (first : Option ReplicaState) (rest : Option (List ReplicaState)) → opened_state start None ≡ first → first_state starts ≡ rest → both_told first rest ≡ Some w → HaveNoFuse w
-    over None rest f g h = absurd (true≢false (sym (ap is_some h)))
-    over (Some s) None f g h = absurd (true≢false (sym (ap is_some h)))
-    over (Some s) (Some more) f g h = subst HaveNoFuse (same h) (λ r. at r)
+    over : ((more : List ReplicaState) → first_state starts ≡ Some more → HaveNoFuse more) → (first : Option ReplicaState) (rest : Option (List ReplicaState)) → opened_state start None ≡ first → first_state starts ≡ rest → both_told first rest ≡ Some w → HaveNoFuse w
+    over below None rest f g h = absurd (true≢false (sym (ap is_some h)))
+    over below (Some s) None f g h = absurd (true≢false (sym (ap is_some h)))
+    over below (Some s) (Some more) f g h = subst HaveNoFuse (same h) (λ r. at r)
       where
         same : {A : Type 0} {x y : A} → Some x ≡ Some y → x ≡ y
         same e = cc
@@ -124,7 +123,7 @@ first_none (start ∷ starts) w e = over (opened_state start None) (first_state 
 
         at : (r : ℕ) → HasNoFuse (slice_get (s ∷ more) r)
         at zero = fuse_of start f
-        at (suc r) = first_none starts more g r
+        at (suc r) = below more g r
 
 -- what a line of such a world comes to
 record Goes (mid : Option (List ReplicaState)) (answer : Option Answer) : Type 0 where
