@@ -15,6 +15,7 @@ use Rattle.mc_keep_mem.specs.declared.tables.Tables.{Tables}
 use Rattle.mc_keep_mem.specs.Chains.{rows_in}
 use Rattle.mc_keep_mem.specs.Fits.{kept_in, Fits}
 use Rattle.mc_keep_mem.specs.Graph.{stored_of}
+use Rattle.mc_keep_mem.specs.Holder.{is_backed}
 use Rattle.mc_keep_mem.specs.Tombs.{same_pair, number_of}
 use Rattle.mc_keep_mem.specs.Values.{row_in, ranked_held}
 
@@ -41,6 +42,7 @@ module _ {S X : Type 0} {g : build.Ghosts S X} {h : hash.Ghosts X} (tables : Tab
         ap (list_any (same_pair (number_of tables.tombs.keys.keys key, number_of tables.tombs.ids.keys id))) pairs ∙ ap (λ z. has_tomb z key id) (sym none);
     values = λ key. no_row key ∙ ap (λ z. value_row z key) (sym none);
     covered = record { each = λ key some. absurd (let f : false ≡ true = sym (ap is_some (no_row key)) ∙ some in cc) };
+    backed = record { each = λ key. ap (λ z. is_backed (rows_in tables.elements.nodes.items tables.elements.lasts key) (lookup (λ k. bytes_eq key (string_bytes k)) z)) rows };
     links = λ cid. ap (λ z. is_among z cid) links ∙ ap (λ z. is_linked z cid) (sym none);
     gaps = λ cid. ap (λ z. is_among z cid) gaps ∙ ap (λ z. is_gap z cid) (sym none);
     heads = λ cid. ap (lookup (same_cid cid)) heads ∙ ap (λ z. head_at z cid) (sym none);

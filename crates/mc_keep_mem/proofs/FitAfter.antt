@@ -102,6 +102,7 @@ module _ {S X : Type 0} {g : build.Ghosts S X} {h : hash.Ghosts X} (old new : Ta
         ∙ sym (meet.rows.tombs key id) ∙ ap (λ z. has_tomb z key id) (sym blocks_after);
     values = λ key. applied.values key ∙ ap (λ z. values_after key z changes.values) (fits.values key) ∙ sym (meet.rows.values key) ∙ ap (λ z. value_row z key) (sym blocks_after);
     covered = applied.covered;
+    backed = applied.backed;
     links = links_after;
     gaps = gaps_after;
     heads = λ cid. applied.heads cid ∙ ap (λ z. head_after cid z changes.heads_out changes.heads_in) (fits.heads cid) ∙ sym (meet.front.heads cid) ∙ ap (λ z. head_at z cid) (sym blocks_after);

@@ -1,6 +1,9 @@
 -- The block of a key's value: found among the rows of the key, it holds the value.
 use Rattle.std.proofs.Common.{◌≡◌, ℕ, Bool, true, false, not, cond, List, [], ◌∷◌, ◌&&◌, ◌||◌, Option, Some, None, sym, refl, ap, ◌∙◌}
-use Rattle.std.specs.Prelude.{find}
+use Rattle.std.specs.Prelude.{find, fold}
+use Rattle.std.specs.HashMap.{HashMap, get_by_text}
+use Rattle.std.specs.Str.{bytes_eq}
+use Rattle.std.specs.declared.string.String.{String}
 use Rattle.std.specs.List.{list_any}
 use Rattle.std.specs.Option.{option_map}
 use Rattle.std.proofs.lemmas.Bool.{and_parts}
@@ -17,7 +20,11 @@ use Rattle.mc_keep.specs.declared.rows.ElementRow.{ElementRow}
 use Rattle.mc_keep.specs.Live.{ranked_of, is_row_of, HoldsValue, IsHolder}
 use Rattle.mc_keep.specs.Tables.{element_rows_of}
 use Rattle.mc_keep.proofs.Lives.{live_rows-element_rows_of, live_rows_any}
-use Rattle.mc_keep_mem.specs.Holder.{is_held, holder_among}
+use Rattle.mc_keep_mem.specs.declared.elements.Node.{Node}
+use Rattle.mc_keep_mem.specs.declared.values.Held.{Held}
+use Rattle.mc_keep_mem.specs.Chains.{rows_in, with_element}
+use Rattle.mc_keep_mem.specs.Holder.{AreBacked, is_backed, is_held, block_among, holder_among, stands_for}
+use Rattle.mc_keep_mem.proofs.Fit.{elements_put}
 
 any_alike : {A : Type 0} (p q : A → Bool) → ((x : A) → p x ≡ q x) → (xs : List A) → list_any p xs ≡ list_any q xs
 any_alike p q same [] = refl
@@ -106,3 +113,50 @@ module _ (blocks : List Block) (key : List ℕ) (rows : List ElementRow) (hidden
       by : (found : Option ElementRow) → find (is_held hidden ranked) rows ≡ found → IsHolder blocks key (option_map (λ (row : ElementRow). row.cid) found)
       by None e = absurd (none e)
       by (Some row) e = held row e
+
+-- the block of the first row with a value has it
+pub found_backs : (rows : List ElementRow) (ranked : Ranked) → stands_for rows ranked (block_among ranked rows) ≡ true
+found_backs rows ranked = by (find (λ (row : ElementRow). same_ranked ranked (ranked_of row)) rows) refl
+  where
+    by : (found : Option ElementRow) → find (λ (row : ElementRow). same_ranked ranked (ranked_of row)) rows ≡ found → stands_for rows ranked (option_map (λ (row : ElementRow). row.cid) found) ≡ true
+    by None e = refl
+    by (Some row) e =
+        let found = found_row (λ (row : ElementRow). same_ranked ranked (ranked_of row)) rows row e in
+        found.there (is_row_of row.cid ranked) (ap (λ b. b && same_ranked ranked (ranked_of row)) (same_cid_itself row.cid) ∙ found.passes)
+
+-- more rows take nothing away
+backed_more : (test : ElementRow → Bool) (key : List ℕ) (rows new : List ElementRow) → list_any test rows ≡ true → list_any test (fold (with_element key) rows new) ≡ true
+backed_more test key rows new e = elements_put test key rows new ∙ ap (λ b. b || list_any (λ (row : ElementRow). bytes_eq row.key key && test row) new) e
+
+is_backed_more : (key : List ℕ) (rows new : List ElementRow) (held : Option Held) → is_backed rows held ≡ true → is_backed (fold (with_element key) rows new) held ≡ true
+is_backed_more key rows new None e = refl
+is_backed_more key rows new (Some held) e = by held.holder e
+  where
+    by : (holder : Option Cid) → stands_for rows (held.priority, held.value) holder ≡ true → stands_for (fold (with_element key) rows new) (held.priority, held.value) holder ≡ true
+    by None e = refl
+    by (Some cid) e = backed_more (is_row_of cid (held.priority, held.value)) key rows new e
+
+pub backed_put : {Y Z S T : Type 0} (nodes new_nodes : List Node) (lasts new_lasts : HashMap (String Y) ℕ S) (rows : HashMap (String Z) Held T) (new : List ElementRow)
+    → ((key : List ℕ) → rows_in new_nodes new_lasts key ≡ fold (with_element key) (rows_in nodes lasts key) new) → AreBacked nodes lasts rows → AreBacked new_nodes new_lasts rows
+backed_put nodes new_nodes lasts new_lasts rows new put backed = record {
+  each = λ key. ap (λ r. is_backed r (get_by_text rows key)) (put key) ∙ is_backed_more key (rows_in nodes lasts key) new (get_by_text rows key) (backed.each key);
+}
+
+-- a key's value is set, or goes
+pub backed_set : {Y Z S T : Type 0} (nodes : List Node) (lasts : HashMap (String Y) ℕ S) (old new : HashMap (String Z) Held T) (key : List ℕ) (held : Option Held)
+    → ((other : List ℕ) → get_by_text new other ≡ cond (bytes_eq key other) held (get_by_text old other)) → is_backed (rows_in nodes lasts key) held ≡ true → AreBacked nodes lasts old → AreBacked nodes lasts new
+backed_set nodes lasts old new key held set own backed = record { each = λ other. ap (is_backed (rows_in nodes lasts other)) (set other) ∙ by other (bytes_eq key other) refl }
+  where
+    by : (other : List ℕ) (b : Bool) → bytes_eq key other ≡ b → is_backed (rows_in nodes lasts other) (cond b held (get_by_text old other)) ≡ true
+    by other true e = ap (λ (z : List ℕ). is_backed (rows_in nodes lasts z) held) (sym ((bytes_eq-Decides key other).0 e)) ∙ own
+    by other false e = backed.each other
+
+-- the same rows and values
+pub backed_same : {Y Z S T : Type 0} (nodes new_nodes : List Node) (lasts new_lasts : HashMap (String Y) ℕ S) (old new : HashMap (String Z) Held T)
+    → ((key : List ℕ) → rows_in new_nodes new_lasts key ≡ rows_in nodes lasts key) → ((key : List ℕ) → get_by_text new key ≡ get_by_text old key) → AreBacked nodes lasts old → AreBacked new_nodes new_lasts new
+backed_same nodes new_nodes lasts new_lasts old new same values backed = record { each = λ key. ap (λ r. is_backed r (get_by_text new key)) (same key) ∙ ap (is_backed (rows_in nodes lasts key)) (values key) ∙ backed.each key }
+
+-- the block that is named beside a value holds it, where it is not hidden
+pub named_holds : (blocks : List Block) (key : List ℕ) (rows : List ElementRow) (ranked : Ranked) (cid : Cid) → SameMembers rows (element_rows_of blocks key) → value_row blocks key ≡ Some ranked
+    → stands_for rows ranked (Some cid) ≡ true → has_tomb blocks key (id_text cid.0) ≡ false → HoldsValue blocks key cid
+named_holds blocks key rows ranked cid same is_value there lives = record { ranked = ranked; is_value = is_value; there = sym (same.same (is_row_of cid ranked)) ∙ there; lives = lives }

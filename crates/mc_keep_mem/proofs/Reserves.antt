@@ -27,6 +27,7 @@ module _ {S X : Type 0} {g : build.Ghosts S X} {h : hash.Ghosts X} (old new : Ta
     tombs = λ key id. reserved.tombs key id ∙ fits.tombs key id ∙ ap (λ (z : Kept). has_tomb (processed z) key id) (sym told_same);
     values = λ key. reserved.values key ∙ fits.values key ∙ ap (λ (z : Kept). value_row (processed z) key) (sym told_same);
     covered = reserved.covered;
+    backed = reserved.backed;
     links = λ cid. ap (λ (z : List Cid). is_among z cid) reserved.links ∙ fits.links cid ∙ ap (λ (z : Kept). is_linked (processed z) cid) (sym told_same);
     gaps = λ cid. ap (λ (z : List Cid). is_among z cid) reserved.gaps ∙ fits.gaps cid ∙ ap (λ (z : Kept). is_gap (processed z) cid) (sym told_same);
     heads = λ cid. ap (λ (z : List (Cid × ℕ)). lookup (same_cid cid) z) reserved.heads ∙ fits.heads cid ∙ ap (λ (z : Kept). head_at (processed z) cid) (sym told_same);

@@ -80,6 +80,11 @@ rows_after bs key old new w e updates other =
     ap ranked_held (updates other) ∙ through (bytes_eq bs other) w (get_by_text old other)
     ∙ ap (λ z. cond (bytes_eq z other) (ranked_held w) (row_in old other)) e
 
+pub held_after : {Y S : Type 0} (bs key : List ℕ) (old new : HashMap (String Y) Held S) (w : Option Held) → bs ≡ key
+    → ((cs : List ℕ) → get_by_text new cs ≡ cond (bytes_eq bs cs) w (get_by_text old cs))
+    → (other : List ℕ) → get_by_text new other ≡ cond (bytes_eq key other) w (get_by_text old other)
+held_after bs key old new w e updates other = updates other ∙ ap (λ z. cond (bytes_eq z other) w (get_by_text old other)) e
+
 -- a key that is put into order needs to wait no more
 pub covered_moved : {Y S : Type 0} (rows : HashMap (String Y) Held S) (ordered new : BTreeSet (String Y)) (pending all : List (String Y)) (key : String Y)
     → all ≡ pending ++ key ∷ []

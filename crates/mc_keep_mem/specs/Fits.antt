@@ -19,6 +19,7 @@ use Rattle.mc_keep_mem.specs.declared.tables.Tables.{Tables}
 use Rattle.mc_keep_mem.specs.Chains.{rows_in, with_element}
 use Rattle.mc_keep_mem.specs.Front.{are_fresh, closed_by, opened_by}
 use Rattle.mc_keep_mem.specs.Graph.{graph_of}
+use Rattle.mc_keep_mem.specs.Holder.{AreBacked}
 use Rattle.mc_keep_mem.specs.Tombs.{has_tomb_in, with_tomb}
 use Rattle.mc_keep_mem.specs.Values.{row_in, IsCovered}
 
@@ -36,6 +37,7 @@ pub record Fits {S X : Type 0} {g : build.Ghosts S X} {h : hash.Ghosts X} (table
   pub tombs : (key id : List ℕ) → tomb_in tables key id ≡ has_tomb (processed (kept_in tables)) key id
   pub values : (key : List ℕ) → row_in tables.values.rows key ≡ value_row (processed (kept_in tables)) key
   pub covered : IsCovered tables.values.rows tables.values.ordered tables.values.pending.items
+  pub backed : AreBacked tables.elements.nodes.items tables.elements.lasts tables.values.rows
   pub links : (cid : Cid) → is_among tables.links.keys cid ≡ is_linked (processed (kept_in tables)) cid
   pub gaps : (cid : Cid) → is_among tables.gaps.keys cid ≡ is_gap (processed (kept_in tables)) cid
   pub heads : (cid : Cid) → get same_cid tables.heads cid ≡ head_at (processed (kept_in tables)) cid
@@ -62,6 +64,7 @@ pub record ChangesMeet {S X : Type 0} {g : build.Ghosts S X} {h : hash.Ghosts X}
   pub fresh : are_fresh tables.order.keys changes.marks ≡ true
   pub named : list_all is_named changes.values ≡ true
   pub covered : IsCovered tables.values.rows tables.values.ordered tables.values.pending.items
+  pub backed : AreBacked tables.elements.nodes.items tables.elements.lasts tables.values.rows
 
 pub record Applied {S X : Type 0} {g : build.Ghosts S X} {h : hash.Ghosts X} (old new : Tables S X g h) (changes : Changes) : Type 0 where
   pub graph : graph_of new.blocks ≡ graph_of old.blocks ++ changes.store
@@ -74,6 +77,7 @@ pub record Applied {S X : Type 0} {g : build.Ghosts S X} {h : hash.Ghosts X} (ol
   pub tombs : (key id : List ℕ) → tomb_in new key id ≡ fold (with_tomb key id) (tomb_in old key id) changes.tombs
   pub values : (key : List ℕ) → row_in new.values.rows key ≡ values_after key (row_in old.values.rows key) changes.values
   pub covered : IsCovered new.values.rows new.values.ordered new.values.pending.items
+  pub backed : AreBacked new.elements.nodes.items new.elements.lasts new.values.rows
 
 -- the rows are the same, and there is no less room
 pub record Reserved {S X : Type 0} {g : build.Ghosts S X} {h : hash.Ghosts X} (old new : Tables S X g h) : Type 0 where
@@ -87,6 +91,7 @@ pub record Reserved {S X : Type 0} {g : build.Ghosts S X} {h : hash.Ghosts X} (o
   pub tombs : (key id : List ℕ) → tomb_in new key id ≡ tomb_in old key id
   pub values : (key : List ℕ) → row_in new.values.rows key ≡ row_in old.values.rows key
   pub covered : IsCovered new.values.rows new.values.ordered new.values.pending.items
+  pub backed : AreBacked new.elements.nodes.items new.elements.lasts new.values.rows
   pub blocks_room : map_spare old.blocks ≤ map_spare new.blocks
   pub order_room : set_spare old.order ≤ set_spare new.order
   pub links_room : set_spare old.links ≤ set_spare new.links

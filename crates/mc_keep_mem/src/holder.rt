@@ -1,7 +1,8 @@
-// The block of a key's value is looked for along the key's rows, from the one that came last.
+// The block of a value is looked for along the rows of its key, from the one that came last.
 ghost use Rattle.std.specs.Prelude.{◌≡◌, IfOk};
+ghost use Rattle.mc_model.specs.Rank.{same_ranked};
 ghost use Rattle.mc_keep_mem.specs.Chains.{rows_in, row_of_node};
-ghost use Rattle.mc_keep_mem.specs.Holder.{is_held, holder_among};
+ghost use Rattle.mc_keep_mem.specs.Holder.{block_among, is_held, holder_among};
 ghost use Rattle.mc_keep_mem.specs.Tombs.{has_tomb_in};
 
 use crate::elements::{Elements, Node};
@@ -35,6 +36,28 @@ pub(crate) fn holder_of<S: BuildHasher + Drop>(
     Ok(None)
 }
 
+/// The block of the last row of the key that has this value with this priority, or none where no row has. It takes no memory.
+pub(crate) fn block_with<S: BuildHasher + Drop>(
+    elements: &Elements<S>,
+    key: &str,
+    priority: u64,
+    value: &[u8],
+) -> Option<Cid>
+    ensures { result ≡ block_among (priority, value.now) (rows_in elements.now.nodes.items elements.now.lasts key.now) }
+{
+    let mut at = elements.lasts.get(key).copied();
+    while let Some(place) = at {
+        let Some(node) = elements.nodes.get(place) else {
+            return None;
+        };
+        if has_value(node, priority, value) {
+            return Some(node.cid);
+        }
+        at = node.before;
+    }
+    None
+}
+
 // Whether a row of the key has this value with its priority and is not hidden.
 fn holds<S: BuildHasher + Drop>(
     alloc: Global,
@@ -45,9 +68,15 @@ fn holds<S: BuildHasher + Drop>(
 ) -> Result<bool, AllocError>
     ensures { IfOk result (λ found. found ≡ is_held (has_tomb_in tombs.now.keys.keys tombs.now.ids.keys tombs.now.pairs.keys key.now) (held.now.priority, held.now.value) (row_of_node key.now node.now)) }
 {
-    if held.priority != node.priority || held.value.as_slice() != node.value.as_slice() {
+    if !has_value(node, held.priority, held.value.as_slice()) {
         return Ok(false);
     }
     let id = id_of(alloc, &node.cid)?;
     Ok(!has_tomb(tombs, key, id.as_str()))
+}
+
+fn has_value(node: &Node, priority: u64, value: &[u8]) -> bool
+    ensures { result ≡ same_ranked (priority, value.now) (node.now.priority, node.now.value) }
+{
+    priority == node.priority && value == node.value.as_slice()
 }

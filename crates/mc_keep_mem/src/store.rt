@@ -24,6 +24,7 @@ use crate::values::{Values, has_value, value_of};
 use indexmap::{IndexMap, IndexSet};
 use mc_base::{Bytes, Cid, List};
 use mc_keep::{Changes, ElementRow, HeadRow, Summary, ValueRow};
+use mc_model::id_of;
 use std::alloc::{AllocError, Global};
 use std::collections::{BTreeSet, HashMap, HashSet};
 use std::hash::BuildHasher;
@@ -153,10 +154,16 @@ impl<S: BuildHasher + Drop> Store<S> {
     pub(crate) fn holder(&self, alloc: Global, key: &str) -> Result<Option<Cid>, AllocError>
         ensures { IfOk result (λ cid. IsHolder (processed (kept_in self.now.tables)) key.now cid) }
     {
-        match self.tables.values.rows.get(key) {
-            Some(held) => holder_of(alloc, &self.tables.elements, &self.tables.tombs, key, held),
-            None => Ok(None),
+        let Some(held) = self.tables.values.rows.get(key) else {
+            return Ok(None);
+        };
+        if let Some(cid) = held.holder {
+            let id = id_of(alloc, &cid)?;
+            if !self.hidden(key, id.as_str()) {
+                return Ok(Some(cid));
+            }
         }
+        holder_of(alloc, &self.tables.elements, &self.tables.tombs, key, held)
     }
 
     pub(crate) fn has(&self, key: &str) -> bool

@@ -1,6 +1,7 @@
 // All tables of a keeper, and a commit on them that takes no memory.
 ghost use Rattle.std.specs.Prelude.{◌≡◌, ◌≤◌, ◌+◌, ◌-◌, IfSome, OnOk};
 ghost use Rattle.mc_keep.specs.Changes.{row_count};
+ghost use Rattle.mc_keep_mem.specs.Holder.{AreBacked};
 ghost use Rattle.mc_keep_mem.specs.Values.{IsCovered};
 ghost use Rattle.mc_keep_mem.specs.Fits.{RoomFor, Applied, ChangesMeet, Reserved};
 
@@ -80,7 +81,7 @@ fn apply<S: BuildHasher + Drop>(tables: &mut Tables<S>, changes: Changes, room: 
     put_heads(&mut tables.heads, heads_in.as_slice());
     put_elements(&mut tables.elements, elements.into_vec());
     put_tombs(&mut tables.tombs, tombs.into_vec());
-    put_values(&mut tables.values, values.into_vec());
+    put_values(&mut tables.values, &tables.elements, values.into_vec());
     if let Some(mark) = mark {
         tables.mark = mark;
     }
@@ -91,7 +92,8 @@ pub(crate) fn reserve_tables<S: BuildHasher + Drop>(
     tables: &mut Tables<S>,
     rows: usize,
 ) -> Result<(), AllocError>
-    requires { IsCovered tables.old.values.rows tables.old.values.ordered tables.old.values.pending.items }
+    requires covered { IsCovered tables.old.values.rows tables.old.values.ordered tables.old.values.pending.items }
+    requires backed { AreBacked tables.old.elements.nodes.items tables.old.elements.lasts tables.old.values.rows }
     ensures ok { OnOk result (RoomFor tables.new rows) }
     ensures reserved { Reserved tables.old tables.new }
 {

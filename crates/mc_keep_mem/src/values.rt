@@ -3,23 +3,27 @@
 ghost use Rattle.std.specs.Prelude.{◌≡◌, ℕ, ◌<◌, ◌≤◌, ◌+◌, ◌++◌, ◌∷◌, [], true, List, length, vec_len, vec_capacity, IfOk, OnOk, IfSome, IfNone, is_some, fold, cond, not, Some, None};
 ghost use Rattle.std.specs.Str.{bytes_eq};
 ghost use Rattle.std.specs.List.{list_all};
-ghost use Rattle.std.specs.HashMap.{spare};
+ghost use Rattle.std.specs.HashMap.{spare, get_by_text};
 ghost use Rattle.std.specs.String.{string_bytes};
 ghost use Rattle.mc_keep.specs.Changes.{value_after, values_after};
 ghost use Rattle.mc_keep.specs.Tables.{is_named};
+ghost use Rattle.mc_keep_mem.specs.Holder.{AreBacked};
 ghost use Rattle.mc_keep_mem.specs.Values.{row_in, IsCovered};
 
-use mc_base::{Bytes, Text};
+use crate::elements::Elements;
+use crate::holder::block_with;
+use mc_base::{Bytes, Cid, Text};
 use mc_keep::{ValueChange, ValueRow};
 use std::alloc::{AllocError, Global};
 use std::collections::{BTreeSet, HashMap};
 use std::hash::BuildHasher;
 
-/// A value with its priority. Its key is that of the table.
+/// A value with its priority, and a block with this element. Its key is that of the table.
 #[derive(Debug, Drop)]
 pub(crate) struct Held {
     pub(crate) priority: u64,
     pub(crate) value: Bytes,
+    pub(crate) holder: Option<Cid>,
 }
 
 /// The value rows, and their keys in order.
@@ -31,12 +35,18 @@ pub(crate) struct Values<S: BuildHasher + Drop> {
 }
 
 // Makes a change. It takes no memory.
-pub(crate) fn put_value<S: BuildHasher + Drop>(values: &mut Values<S>, change: ValueChange)
+pub(crate) fn put_value<S: BuildHasher + Drop>(
+    values: &mut Values<S>,
+    elements: &Elements<S>,
+    change: ValueChange,
+)
     requires rows_room { 0 < spare values.old.rows }
     requires pending_room { vec_len values.old.pending < vec_capacity values.old.pending }
     requires named { is_named change ≡ true }
     requires covered { IsCovered values.old.rows values.old.ordered values.old.pending.items }
+    requires backed { AreBacked elements.now.nodes.items elements.now.lasts values.old.rows }
     ensures rows { (key : List ℕ) → row_in values.new.rows key ≡ value_after key (row_in values.old.rows key) change }
+    ensures backed { AreBacked elements.now.nodes.items elements.now.lasts values.new.rows }
     ensures covered { IsCovered values.new.rows values.new.ordered values.new.pending.items }
     ensures rows_spare { spare values.old.rows ≤ spare values.new.rows + 1 }
     ensures pending_spare { vec_len values.new.pending ≤ vec_len values.old.pending + 1 }
@@ -44,17 +54,24 @@ pub(crate) fn put_value<S: BuildHasher + Drop>(values: &mut Values<S>, change: V
 {
     let ValueChange { key, row } = change;
     match row {
-        Some(row) => set_row(values, key, row),
+        Some(row) => set_row(values, elements, key, row),
         None => remove_row(&mut values.rows, key.as_str()),
     }
 }
 
 // Gives a key a value.
-fn set_row<S: BuildHasher + Drop>(values: &mut Values<S>, key: Text, row: ValueRow)
+fn set_row<S: BuildHasher + Drop>(
+    values: &mut Values<S>,
+    elements: &Elements<S>,
+    key: Text,
+    row: ValueRow,
+)
     requires rows_room { 0 < spare values.old.rows }
     requires pending_room { vec_len values.old.pending < vec_capacity values.old.pending }
     requires named { bytes_eq row.key key ≡ true }
     requires covered { IsCovered values.old.rows values.old.ordered values.old.pending.items }
+    requires backed { AreBacked elements.now.nodes.items elements.now.lasts values.old.rows }
+    ensures backed { AreBacked elements.now.nodes.items elements.now.lasts values.new.rows }
     ensures rows { (other : List ℕ) → row_in values.new.rows other ≡ cond (bytes_eq key other) (Some (row.priority, row.value)) (row_in values.old.rows other) }
     ensures covered { IsCovered values.new.rows values.new.ordered values.new.pending.items }
     ensures rows_spare { spare values.old.rows ≤ spare values.new.rows + 1 }
@@ -66,7 +83,13 @@ fn set_row<S: BuildHasher + Drop>(values: &mut Values<S>, key: Text, row: ValueR
         priority,
         value,
     } = row;
-    if insert_row(&mut values.rows, key, Held { priority, value }) {
+    let holder = block_with(elements, key.as_str(), priority, value.as_slice());
+    let held = Held {
+        priority,
+        value,
+        holder,
+    };
+    if insert_row(&mut values.rows, key, held) {
         values.pending.push_reserved(name.into_string());
     }
 }
@@ -75,6 +98,7 @@ fn set_row<S: BuildHasher + Drop>(values: &mut Values<S>, key: Text, row: ValueR
 fn insert_row<S: BuildHasher>(rows: &mut HashMap<String, Held, S>, key: Text, held: Held) -> bool
     requires room { 0 < spare rows.old }
     ensures rows { (other : List ℕ) → row_in rows.new other ≡ cond (bytes_eq key other) (Some (held.priority, held.value)) (row_in rows.old other) }
+    ensures held { (other : List ℕ) → get_by_text rows.new other ≡ cond (bytes_eq key other) (Some held) (get_by_text rows.old other) }
     ensures new { result ≡ not (is_some (row_in rows.old key)) }
     ensures spare { spare rows.old ≤ spare rows.new + 1 }
 {
@@ -87,17 +111,24 @@ fn insert_row<S: BuildHasher>(rows: &mut HashMap<String, Held, S>, key: Text, he
 // Takes a row out.
 fn remove_row<S: BuildHasher>(rows: &mut HashMap<String, Held, S>, key: &str)
     ensures rows { (other : List ℕ) → row_in rows.new other ≡ cond (bytes_eq key.now other) None (row_in rows.old other) }
+    ensures held { (other : List ℕ) → get_by_text rows.new other ≡ cond (bytes_eq key.now other) None (get_by_text rows.old other) }
     ensures spare { spare rows.old ≤ spare rows.new }
 {
     let _old = rows.remove(key);
 }
 
-/// Makes the changes in their order. It takes no memory.
-pub(crate) fn put_values<S: BuildHasher + Drop>(values: &mut Values<S>, changes: Vec<ValueChange>)
+/// Makes the changes in their order, where these are the element rows. It takes no memory.
+pub(crate) fn put_values<S: BuildHasher + Drop>(
+    values: &mut Values<S>,
+    elements: &Elements<S>,
+    changes: Vec<ValueChange>,
+)
     requires rows_room { length changes.items ≤ spare values.old.rows }
     requires pending_room { vec_len values.old.pending + length changes.items ≤ vec_capacity values.old.pending }
     requires named { list_all is_named changes.items ≡ true }
     requires covered { IsCovered values.old.rows values.old.ordered values.old.pending.items }
+    requires backed { AreBacked elements.now.nodes.items elements.now.lasts values.old.rows }
+    ensures backed { AreBacked elements.now.nodes.items elements.now.lasts values.new.rows }
     ensures rows { (key : List ℕ) → row_in values.new.rows key ≡ values_after key (row_in values.old.rows key) changes.items }
     ensures covered { IsCovered values.new.rows values.new.ordered values.new.pending.items }
     ensures rows_spare { spare values.old.rows ≤ spare values.new.rows + length changes.items }
@@ -105,7 +136,7 @@ pub(crate) fn put_values<S: BuildHasher + Drop>(values: &mut Values<S>, changes:
     ensures pending_capacity { vec_capacity values.old.pending ≤ vec_capacity values.new.pending }
 {
     for change in changes {
-        put_value(values, change);
+        put_value(values, elements, change);
     }
 }
 
@@ -151,6 +182,7 @@ pub(crate) fn reserve_values<S: BuildHasher + Drop>(
     ensures room { OnOk result (rows ≤ spare values.new.rows) }
     ensures pending_room { OnOk result (vec_len values.new.pending + rows ≤ vec_capacity values.new.pending) }
     ensures rows { (key : List ℕ) → row_in values.new.rows key ≡ row_in values.old.rows key }
+    ensures held { (key : List ℕ) → get_by_text values.new.rows key ≡ get_by_text values.old.rows key }
     ensures covered { IsCovered values.new.rows values.new.ordered values.new.pending.items }
     ensures rows_spare { spare values.old.rows ≤ spare values.new.rows }
     ensures pending_len { vec_len values.new.pending ≡ vec_len values.old.pending }
@@ -166,6 +198,7 @@ fn reserve_rows<S: BuildHasher>(
 ) -> Result<(), AllocError>
     ensures ok { OnOk result (more ≤ spare rows.new) }
     ensures rows { (key : List ℕ) → row_in rows.new key ≡ row_in rows.old key }
+    ensures held { (key : List ℕ) → get_by_text rows.new key ≡ get_by_text rows.old key }
     ensures spare { spare rows.old ≤ spare rows.new }
 {
     rows.reserve(more)
