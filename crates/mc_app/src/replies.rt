@@ -39,7 +39,7 @@ fn answer(error: CoreError) -> Result<Reply, ActError>
     }
 }
 
-pub fn put<K: Keeper>(
+pub(crate) fn put<K: Keeper>(
     replica: &mut Replica<K>,
     alloc: Global,
     r: u64,
@@ -61,7 +61,7 @@ pub fn put<K: Keeper>(
     }
 }
 
-pub fn delete<K: Keeper>(
+pub(crate) fn delete<K: Keeper>(
     replica: &mut Replica<K>,
     alloc: Global,
     r: u64,
@@ -82,7 +82,7 @@ pub fn delete<K: Keeper>(
     }
 }
 
-pub fn begin<K: Keeper>(replica: &mut Replica<K>, alloc: Global, r: u64) -> Result<Reply, ActError>
+pub(crate) fn begin<K: Keeper>(replica: &mut Replica<K>, alloc: Global, r: u64) -> Result<Reply, ActError>
     ensures step { Told (replica_state K.told K.fuse replica.old) (replica_state K.told K.fuse replica.new) (λ s new. IfOk result (λ reply.
         Row (Refuses s (Begin r)) (Plan s (Begin r)) (Rose (K.faults replica.old.keeper) (K.faults replica.new.keeper)) (Rose (K.own replica.old.keeper) (K.own replica.new.keeper)) s new reply)) }
     ensures cause { Counts (K.faults replica.old.keeper) (K.faults replica.new.keeper) (result ≡ Ok FaultKeeper) }
@@ -96,7 +96,7 @@ pub fn begin<K: Keeper>(replica: &mut Replica<K>, alloc: Global, r: u64) -> Resu
     }
 }
 
-pub fn batch_put<K: Keeper>(
+pub(crate) fn batch_put<K: Keeper>(
     replica: &mut Replica<K>,
     r: u64,
     key: &str,
@@ -115,7 +115,7 @@ pub fn batch_put<K: Keeper>(
     }
 }
 
-pub fn batch_delete<K: Keeper>(
+pub(crate) fn batch_delete<K: Keeper>(
     replica: &mut Replica<K>,
     r: u64,
     key: &str,
@@ -133,7 +133,7 @@ pub fn batch_delete<K: Keeper>(
     }
 }
 
-pub fn commit<K: Keeper>(replica: &mut Replica<K>, alloc: Global, r: u64) -> Result<Reply, ActError>
+pub(crate) fn commit<K: Keeper>(replica: &mut Replica<K>, alloc: Global, r: u64) -> Result<Reply, ActError>
     ensures step { Told (replica_state K.told K.fuse replica.old) (replica_state K.told K.fuse replica.new) (λ s new. IfOk result (λ reply.
         Row (Refuses s (Commit r)) (Plan s (Commit r)) (Rose (K.faults replica.old.keeper) (K.faults replica.new.keeper)) (Rose (K.own replica.old.keeper) (K.own replica.new.keeper)) s new reply)) }
     ensures cause { Counts (K.faults replica.old.keeper) (K.faults replica.new.keeper) (result ≡ Ok FaultKeeper) }
@@ -149,7 +149,7 @@ pub fn commit<K: Keeper>(replica: &mut Replica<K>, alloc: Global, r: u64) -> Res
     }
 }
 
-pub fn get<K: Keeper>(
+pub(crate) fn get<K: Keeper>(
     replica: &mut Replica<K>,
     alloc: Global,
     r: u64,
@@ -168,7 +168,7 @@ pub fn get<K: Keeper>(
     }
 }
 
-pub fn has<K: Keeper>(replica: &mut Replica<K>, r: u64, key: &str) -> Result<Reply, ActError>
+pub(crate) fn has<K: Keeper>(replica: &mut Replica<K>, r: u64, key: &str) -> Result<Reply, ActError>
     ensures step { Told (replica_state K.told K.fuse replica.old) (replica_state K.told K.fuse replica.new) (λ s new. IfOk result (λ reply.
         Row (Refuses s (HasKey r key.now)) (Plan s (HasKey r key.now)) (Rose (K.faults replica.old.keeper) (K.faults replica.new.keeper)) (Rose (K.own replica.old.keeper) (K.own replica.new.keeper)) s new reply)) }
     ensures cause { Counts (K.faults replica.old.keeper) (K.faults replica.new.keeper) (result ≡ Ok FaultKeeper) }
@@ -182,7 +182,7 @@ pub fn has<K: Keeper>(replica: &mut Replica<K>, r: u64, key: &str) -> Result<Rep
     }
 }
 
-pub fn query<K: Keeper>(
+pub(crate) fn query<K: Keeper>(
     replica: &mut Replica<K>,
     alloc: Global,
     r: u64,
@@ -205,7 +205,7 @@ pub fn query<K: Keeper>(
     }
 }
 
-pub fn heads<K: Keeper>(replica: &mut Replica<K>, alloc: Global, r: u64) -> Result<Reply, ActError>
+pub(crate) fn heads<K: Keeper>(replica: &mut Replica<K>, alloc: Global, r: u64) -> Result<Reply, ActError>
     ensures step { Told (replica_state K.told K.fuse replica.old) (replica_state K.told K.fuse replica.new) (λ s new. IfOk result (λ reply.
         Row (Refuses s (HeadsOf r)) (Plan s (HeadsOf r)) (Rose (K.faults replica.old.keeper) (K.faults replica.new.keeper)) (Rose (K.own replica.old.keeper) (K.own replica.new.keeper)) s new reply)) }
     ensures cause { Counts (K.faults replica.old.keeper) (K.faults replica.new.keeper) (result ≡ Ok FaultKeeper) }

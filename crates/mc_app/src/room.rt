@@ -5,7 +5,7 @@ ghost use Rattle.mc_app.specs.Rooms.{IsOne};
 use mc_base::List;
 
 // An empty list with room for one item.
-pub struct Room<T> {
+pub(crate) struct Room<T> {
     held: Vec<T>,
     ghost empty: { held.items ≡ [] },
     ghost spare: { vec_len held < vec_capacity held },
@@ -13,7 +13,7 @@ pub struct Room<T> {
 
 impl<T> Room<T> {
     // The only item of a list, and the room that it leaves. Takes no memory.
-    pub fn take(list: List<T>) -> (T, Room<T>)
+    pub(crate) fn take(list: List<T>) -> (T, Room<T>)
         requires { IsOne list }
         ensures { list ≡ result.0 ∷ [] }
     {
@@ -23,7 +23,7 @@ impl<T> Room<T> {
     }
 
     // The list of an item. Takes no memory.
-    pub fn fill(self, item: T) -> List<T>
+    pub(crate) fn fill(self, item: T) -> List<T>
         ensures { result ≡ item ∷ [] }
     {
         let Room { held } = self;
@@ -33,7 +33,7 @@ impl<T> Room<T> {
     }
 
     // Gives the room back.
-    pub fn free(self) {
+    pub(crate) fn free(self) {
         let Room { held } = self;
         held.destroy_empty();
     }
