@@ -82,7 +82,11 @@ pub(crate) fn delete<K: Keeper>(
     }
 }
 
-pub(crate) fn begin<K: Keeper>(replica: &mut Replica<K>, alloc: Global, r: u64) -> Result<Reply, ActError>
+pub(crate) fn begin<K: Keeper>(
+    replica: &mut Replica<K>,
+    alloc: Global,
+    r: u64,
+) -> Result<Reply, ActError>
     ensures step { Told (replica_state K.told K.fuse replica.old) (replica_state K.told K.fuse replica.new) (λ s new. IfOk result (λ reply.
         Row (Refuses s (Begin r)) (Plan s (Begin r)) (Rose (K.faults replica.old.keeper) (K.faults replica.new.keeper)) (Rose (K.own replica.old.keeper) (K.own replica.new.keeper)) s new reply)) }
     ensures cause { Counts (K.faults replica.old.keeper) (K.faults replica.new.keeper) (result ≡ Ok FaultKeeper) }
@@ -133,7 +137,11 @@ pub(crate) fn batch_delete<K: Keeper>(
     }
 }
 
-pub(crate) fn commit<K: Keeper>(replica: &mut Replica<K>, alloc: Global, r: u64) -> Result<Reply, ActError>
+pub(crate) fn commit<K: Keeper>(
+    replica: &mut Replica<K>,
+    alloc: Global,
+    r: u64,
+) -> Result<Reply, ActError>
     ensures step { Told (replica_state K.told K.fuse replica.old) (replica_state K.told K.fuse replica.new) (λ s new. IfOk result (λ reply.
         Row (Refuses s (Commit r)) (Plan s (Commit r)) (Rose (K.faults replica.old.keeper) (K.faults replica.new.keeper)) (Rose (K.own replica.old.keeper) (K.own replica.new.keeper)) s new reply)) }
     ensures cause { Counts (K.faults replica.old.keeper) (K.faults replica.new.keeper) (result ≡ Ok FaultKeeper) }
@@ -205,7 +213,11 @@ pub(crate) fn query<K: Keeper>(
     }
 }
 
-pub(crate) fn heads<K: Keeper>(replica: &mut Replica<K>, alloc: Global, r: u64) -> Result<Reply, ActError>
+pub(crate) fn heads<K: Keeper>(
+    replica: &mut Replica<K>,
+    alloc: Global,
+    r: u64,
+) -> Result<Reply, ActError>
     ensures step { Told (replica_state K.told K.fuse replica.old) (replica_state K.told K.fuse replica.new) (λ s new. IfOk result (λ reply.
         Row (Refuses s (HeadsOf r)) (Plan s (HeadsOf r)) (Rose (K.faults replica.old.keeper) (K.faults replica.new.keeper)) (Rose (K.own replica.old.keeper) (K.own replica.new.keeper)) s new reply)) }
     ensures cause { Counts (K.faults replica.old.keeper) (K.faults replica.new.keeper) (result ≡ Ok FaultKeeper) }
