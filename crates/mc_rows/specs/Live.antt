@@ -1,14 +1,16 @@
 -- What lives of the rows of a key.
-use Rattle.std.specs.Prelude.{◌≡◌, ℕ, Bool, not, ◌||◌, List, ◌++◌, filter, Option}
+use Rattle.std.specs.Prelude.{◌≡◌, ℕ, Bool, true, not, ◌||◌, List, ◌++◌, filter, Option}
 use Rattle.std.specs.List.{list_any}
 use Rattle.std.specs.Str.{bytes_eq}
+use Rattle.mc_base.specs.declared.cid.Cid.{Cid}
 use Rattle.mc_model.specs.declared.block.Block.{Block}
+use Rattle.mc_model.specs.Id.{id_text}
 use Rattle.mc_model.specs.Live.{has_tomb, value_row}
 use Rattle.mc_model.specs.Rank.{Ranked, greatest}
 use Rattle.mc_keep.specs.declared.rows.ElementRow.{ElementRow}
 use Rattle.mc_keep.specs.declared.rows.TombRow.{TombRow}
 use Rattle.mc_keep.specs.Changes.{has_tomb_row}
-use Rattle.mc_keep.specs.Live.{live_rows}
+use Rattle.mc_keep.specs.Live.{live_rows, HoldsValue}
 use Rattle.mc_keep.specs.Tables.{element_rows_of}
 
 -- whether a tombstone is in no block
@@ -41,3 +43,9 @@ new_row blocks elements tombs key = row_from blocks (rows_with elements key) tom
 -- the value row of a key is still that of its old rows
 abbrev pub Stands : List Block → List TombRow → List ℕ → Type 0
 Stands blocks tombs key = greatest (live_rows (hides blocks tombs key) (element_rows_of blocks key)) ≡ value_row blocks key
+
+-- a new tombstone hides a block that holds the value of the key
+pub record HidesValue (blocks : List Block) (tombs : List TombRow) (key : List ℕ) : Type 0 where
+  pub cid : Cid
+  pub holds : HoldsValue blocks key cid
+  pub hidden : has_tomb_row tombs key (id_text cid.0) ≡ true

@@ -1,5 +1,5 @@
 // The new value row of one key.
-ghost use Rattle.std.specs.Prelude.{◌≡◌, ◌≤◌, false, IfOk, IfSome};
+ghost use Rattle.std.specs.Prelude.{◌≡◌, ◌≤◌, false, true, IfOk, IfSome};
 ghost use Rattle.std.specs.List.Sorted.{IsStrictlySortedBy};
 ghost use Rattle.mc_model.specs.Kept.{processed};
 ghost use Rattle.mc_model.specs.Live.{value_row};
@@ -7,7 +7,7 @@ ghost use Rattle.mc_keep.specs.Causes.{IfTold, KeepCause, StaysQuiet};
 ghost use Rattle.mc_keep.specs.Changes.{ranked_row};
 ghost use Rattle.mc_keep.specs.Tables.{IsValueRow};
 ghost use Rattle.mc_rows.specs.Rows.{new_element_cmp, new_tomb_cmp, rows_of, tombs_of};
-ghost use Rattle.mc_rows.specs.Live.{new_row, row_from, Stands};
+ghost use Rattle.mc_rows.specs.Live.{new_row, row_from, HidesValue, Stands};
 ghost use Rattle.mc_rows.specs.Values.{ranked_best, ChangesTo, IsChange};
 
 use crate::best::{Best, best_of, is_unchanged};
@@ -56,6 +56,7 @@ fn is_hidden_anew<K: Keeper>(
 ) -> Result<bool, KeepError>
     requires tombs { IsStrictlySortedBy new_tomb_cmp tombs.now }
     requires old { IfSome (K.told keeper.old) (λ kept. IsValueRow (processed kept) key.now old.now) }
+    ensures hides { IfTold (K.told keeper.old) result (λ kept hidden. hidden ≡ true → HidesValue (processed kept) (tombs_of tombs.now) key.now) }
     ensures stands { IfTold (K.told keeper.old) result (λ kept hidden. hidden ≡ false → Stands (processed kept) (tombs_of tombs.now) key.now) }
     ensures told { K.told keeper.new ≡ K.told keeper.old }
     ensures fuse { K.fuse keeper.new ≡ K.fuse keeper.old }
@@ -77,7 +78,7 @@ fn is_hidden_anew<K: Keeper>(
     Ok(has_tomb(tombs, key, id.as_str()))
 }
 
-// The change where new tombstones hide what was the value: all rows of the key are looked at.
+// The change where a new tombstone hides what was the value: all rows of the key are looked at. Nothing else reads them.
 fn change_anew<K: Keeper>(
     keeper: &mut K,
     alloc: Global,
@@ -88,6 +89,7 @@ fn change_anew<K: Keeper>(
 ) -> Result<Option<ValueChange>, KeepError>
     requires tombs { IsStrictlySortedBy new_tomb_cmp tombs.now }
     requires old { IfSome (K.told keeper.old) (λ kept. IsValueRow (processed kept) key.now old.now) }
+    requires hides { IfSome (K.told keeper.old) (λ kept. HidesValue (processed kept) (tombs_of tombs.now) key.now) }
     ensures change { IfTold (K.told keeper.old) result (λ kept change. IsChange key.now (value_row (processed kept) key.now) (row_from (processed kept) (rows_of elements.now) (tombs_of tombs.now) key.now) change) }
     ensures told { K.told keeper.new ≡ K.told keeper.old }
     ensures fuse { K.fuse keeper.new ≡ K.fuse keeper.old }
