@@ -41,8 +41,9 @@ impl From<AllocError> for ActError {
 }
 
 /// Executes one command. The world and the reply are by `Step`, and the record grows by one entry, which names only
-/// keepers whose counts rose, and no quiet one among those that failed by themselves. `BadLine` comes exactly where the command names a replica that isn't there, and changes
-/// nothing. After `Memory` some events of the command may have happened.
+/// keepers whose counts rose, and among those that failed by themselves no quiet one whose own count was 0. `BadLine`
+/// comes exactly where the command names a replica that isn't there, and changes nothing. After `Memory` some events of
+/// the command may have happened.
 pub fn act<K: Keeper>(
     world: &mut World<K>,
     alloc: Global,
