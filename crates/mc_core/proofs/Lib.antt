@@ -7,6 +7,7 @@ pub mod EventFacts
 pub mod GrowthFacts
 pub mod NumberFacts
 pub mod IdFacts
+pub mod Keeps
 pub mod OpenFacts
 pub mod PartFacts
 pub mod PlanFacts

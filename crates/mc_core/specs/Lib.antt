@@ -8,3 +8,4 @@ pub mod Reads
 pub mod Refusals
 pub mod Replica
 pub mod Reports
+pub mod Words

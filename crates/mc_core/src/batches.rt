@@ -1,8 +1,10 @@
 // The calls of a replica on its batch.
+ghost use Rattle.mc_core.specs.Words.{Continues};
+ghost use Rattle.mc_keep.specs.Calls.{Reads};
 ghost use Rattle.std.specs.Prelude.{◌≡◌, ◌≤◌, ◌++◌, ◌∷◌, [], false, None, Some, IfOk, IfSome, IfErr};
 ghost use Rattle.mc_base.specs.Causes.{Rose};
 ghost use Rattle.mc_base.specs.Told.{Told};
-ghost use Rattle.mc_keep.specs.Causes.{IfTold, StaysQuiet};
+ghost use Rattle.mc_keep.specs.Causes.{IfTold};
 ghost use Rattle.mc_model.specs.Events.{Batch as Closed};
 ghost use Rattle.mc_core.specs.declared.error.CoreError.{CoreError as Refused};
 ghost use Rattle.mc_core.specs.Batches.{BeginPlan, BatchDeletePlan, BatchPutPlan, CommitPlan, batch_delete_refusal, batch_made_refusal, batch_put_refusal, begin_refusal, commit_refusal, delta_of_batch};
@@ -10,8 +12,7 @@ ghost use Rattle.mc_core.specs.Calls.{Call};
 ghost use Rattle.mc_core.specs.Events.{Part};
 ghost use Rattle.mc_core.specs.Plans.{IsShaped, IsSomePlan, plan_events, plan_rows};
 ghost use Rattle.mc_core.specs.Puts.{IsPlanned, next_links};
-ghost use Rattle.mc_core.specs.Refusals.{CoreCause, Is, IsDue};
-ghost use Rattle.mc_core.specs.Reports.{StaysCounted};
+ghost use Rattle.mc_core.specs.Refusals.{Is, IsDue, OnFault};
 ghost use Rattle.mc_core.specs.Replica.{replica_state};
 
 use crate::commits::is_sound;
@@ -29,10 +30,7 @@ impl<K: Keeper> Replica<K> {
     pub fn batch_begin(&mut self, alloc: Global) -> Result<(), CoreError>
         ensures call { Told (replica_state K.told K.fuse self.old) (replica_state K.told K.fuse self.new) (λ s new.
             Call (Is (begin_refusal s)) BeginPlan (λ left. left ≡ s) (Rose (K.own self.old.keeper) (K.own self.new.keeper)) result s new) }
-        ensures counted { StaysCounted self.new.stopped (K.told self.old.keeper) self.old.numbers (K.told self.new.keeper) self.new.numbers }
-        ensures own { K.own self.old.keeper ≤ K.own self.new.keeper }
-        ensures quiet { StaysQuiet (K.quiet self.old.keeper) (K.quiet self.new.keeper) (K.own self.old.keeper) (K.own self.new.keeper) }
-        ensures cause { CoreCause (K.faults self.old.keeper) (K.faults self.new.keeper) result }
+        ensures keeps { Continues K.Keeper (is_fault result) self.old self.new }
     {
         if self.stopped {
             return Err(CoreError::Stopped);
@@ -49,10 +47,7 @@ impl<K: Keeper> Replica<K> {
     pub fn batch_put(&mut self, key: &str, value: &[u8]) -> Result<(), CoreError>
         ensures call { Told (replica_state K.told K.fuse self.old) (replica_state K.told K.fuse self.new) (λ s new.
             Call (Is (batch_put_refusal s key.now value.now)) (BatchPutPlan s key.now value.now) (λ left. left ≡ s) (Rose (K.own self.old.keeper) (K.own self.new.keeper)) result s new) }
-        ensures counted { StaysCounted self.new.stopped (K.told self.old.keeper) self.old.numbers (K.told self.new.keeper) self.new.numbers }
-        ensures own { K.own self.old.keeper ≤ K.own self.new.keeper }
-        ensures quiet { StaysQuiet (K.quiet self.old.keeper) (K.quiet self.new.keeper) (K.own self.old.keeper) (K.own self.new.keeper) }
-        ensures cause { CoreCause (K.faults self.old.keeper) (K.faults self.new.keeper) result }
+        ensures keeps { Continues K.Keeper (is_fault result) self.old self.new }
     {
         if self.stopped {
             return Err(CoreError::Stopped);
@@ -73,10 +68,7 @@ impl<K: Keeper> Replica<K> {
     pub fn batch_delete(&mut self, key: &str) -> Result<(), CoreError>
         ensures call { Told (replica_state K.told K.fuse self.old) (replica_state K.told K.fuse self.new) (λ s new.
             Call (Is (batch_delete_refusal s key.now)) (BatchDeletePlan s key.now) (λ left. left ≡ s) (Rose (K.own self.old.keeper) (K.own self.new.keeper)) result s new) }
-        ensures counted { StaysCounted self.new.stopped (K.told self.old.keeper) self.old.numbers (K.told self.new.keeper) self.new.numbers }
-        ensures own { K.own self.old.keeper ≤ K.own self.new.keeper }
-        ensures quiet { StaysQuiet (K.quiet self.old.keeper) (K.quiet self.new.keeper) (K.own self.old.keeper) (K.own self.new.keeper) }
-        ensures cause { CoreCause (K.faults self.old.keeper) (K.faults self.new.keeper) result }
+        ensures keeps { Continues K.Keeper (is_fault result) self.old self.new }
     {
         kept_is_durable();
         if self.stopped {
@@ -103,10 +95,7 @@ impl<K: Keeper> Replica<K> {
     pub fn batch_commit(&mut self, alloc: Global) -> Result<Option<Written>, CoreError>
         ensures call { Told (replica_state K.told K.fuse self.old) (replica_state K.told K.fuse self.new) (λ s new.
             Call (Is (commit_refusal s)) (CommitPlan s) (λ left. left ≡ s) (Rose (K.own self.old.keeper) (K.own self.new.keeper)) result s new) }
-        ensures counted { StaysCounted self.new.stopped (K.told self.old.keeper) self.old.numbers (K.told self.new.keeper) self.new.numbers }
-        ensures own { K.own self.old.keeper ≤ K.own self.new.keeper }
-        ensures quiet { StaysQuiet (K.quiet self.old.keeper) (K.quiet self.new.keeper) (K.own self.old.keeper) (K.own self.new.keeper) }
-        ensures cause { CoreCause (K.faults self.old.keeper) (K.faults self.new.keeper) result }
+        ensures keeps { Continues K.Keeper (is_fault result) self.old self.new }
     {
         kept_is_durable();
         if self.stopped {
@@ -138,10 +127,7 @@ impl<K: Keeper> Replica<K> {
             Part (plan_events planned.plan ++ Closed None ∷ []) (Rose (K.own self.old.keeper) (K.own self.new.keeper)) result s new) }
         ensures answer { IfOk result (λ written. written ≡ Some planned.written) }
         ensures only { IfErr result (λ error. error ≡ Refused.KeeperFault) }
-        ensures counted { StaysCounted self.new.stopped (K.told self.old.keeper) self.old.numbers (K.told self.new.keeper) self.new.numbers }
-        ensures own { K.own self.old.keeper ≤ K.own self.new.keeper }
-        ensures quiet { StaysQuiet (K.quiet self.old.keeper) (K.quiet self.new.keeper) (K.own self.old.keeper) (K.own self.new.keeper) }
-        ensures cause { CoreCause (K.faults self.old.keeper) (K.faults self.new.keeper) result }
+        ensures keeps { Continues K.Keeper (is_fault result) self.old self.new }
     {
         match self.take_up(planned) {
             Ok(written) => {
@@ -165,11 +151,7 @@ fn plan_batch<K: Keeper>(
     ensures refused { IfSome (K.told keeper.old) (λ kept. IfErr result (IsDue (Is (batch_made_refusal kept batch.now)))) }
     ensures shape { IfOk result (λ planned. IsShaped planned.plan) }
     ensures room { IfOk result (λ planned. plan_rows planned.plan ≤ K.spare keeper.new) }
-    ensures told { K.told keeper.new ≡ K.told keeper.old }
-    ensures fuse { K.fuse keeper.new ≡ K.fuse keeper.old }
-    ensures own { CoreCause (K.own keeper.old) (K.own keeper.new) result }
-    ensures quiet { StaysQuiet (K.quiet keeper.old) (K.quiet keeper.new) (K.own keeper.old) (K.own keeper.new) }
-    ensures cause { CoreCause (K.faults keeper.old) (K.faults keeper.new) result }
+    ensures reads { Reads K.Keeper (is_fault result) keeper.old keeper.new }
 {
     is_sound(keeper);
     kept_is_durable();

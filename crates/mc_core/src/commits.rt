@@ -1,16 +1,15 @@
 // The commits of a replica: each is one event, or it breaks and the replica stops.
-ghost use Rattle.std.specs.Prelude.{◌≡◌, ◌≢◌, ◌≤◌, ◌+◌, false, [], ◌∷◌, None, IfSome, OnOk};
-ghost use Rattle.mc_base.specs.Causes.{Rose, HasCause};
+ghost use Rattle.mc_core.specs.Words.{Continues};
+ghost use Rattle.std.specs.Prelude.{◌≡◌, ◌≢◌, ◌≤◌, ◌+◌, false, [], ◌∷◌, None, IfSome, OnOk, OnErr};
+ghost use Rattle.mc_base.specs.Causes.{Rose};
 ghost use Rattle.mc_base.specs.Told.{Told};
 ghost use Rattle.mc_model.specs.Events.{Store, Process};
 ghost use Rattle.mc_model.specs.Kept.{IsKept};
 ghost use Rattle.mc_model.specs.State.{vertices};
-ghost use Rattle.mc_keep.specs.Causes.{StaysQuiet};
 ghost use Rattle.mc_keep.specs.Changes.{changed, row_count};
 ghost use Rattle.mc_keep.specs.Tables.{ChangesFit};
 ghost use Rattle.mc_core.specs.Events.{Part};
 ghost use Rattle.mc_core.specs.Plans.{IsReady, HasLinks, IsShaped, IsSomePlan, plan_rows, plan_events};
-ghost use Rattle.mc_core.specs.Reports.{StaysCounted};
 ghost use Rattle.mc_core.specs.Replica.{replica_state};
 
 use crate::plan::Plan;
@@ -32,13 +31,10 @@ impl<K: Keeper> Replica<K> {
         ensures silent { K.told self.old.keeper ≡ None → K.told self.new.keeper ≡ None }
         ensures told { OnOk result (Told (K.told self.old.keeper) (K.told self.new.keeper) (λ kept new. new ≡ changed kept store)) }
         ensures up { OnOk result (self.new.stopped ≡ false) }
-        ensures counted { StaysCounted self.new.stopped (K.told self.old.keeper) self.old.numbers (K.told self.new.keeper) self.new.numbers }
+        ensures keeps { Continues K.Keeper (is_err result) self.old self.new }
         ensures whole { self.new.whole ≡ self.old.whole }
         ensures batch { self.new.batch ≡ self.old.batch }
         ensures spare { K.spare self.old.keeper ≤ K.spare self.new.keeper + row_count store }
-        ensures own { K.own self.old.keeper ≤ K.own self.new.keeper }
-        ensures quiet { StaysQuiet (K.quiet self.old.keeper) (K.quiet self.new.keeper) (K.own self.old.keeper) (K.own self.new.keeper) }
-        ensures cause { HasCause (K.faults self.old.keeper) (K.faults self.new.keeper) result }
     {
         commits_are_events();
         is_sound(&self.keeper);
@@ -65,12 +61,9 @@ impl<K: Keeper> Replica<K> {
             Part (Process process.marks ∷ []) (Rose (K.own self.old.keeper) (K.own self.new.keeper)) result s new) }
         ensures silent { K.told self.old.keeper ≡ None → K.told self.new.keeper ≡ None }
         ensures up { OnOk result (self.new.stopped ≡ false) }
-        ensures counted { StaysCounted self.new.stopped (K.told self.old.keeper) self.old.numbers (K.told self.new.keeper) self.new.numbers }
+        ensures keeps { Continues K.Keeper (is_err result) self.old self.new }
         ensures whole { self.new.whole ≡ self.old.whole }
         ensures batch { self.new.batch ≡ self.old.batch }
-        ensures own { K.own self.old.keeper ≤ K.own self.new.keeper }
-        ensures quiet { StaysQuiet (K.quiet self.old.keeper) (K.quiet self.new.keeper) (K.own self.old.keeper) (K.own self.new.keeper) }
-        ensures cause { HasCause (K.faults self.old.keeper) (K.faults self.new.keeper) result }
     {
         commits_are_events();
         is_sound(&self.keeper);
@@ -99,12 +92,9 @@ impl<K: Keeper> Replica<K> {
             Part (Store (vertices store.store) ∷ Process process.marks ∷ []) (Rose (K.own self.old.keeper) (K.own self.new.keeper)) result s new) }
         ensures silent { K.told self.old.keeper ≡ None → K.told self.new.keeper ≡ None }
         ensures up { OnOk result (self.new.stopped ≡ false) }
-        ensures counted { StaysCounted self.new.stopped (K.told self.old.keeper) self.old.numbers (K.told self.new.keeper) self.new.numbers }
+        ensures keeps { Continues K.Keeper (is_err result) self.old self.new }
         ensures whole { self.new.whole ≡ self.old.whole }
         ensures batch { self.new.batch ≡ self.old.batch }
-        ensures own { K.own self.old.keeper ≤ K.own self.new.keeper }
-        ensures quiet { StaysQuiet (K.quiet self.old.keeper) (K.quiet self.new.keeper) (K.own self.old.keeper) (K.own self.new.keeper) }
-        ensures cause { HasCause (K.faults self.old.keeper) (K.faults self.new.keeper) result }
     {
         match self.commit_store(store) {
             Ok(()) => self.commit_process(process),
@@ -122,12 +112,9 @@ impl<K: Keeper> Replica<K> {
             Part (plan_events plan) (Rose (K.own self.old.keeper) (K.own self.new.keeper)) result s new) }
         ensures silent { K.told self.old.keeper ≡ None → K.told self.new.keeper ≡ None }
         ensures up { OnOk result (self.new.stopped ≡ false) }
-        ensures counted { StaysCounted self.new.stopped (K.told self.old.keeper) self.old.numbers (K.told self.new.keeper) self.new.numbers }
+        ensures keeps { Continues K.Keeper (is_err result) self.old self.new }
         ensures whole { self.new.whole ≡ self.old.whole }
         ensures batch { self.new.batch ≡ self.old.batch }
-        ensures own { K.own self.old.keeper ≤ K.own self.new.keeper }
-        ensures quiet { StaysQuiet (K.quiet self.old.keeper) (K.quiet self.new.keeper) (K.own self.old.keeper) (K.own self.new.keeper) }
-        ensures cause { HasCause (K.faults self.old.keeper) (K.faults self.new.keeper) result }
     {
         commits_are_events();
         changes_fit();

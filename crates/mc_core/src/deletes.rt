@@ -1,16 +1,18 @@
 // Deletes: all their blocks are made first, and then taken up one after another.
+ghost use Rattle.mc_core.specs.Words.{Continues};
+ghost use Rattle.mc_keep.specs.Calls.{Reads};
 ghost use Rattle.std.specs.Prelude.{◌≡◌, ◌≤◌, ◌^◌, nat_lt, ◌++◌, ◌∷◌, [], true, false, None, IfOk, IfSome, IfErr, OnOk};
 ghost use Rattle.std.specs.List.{list_all};
 ghost use Rattle.mc_base.specs.Causes.{Rose};
 ghost use Rattle.mc_base.specs.Told.{Told};
 ghost use Rattle.mc_model.specs.Kept.{is_stored};
 ghost use Rattle.mc_model.specs.Made.{made_bytes, made_cid};
-ghost use Rattle.mc_keep.specs.Causes.{IfTold, KeepCause, StaysQuiet};
+ghost use Rattle.mc_keep.specs.Causes.{IfTold, StaysQuiet, OnFailed};
 ghost use Rattle.mc_core.specs.Calls.{Call};
 ghost use Rattle.mc_core.specs.Deletes.{AreMade, AreNext, DeleteKeptRefusal, DeletePlan, DeleteRefusal, DeleteShort, DeltasRefusal, IsDelete, IsMade, IsNextMade, IsOutside, ShortKeeps, Takes, TakesOne, chain_clash, has_made, is_left, with_all};
 ghost use Rattle.mc_core.specs.Plans.{IsNew, IsPlan, IsShaped, plan_rows};
 ghost use Rattle.mc_core.specs.Puts.{next_links};
-ghost use Rattle.mc_core.specs.Refusals.{CoreCause, Is, IsDue, clash_refusal, key_refusal};
+ghost use Rattle.mc_core.specs.Refusals.{CoreCause, Is, IsDue, clash_refusal, key_refusal, OnFault};
 ghost use Rattle.mc_core.specs.Reports.{StaysCounted};
 ghost use Rattle.mc_core.specs.Replica.{replica_state};
 
@@ -52,11 +54,8 @@ impl<K: Keeper> Replica<K> {
     pub fn delete(&mut self, alloc: Global, key: &str) -> Result<Deleted, CoreError>
         ensures call { Told (replica_state K.told K.fuse self.old) (replica_state K.told K.fuse self.new) (λ s new.
             Call (DeleteRefusal s key.now) (DeletePlan s key.now) (DeleteShort s key.now) (Rose (K.own self.old.keeper) (K.own self.new.keeper)) result s new) }
-        ensures counted { StaysCounted self.new.stopped (K.told self.old.keeper) self.old.numbers (K.told self.new.keeper) self.new.numbers }
+        ensures keeps { Continues K.Keeper (is_fault result) self.old self.new }
         ensures short { Told (replica_state K.told K.fuse self.old) (replica_state K.told K.fuse self.new) (ShortKeeps key.now result) }
-        ensures own { K.own self.old.keeper ≤ K.own self.new.keeper }
-        ensures quiet { StaysQuiet (K.quiet self.old.keeper) (K.quiet self.new.keeper) (K.own self.old.keeper) (K.own self.new.keeper) }
-        ensures cause { CoreCause (K.faults self.old.keeper) (K.faults self.new.keeper) result }
     {
         kept_is_durable();
         commits_are_events();
@@ -80,10 +79,7 @@ impl<K: Keeper> Replica<K> {
         requires next { IfSome (K.told self.old.keeper) (λ kept. AreNext kept blocks) }
         ensures takes { Told (replica_state K.told K.fuse self.old) (replica_state K.told K.fuse self.new) (λ s new.
             Takes blocks (Rose (K.own self.old.keeper) (K.own self.new.keeper)) result s new) }
-        ensures counted { StaysCounted self.new.stopped (K.told self.old.keeper) self.old.numbers (K.told self.new.keeper) self.new.numbers }
-        ensures own { K.own self.old.keeper ≤ K.own self.new.keeper }
-        ensures quiet { StaysQuiet (K.quiet self.old.keeper) (K.quiet self.new.keeper) (K.own self.old.keeper) (K.own self.new.keeper) }
-        ensures cause { CoreCause (K.faults self.old.keeper) (K.faults self.new.keeper) result }
+        ensures keeps { Continues K.Keeper (is_fault result) self.old self.new }
     {
         kept_is_durable();
         let count = blocks.len() as u64;
@@ -107,10 +103,7 @@ impl<K: Keeper> Replica<K> {
         ensures up { OnOk result (self.new.stopped ≡ false) }
         ensures whole { self.new.whole ≡ self.old.whole }
         ensures batch { self.new.batch ≡ self.old.batch }
-        ensures counted { StaysCounted self.new.stopped (K.told self.old.keeper) self.old.numbers (K.told self.new.keeper) self.new.numbers }
-        ensures own { K.own self.old.keeper ≤ K.own self.new.keeper }
-        ensures quiet { StaysQuiet (K.quiet self.old.keeper) (K.quiet self.new.keeper) (K.own self.old.keeper) (K.own self.new.keeper) }
-        ensures cause { CoreCause (K.faults self.old.keeper) (K.faults self.new.keeper) result }
+        ensures keeps { Continues K.Keeper (is_fault result) self.old self.new }
     {
         kept_is_durable();
         match plan_one(&mut self.keeper, alloc, made, self.whole) {
@@ -139,11 +132,7 @@ fn plan_one<K: Keeper>(
     ensures only { IfErr result IsOutside }
     ensures shape { IfOk result IsShaped }
     ensures room { IfOk result (λ plan. plan_rows plan ≤ K.spare keeper.new) }
-    ensures told { K.told keeper.new ≡ K.told keeper.old }
-    ensures fuse { K.fuse keeper.new ≡ K.fuse keeper.old }
-    ensures own { CoreCause (K.own keeper.old) (K.own keeper.new) result }
-    ensures quiet { StaysQuiet (K.quiet keeper.old) (K.quiet keeper.new) (K.own keeper.old) (K.own keeper.new) }
-    ensures cause { CoreCause (K.faults keeper.old) (K.faults keeper.new) result }
+    ensures reads { Reads K.Keeper (is_fault result) keeper.old keeper.new }
 {
     let MadeBlock {
         block,
@@ -163,11 +152,7 @@ fn make_delete<K: Keeper>(
     ensures made { IfTold (K.told keeper.old) result (λ kept blocks. IsDelete kept key.now blocks) }
     ensures allowed { OnOk result (key_refusal key.now ≡ None) }
     ensures refused { IfSome (K.told keeper.old) (λ kept. IfErr result (IsDue (DeleteKeptRefusal kept key.now (key_refusal key.now)))) }
-    ensures told { K.told keeper.new ≡ K.told keeper.old }
-    ensures fuse { K.fuse keeper.new ≡ K.fuse keeper.old }
-    ensures own { CoreCause (K.own keeper.old) (K.own keeper.new) result }
-    ensures quiet { StaysQuiet (K.quiet keeper.old) (K.quiet keeper.new) (K.own keeper.old) (K.own keeper.new) }
-    ensures cause { CoreCause (K.faults keeper.old) (K.faults keeper.new) result }
+    ensures reads { Reads K.Keeper (is_fault result) keeper.old keeper.new }
 {
     let key = check_key(key)?;
     make_tombs(keeper, alloc, &key)
@@ -181,11 +166,7 @@ fn make_tombs<K: Keeper>(
 ) -> Result<List<MadeBlock>, CoreError>
     ensures made { IfTold (K.told keeper.old) result (λ kept blocks. IsDelete kept key.now blocks) }
     ensures refused { IfSome (K.told keeper.old) (λ kept. IfErr result (IsDue (DeltasRefusal kept key.now))) }
-    ensures told { K.told keeper.new ≡ K.told keeper.old }
-    ensures fuse { K.fuse keeper.new ≡ K.fuse keeper.old }
-    ensures own { CoreCause (K.own keeper.old) (K.own keeper.new) result }
-    ensures quiet { StaysQuiet (K.quiet keeper.old) (K.quiet keeper.new) (K.own keeper.old) (K.own keeper.new) }
-    ensures cause { CoreCause (K.faults keeper.old) (K.faults keeper.new) result }
+    ensures reads { Reads K.Keeper (is_fault result) keeper.old keeper.new }
 {
     let deltas = match delete_deltas(keeper, alloc, key) {
         Ok(deltas) => deltas,
@@ -217,11 +198,7 @@ fn has_priority(priority: u64)
 // The links to the heads.
 fn first_links<K: Keeper>(keeper: &mut K, alloc: Global) -> Result<List<Cid>, KeepError>
     ensures links { IfTold (K.told keeper.old) result (λ kept links. links ≡ next_links kept) }
-    ensures told { K.told keeper.new ≡ K.told keeper.old }
-    ensures fuse { K.fuse keeper.new ≡ K.fuse keeper.old }
-    ensures own { KeepCause (K.own keeper.old) (K.own keeper.new) result }
-    ensures quiet { StaysQuiet (K.quiet keeper.old) (K.quiet keeper.new) (K.own keeper.old) (K.own keeper.new) }
-    ensures cause { KeepCause (K.faults keeper.old) (K.faults keeper.new) result }
+    ensures reads { Reads K.Keeper (is_fault result) keeper.old keeper.new }
 {
     let heads = keeper.heads(alloc)?;
     let links = cids_of(alloc, heads.as_slice())?;
@@ -237,11 +214,7 @@ fn make_blocks<K: Keeper>(
 ) -> Result<List<MadeBlock>, CoreError>
     ensures made { IfTold (K.told keeper.old) result (λ kept blocks. AreMade kept links deltas blocks) }
     ensures refused { IfSome (K.told keeper.old) (λ kept. IfErr result (IsDue (Is (chain_clash kept links deltas)))) }
-    ensures told { K.told keeper.new ≡ K.told keeper.old }
-    ensures fuse { K.fuse keeper.new ≡ K.fuse keeper.old }
-    ensures own { CoreCause (K.own keeper.old) (K.own keeper.new) result }
-    ensures quiet { StaysQuiet (K.quiet keeper.old) (K.quiet keeper.new) (K.own keeper.old) (K.own keeper.new) }
-    ensures cause { CoreCause (K.faults keeper.old) (K.faults keeper.new) result }
+    ensures reads { Reads K.Keeper (is_fault result) keeper.old keeper.new }
 {
     let mut blocks = List::new(alloc);
     let mut links = links;
@@ -264,11 +237,7 @@ fn make_next<K: Keeper>(
 ) -> Result<List<Cid>, CoreError>
     ensures made { IfTold (K.told keeper.old) result (λ kept next. IsNextMade kept blocks.old links delta blocks.new next) }
     ensures refused { IfSome (K.told keeper.old) (λ kept. IfErr result (IsDue (Is (clash_refusal (with_all kept blocks.old) (made_cid links delta) (made_bytes links delta))))) }
-    ensures told { K.told keeper.new ≡ K.told keeper.old }
-    ensures fuse { K.fuse keeper.new ≡ K.fuse keeper.old }
-    ensures own { CoreCause (K.own keeper.old) (K.own keeper.new) result }
-    ensures quiet { StaysQuiet (K.quiet keeper.old) (K.quiet keeper.new) (K.own keeper.old) (K.own keeper.new) }
-    ensures cause { CoreCause (K.faults keeper.old) (K.faults keeper.new) result }
+    ensures reads { Reads K.Keeper (is_fault result) keeper.old keeper.new }
 {
     let made = match make_one(keeper, alloc, blocks.as_slice(), links, delta) {
         Ok(made) => made,
@@ -304,11 +273,7 @@ fn make_one<K: Keeper>(
 ) -> Result<MadeBlock, CoreError>
     ensures made { IfTold (K.told keeper.old) result (λ kept made. IsMade (with_all kept before.now) links delta made) }
     ensures refused { IfSome (K.told keeper.old) (λ kept. IfErr result (IsDue (Is (clash_refusal (with_all kept before.now) (made_cid links delta) (made_bytes links delta))))) }
-    ensures told { K.told keeper.new ≡ K.told keeper.old }
-    ensures fuse { K.fuse keeper.new ≡ K.fuse keeper.old }
-    ensures own { CoreCause (K.own keeper.old) (K.own keeper.new) result }
-    ensures quiet { StaysQuiet (K.quiet keeper.old) (K.quiet keeper.new) (K.own keeper.old) (K.own keeper.new) }
-    ensures cause { CoreCause (K.faults keeper.old) (K.faults keeper.new) result }
+    ensures reads { Reads K.Keeper (is_fault result) keeper.old keeper.new }
 {
     let made = write_block(alloc, links.as_slice(), &delta)?;
     if has_made(before, &made.cid) {

@@ -1,15 +1,15 @@
 // Blocks that a replica makes.
-ghost use Rattle.std.specs.Prelude.{◌≡◌, ◌≤◌, None, Some, true, false, length, map, IfOk, IfSome, IfErr, OnOk, is_some};
+ghost use Rattle.mc_keep.specs.Calls.{Reads};
+ghost use Rattle.std.specs.Prelude.{◌≡◌, ◌≤◌, None, Some, true, false, IfOk, IfSome, IfErr, OnOk, is_some, OnErr};
 ghost use Rattle.std.specs.List.{list_all};
-ghost use Rattle.mc_base.specs.Causes.{HasCause};
 ghost use Rattle.mc_model.specs.Front.{is_among};
-ghost use Rattle.mc_model.specs.Kept.{processed, is_stored, bytes_at};
-ghost use Rattle.mc_model.specs.Made.{head_cids, next_priority};
-ghost use Rattle.mc_keep.specs.Causes.{IfTold, StaysQuiet};
+ghost use Rattle.mc_model.specs.Kept.{processed, is_stored};
+ghost use Rattle.mc_model.specs.Made.{next_priority};
+ghost use Rattle.mc_keep.specs.Causes.{IfTold};
 ghost use Rattle.mc_write.specs.Seen.{row_cids};
 ghost use Rattle.mc_core.specs.Plans.{IsShaped, plan_rows};
 ghost use Rattle.mc_core.specs.Puts.{IsPlanned, next_links};
-ghost use Rattle.mc_core.specs.Refusals.{CoreCause, Is, IsDue, clash_refusal, made_refusal, other_refusal, priority_refusal, size_refusal};
+ghost use Rattle.mc_core.specs.Refusals.{Is, IsDue, clash_refusal, made_refusal, other_refusal, priority_refusal, size_refusal, OnFault};
 
 use crate::CoreError;
 use crate::plan::{Plan, plan_block};
@@ -52,11 +52,7 @@ pub(crate) fn next_block<K: Keeper>(keeper: &mut K, alloc: Global) -> Result<Nex
     ensures next { IfTold (K.told keeper.old) result (λ kept next. (next.links ≡ next_links kept) × (next.priority ≡ next_priority (processed kept))) }
     ensures left { IfTold (K.told keeper.old) result (λ kept next. priority_refusal kept ≡ None) }
     ensures refused { IfSome (K.told keeper.old) (λ kept. IfErr result (IsDue (Is (priority_refusal kept)))) }
-    ensures told { K.told keeper.new ≡ K.told keeper.old }
-    ensures fuse { K.fuse keeper.new ≡ K.fuse keeper.old }
-    ensures own { CoreCause (K.own keeper.old) (K.own keeper.new) result }
-    ensures quiet { StaysQuiet (K.quiet keeper.old) (K.quiet keeper.new) (K.own keeper.old) (K.own keeper.new) }
-    ensures cause { CoreCause (K.faults keeper.old) (K.faults keeper.new) result }
+    ensures reads { Reads K.Keeper (is_fault result) keeper.old keeper.new }
 {
     let heads = keeper.heads(alloc)?;
     let Some(priority) = next_priority(heads.as_slice()) else {
@@ -90,11 +86,7 @@ fn check_size(bytes: &[u8]) -> Result<(), CoreError>
 
 fn is_processed<K: Keeper>(keeper: &mut K, cid: &Cid) -> Result<bool, Failed>
     ensures found { IfTold (K.told keeper.old) result (λ kept found. found ≡ is_among kept.order cid.now) }
-    ensures told { K.told keeper.new ≡ K.told keeper.old }
-    ensures fuse { K.fuse keeper.new ≡ K.fuse keeper.old }
-    ensures own { HasCause (K.own keeper.old) (K.own keeper.new) result }
-    ensures quiet { StaysQuiet (K.quiet keeper.old) (K.quiet keeper.new) (K.own keeper.old) (K.own keeper.new) }
-    ensures cause { HasCause (K.faults keeper.old) (K.faults keeper.new) result }
+    ensures reads { Reads K.Keeper (is_err result) keeper.old keeper.new }
 {
     Ok(keeper.position(cid)?.is_some())
 }
@@ -120,11 +112,7 @@ pub(crate) fn check_clash<K: Keeper>(
     ensures known { IfTold (K.told keeper.old) result (λ kept known. known ≡ is_stored kept.graph cid.now) }
     ensures allowed { IfTold (K.told keeper.old) result (λ kept known. clash_refusal kept cid.now bytes.now ≡ None) }
     ensures refused { IfSome (K.told keeper.old) (λ kept. IfErr result (IsDue (Is (clash_refusal kept cid.now bytes.now)))) }
-    ensures told { K.told keeper.new ≡ K.told keeper.old }
-    ensures fuse { K.fuse keeper.new ≡ K.fuse keeper.old }
-    ensures own { CoreCause (K.own keeper.old) (K.own keeper.new) result }
-    ensures quiet { StaysQuiet (K.quiet keeper.old) (K.quiet keeper.new) (K.own keeper.old) (K.own keeper.new) }
-    ensures cause { CoreCause (K.faults keeper.old) (K.faults keeper.new) result }
+    ensures reads { Reads K.Keeper (is_fault result) keeper.old keeper.new }
 {
     if is_processed(keeper, cid)? {
         return Err(CoreError::Clash { cid: *cid });
@@ -151,11 +139,7 @@ pub(crate) fn plan_made<K: Keeper>(
     ensures refused { IfSome (K.told keeper.old) (λ kept. IfErr result (IsDue (Is (made_refusal kept links delta)))) }
     ensures shape { IfOk result (λ planned. IsShaped planned.plan) }
     ensures room { IfOk result (λ planned. plan_rows planned.plan ≤ K.spare keeper.new) }
-    ensures told { K.told keeper.new ≡ K.told keeper.old }
-    ensures fuse { K.fuse keeper.new ≡ K.fuse keeper.old }
-    ensures own { CoreCause (K.own keeper.old) (K.own keeper.new) result }
-    ensures quiet { StaysQuiet (K.quiet keeper.old) (K.quiet keeper.new) (K.own keeper.old) (K.own keeper.new) }
-    ensures cause { CoreCause (K.faults keeper.old) (K.faults keeper.new) result }
+    ensures reads { Reads K.Keeper (is_fault result) keeper.old keeper.new }
 {
     let made = write_block(alloc, links.as_slice(), &delta)?;
     check_size(made.bytes.as_slice())?;

@@ -1,10 +1,9 @@
 // The commits that take up a block, with all their memory taken.
-ghost use Rattle.std.specs.Prelude.{◌≡◌, ◌≤◌, ◌∷◌, [], Ok, true, false, map, List, IfSome, IfOk, OnOk, IfErr};
-ghost use Rattle.std.specs.List.{list_all};
+ghost use Rattle.mc_keep.specs.Calls.{Reads};
+ghost use Rattle.std.specs.Prelude.{◌≡◌, ◌≤◌, ◌∷◌, [], Ok, true, false, map, List, IfSome, IfOk};
 ghost use Rattle.mc_model.specs.declared.block.Block.{Block};
-ghost use Rattle.mc_model.specs.Front.{is_among};
-ghost use Rattle.mc_model.specs.Kept.{Kept, bytes_at, is_stored};
-ghost use Rattle.mc_keep.specs.Causes.{IfTold, KeepCause, StaysQuiet};
+ghost use Rattle.mc_model.specs.Kept.{is_stored};
+ghost use Rattle.mc_keep.specs.Causes.{IfTold, OnFailed};
 ghost use Rattle.mc_keep.specs.Changes.{no_changes};
 ghost use Rattle.mc_keep.specs.New.{AreNew};
 ghost use Rattle.mc_core.specs.Plans.{IsNew, IsPlan, IsShaped, Processes, plan_rows};
@@ -35,12 +34,7 @@ pub(crate) fn process_changes<K: Keeper>(
     ensures process { IfTold (K.told keeper.old) result (λ kept changes. Processes kept whole blocks.now (map (λ (block : Block). block.cid) blocks.now) changes) }
     ensures only { IfOk result (λ changes. changes.store ≡ []) }
     ensures marks { IfOk result (λ changes. changes.marks ≡ map (λ (block : Block). block.cid) blocks.now) }
-    ensures told { K.told keeper.new ≡ K.told keeper.old }
-    ensures fuse { K.fuse keeper.new ≡ K.fuse keeper.old }
-    ensures spare { K.spare keeper.old ≤ K.spare keeper.new }
-    ensures own { KeepCause (K.own keeper.old) (K.own keeper.new) result }
-    ensures quiet { StaysQuiet (K.quiet keeper.old) (K.quiet keeper.new) (K.own keeper.old) (K.own keeper.new) }
-    ensures cause { KeepCause (K.faults keeper.old) (K.faults keeper.new) result }
+    ensures reads { Reads K.Keeper (is_fault result) keeper.old keeper.new }
 {
     let mut changes = Changes::new(alloc);
     merge(keeper, alloc, blocks, &mut changes)?;
@@ -86,11 +80,7 @@ pub(crate) fn plan_block<K: Keeper>(
     ensures plan { IfTold (K.told keeper.old) result (λ kept plan. IsPlan kept whole block.now bytes plan) }
     ensures shape { IfOk result IsShaped }
     ensures room { IfOk result (λ plan. plan_rows plan ≤ K.spare keeper.new) }
-    ensures told { K.told keeper.new ≡ K.told keeper.old }
-    ensures fuse { K.fuse keeper.new ≡ K.fuse keeper.old }
-    ensures own { KeepCause (K.own keeper.old) (K.own keeper.new) result }
-    ensures quiet { StaysQuiet (K.quiet keeper.old) (K.quiet keeper.new) (K.own keeper.old) (K.own keeper.new) }
-    ensures cause { KeepCause (K.faults keeper.old) (K.faults keeper.new) result }
+    ensures reads { Reads K.Keeper (is_fault result) keeper.old keeper.new }
 {
     let process = process_changes(keeper, alloc, one(block), whole)?;
     let store = store_changes(alloc, block.cid, bytes, known)?;

@@ -1,9 +1,10 @@
 // Puts, up to their commits.
+ghost use Rattle.mc_keep.specs.Calls.{Reads};
 ghost use Rattle.std.specs.Prelude.{◌≡◌, ◌≤◌, None, Some, IfOk, IfSome, IfErr, OnOk};
-ghost use Rattle.mc_keep.specs.Causes.{IfTold, StaysQuiet};
+ghost use Rattle.mc_keep.specs.Causes.{IfTold};
 ghost use Rattle.mc_core.specs.Plans.{IsShaped, plan_rows};
 ghost use Rattle.mc_core.specs.Puts.{IsPlanned, next_links, delta_of_put, put_made_refusal, put_kept_refusal};
-ghost use Rattle.mc_core.specs.Refusals.{CoreCause, Is, IsDue, key_refusal, value_refusal};
+ghost use Rattle.mc_core.specs.Refusals.{Is, IsDue, key_refusal, value_refusal, OnFault};
 
 use crate::CoreError;
 use crate::commits::is_sound;
@@ -51,11 +52,7 @@ fn plan_made_put<K: Keeper>(
     ensures refused { IfSome (K.told keeper.old) (λ kept. IfErr result (IsDue (Is (put_made_refusal kept key.now value.now)))) }
     ensures shape { IfOk result (λ planned. IsShaped planned.plan) }
     ensures room { IfOk result (λ planned. plan_rows planned.plan ≤ K.spare keeper.new) }
-    ensures told { K.told keeper.new ≡ K.told keeper.old }
-    ensures fuse { K.fuse keeper.new ≡ K.fuse keeper.old }
-    ensures own { CoreCause (K.own keeper.old) (K.own keeper.new) result }
-    ensures quiet { StaysQuiet (K.quiet keeper.old) (K.quiet keeper.new) (K.own keeper.old) (K.own keeper.new) }
-    ensures cause { CoreCause (K.faults keeper.old) (K.faults keeper.new) result }
+    ensures reads { Reads K.Keeper (is_fault result) keeper.old keeper.new }
 {
     is_sound(keeper);
     kept_is_durable();
@@ -77,11 +74,7 @@ pub(crate) fn plan_put<K: Keeper>(
     ensures refused { IfSome (K.told keeper.old) (λ kept. IfErr result (IsDue (Is (put_kept_refusal kept key.now value.now)))) }
     ensures shape { IfOk result (λ planned. IsShaped planned.plan) }
     ensures room { IfOk result (λ planned. plan_rows planned.plan ≤ K.spare keeper.new) }
-    ensures told { K.told keeper.new ≡ K.told keeper.old }
-    ensures fuse { K.fuse keeper.new ≡ K.fuse keeper.old }
-    ensures own { CoreCause (K.own keeper.old) (K.own keeper.new) result }
-    ensures quiet { StaysQuiet (K.quiet keeper.old) (K.quiet keeper.new) (K.own keeper.old) (K.own keeper.new) }
-    ensures cause { CoreCause (K.faults keeper.old) (K.faults keeper.new) result }
+    ensures reads { Reads K.Keeper (is_fault result) keeper.old keeper.new }
 {
     let key = check_key(key)?;
     check_value(value)?;

@@ -1,5 +1,6 @@
 // The calls of a replica that only read.
-ghost use Rattle.std.specs.Prelude.{◌≡◌, ◌≤◌, map, length, slice_get};
+ghost use Rattle.mc_core.specs.Words.{Continues, Acts};
+ghost use Rattle.std.specs.Prelude.{◌≡◌, map, slice_get};
 ghost use Rattle.std.specs.List.{position};
 ghost use Rattle.mc_base.specs.Causes.{Rose};
 ghost use Rattle.mc_base.specs.Told.{Told};
@@ -9,13 +10,11 @@ ghost use Rattle.mc_model.specs.Answers.{has_value};
 ghost use Rattle.mc_model.specs.Front.{heads, same_cid};
 ghost use Rattle.mc_model.specs.Kept.{processed};
 ghost use Rattle.mc_model.specs.Live.{value};
-ghost use Rattle.mc_keep.specs.Causes.{StaysQuiet};
 ghost use Rattle.mc_keep.specs.Changes.{heads_in_rows};
 ghost use Rattle.mc_query.specs.Places.{pair_of};
 ghost use Rattle.mc_core.specs.Calls.{Call};
 ghost use Rattle.mc_core.specs.Reads.{Reads, read_refusal};
-ghost use Rattle.mc_core.specs.Refusals.{CoreCause, Is};
-ghost use Rattle.mc_core.specs.Reports.{StaysCounted};
+ghost use Rattle.mc_core.specs.Refusals.{Is, OnFault};
 ghost use Rattle.mc_core.specs.Replica.{replica_state};
 
 use crate::error::stops;
@@ -29,12 +28,8 @@ use std::alloc::Global;
 impl<K: Keeper> Replica<K> {
     /// The value of a key over the processed blocks, or none where it has none. The key is any text. Refusals: `Stopped`.
     pub fn get(&mut self, alloc: Global, key: &str) -> Result<Option<Bytes>, CoreError>
-        ensures call { Told (replica_state K.told K.fuse self.old) (replica_state K.told K.fuse self.new) (λ s new.
-            Call (Is (read_refusal s)) (Reads (λ kept found. found ≡ value (processed kept) key.now) s) (λ left. left ≡ s) (Rose (K.own self.old.keeper) (K.own self.new.keeper)) result s new) }
-        ensures counted { StaysCounted self.new.stopped (K.told self.old.keeper) self.old.numbers (K.told self.new.keeper) self.new.numbers }
-        ensures own { K.own self.old.keeper ≤ K.own self.new.keeper }
-        ensures quiet { StaysQuiet (K.quiet self.old.keeper) (K.quiet self.new.keeper) (K.own self.old.keeper) (K.own self.new.keeper) }
-        ensures cause { CoreCause (K.faults self.old.keeper) (K.faults self.new.keeper) result }
+        ensures call { Acts K.Keeper (λ s. Is (read_refusal s)) (Reads (λ kept found. found ≡ value (processed kept) key.now)) (λ s left. left ≡ s) result self.old self.new }
+        ensures keeps { Continues K.Keeper (is_fault result) self.old self.new }
     {
         kept_is_durable();
         if self.stopped {
@@ -54,10 +49,7 @@ impl<K: Keeper> Replica<K> {
     pub fn has(&mut self, key: &str) -> Result<bool, CoreError>
         ensures call { Told (replica_state K.told K.fuse self.old) (replica_state K.told K.fuse self.new) (λ s new.
             Call (Is (read_refusal s)) (Reads (λ kept found. found ≡ has_value (processed kept) key.now) s) (λ left. left ≡ s) (Rose (K.own self.old.keeper) (K.own self.new.keeper)) result s new) }
-        ensures counted { StaysCounted self.new.stopped (K.told self.old.keeper) self.old.numbers (K.told self.new.keeper) self.new.numbers }
-        ensures own { K.own self.old.keeper ≤ K.own self.new.keeper }
-        ensures quiet { StaysQuiet (K.quiet self.old.keeper) (K.quiet self.new.keeper) (K.own self.old.keeper) (K.own self.new.keeper) }
-        ensures cause { CoreCause (K.faults self.old.keeper) (K.faults self.new.keeper) result }
+        ensures keeps { Continues K.Keeper (is_fault result) self.old self.new }
     {
         kept_is_durable();
         if self.stopped {
@@ -84,10 +76,7 @@ impl<K: Keeper> Replica<K> {
     ) -> Result<List<Pair>, CoreError>
         ensures call { Told (replica_state K.told K.fuse self.old) (replica_state K.told K.fuse self.new) (λ s new.
             Call (Is (read_refusal s)) (Reads (λ kept pairs. map pair_of pairs ≡ answers.query (processed kept) (is_under prefix.now) skip count) s) (λ left. left ≡ s) (Rose (K.own self.old.keeper) (K.own self.new.keeper)) result s new) }
-        ensures counted { StaysCounted self.new.stopped (K.told self.old.keeper) self.old.numbers (K.told self.new.keeper) self.new.numbers }
-        ensures own { K.own self.old.keeper ≤ K.own self.new.keeper }
-        ensures quiet { StaysQuiet (K.quiet self.old.keeper) (K.quiet self.new.keeper) (K.own self.old.keeper) (K.own self.new.keeper) }
-        ensures cause { CoreCause (K.faults self.old.keeper) (K.faults self.new.keeper) result }
+        ensures keeps { Continues K.Keeper (is_fault result) self.old self.new }
     {
         kept_is_durable();
         if self.stopped {
@@ -107,10 +96,7 @@ impl<K: Keeper> Replica<K> {
     pub fn heads(&mut self, alloc: Global) -> Result<List<HeadRow>, CoreError>
         ensures call { Told (replica_state K.told K.fuse self.old) (replica_state K.told K.fuse self.new) (λ s new.
             Call (Is (read_refusal s)) (Reads (λ kept rows. heads_in_rows rows ≡ heads (processed kept)) s) (λ left. left ≡ s) (Rose (K.own self.old.keeper) (K.own self.new.keeper)) result s new) }
-        ensures counted { StaysCounted self.new.stopped (K.told self.old.keeper) self.old.numbers (K.told self.new.keeper) self.new.numbers }
-        ensures own { K.own self.old.keeper ≤ K.own self.new.keeper }
-        ensures quiet { StaysQuiet (K.quiet self.old.keeper) (K.quiet self.new.keeper) (K.own self.old.keeper) (K.own self.new.keeper) }
-        ensures cause { CoreCause (K.faults self.old.keeper) (K.faults self.new.keeper) result }
+        ensures keeps { Continues K.Keeper (is_fault result) self.old self.new }
     {
         kept_is_durable();
         if self.stopped {
@@ -131,10 +117,7 @@ impl<K: Keeper> Replica<K> {
     pub fn position(&mut self, cid: &Cid) -> Result<Option<u64>, CoreError>
         ensures call { Told (replica_state K.told K.fuse self.old) (replica_state K.told K.fuse self.new) (λ s new.
             Call (Is (read_refusal s)) (Reads (λ kept place. place ≡ position (same_cid cid.now) kept.order) s) (λ left. left ≡ s) (Rose (K.own self.old.keeper) (K.own self.new.keeper)) result s new) }
-        ensures counted { StaysCounted self.new.stopped (K.told self.old.keeper) self.old.numbers (K.told self.new.keeper) self.new.numbers }
-        ensures own { K.own self.old.keeper ≤ K.own self.new.keeper }
-        ensures quiet { StaysQuiet (K.quiet self.old.keeper) (K.quiet self.new.keeper) (K.own self.old.keeper) (K.own self.new.keeper) }
-        ensures cause { CoreCause (K.faults self.old.keeper) (K.faults self.new.keeper) result }
+        ensures keeps { Continues K.Keeper (is_fault result) self.old self.new }
     {
         kept_is_durable();
         if self.stopped {
@@ -154,10 +137,7 @@ impl<K: Keeper> Replica<K> {
     pub fn at(&mut self, position: u64) -> Result<Option<Cid>, CoreError>
         ensures call { Told (replica_state K.told K.fuse self.old) (replica_state K.told K.fuse self.new) (λ s new.
             Call (Is (read_refusal s)) (Reads (λ kept cid. cid ≡ slice_get kept.order position) s) (λ left. left ≡ s) (Rose (K.own self.old.keeper) (K.own self.new.keeper)) result s new) }
-        ensures counted { StaysCounted self.new.stopped (K.told self.old.keeper) self.old.numbers (K.told self.new.keeper) self.new.numbers }
-        ensures own { K.own self.old.keeper ≤ K.own self.new.keeper }
-        ensures quiet { StaysQuiet (K.quiet self.old.keeper) (K.quiet self.new.keeper) (K.own self.old.keeper) (K.own self.new.keeper) }
-        ensures cause { CoreCause (K.faults self.old.keeper) (K.faults self.new.keeper) result }
+        ensures keeps { Continues K.Keeper (is_fault result) self.old self.new }
     {
         kept_is_durable();
         if self.stopped {

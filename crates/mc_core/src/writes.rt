@@ -1,15 +1,14 @@
 // The calls of a replica that make one block.
+ghost use Rattle.mc_core.specs.Words.{Continues, Acts};
 ghost use Rattle.std.specs.Prelude.{◌≡◌, ◌≤◌, false, IfOk, IfErr, IfSome};
 ghost use Rattle.mc_base.specs.Causes.{Rose};
 ghost use Rattle.mc_base.specs.Told.{Told};
-ghost use Rattle.mc_keep.specs.Causes.{StaysQuiet};
 ghost use Rattle.mc_core.specs.declared.error.CoreError.{CoreError as Refused};
 ghost use Rattle.mc_core.specs.Calls.{Call};
 ghost use Rattle.mc_core.specs.Events.{Part};
 ghost use Rattle.mc_core.specs.Plans.{IsShaped, IsSomePlan, plan_events, plan_rows};
 ghost use Rattle.mc_core.specs.Puts.{PutPlan, put_refusal};
-ghost use Rattle.mc_core.specs.Refusals.{CoreCause, Is};
-ghost use Rattle.mc_core.specs.Reports.{StaysCounted};
+ghost use Rattle.mc_core.specs.Refusals.{Is, OnFault};
 ghost use Rattle.mc_core.specs.Replica.{replica_state};
 
 use crate::error::stops;
@@ -26,12 +25,8 @@ impl<K: Keeper> Replica<K> {
     /// memory is taken before the first commit. Refusals in their order: `Stopped`, `BadKey`, `ValueTooLong`,
     /// `PriorityFull`, `BlockTooLarge`, `Clash`; these and `Memory` leave the replica as it was.
     pub fn put(&mut self, alloc: Global, key: &str, value: &[u8]) -> Result<Written, CoreError>
-        ensures call { Told (replica_state K.told K.fuse self.old) (replica_state K.told K.fuse self.new) (λ s new.
-            Call (Is (put_refusal s key.now value.now)) (PutPlan s key.now value.now) (λ left. left ≡ s) (Rose (K.own self.old.keeper) (K.own self.new.keeper)) result s new) }
-        ensures counted { StaysCounted self.new.stopped (K.told self.old.keeper) self.old.numbers (K.told self.new.keeper) self.new.numbers }
-        ensures own { K.own self.old.keeper ≤ K.own self.new.keeper }
-        ensures quiet { StaysQuiet (K.quiet self.old.keeper) (K.quiet self.new.keeper) (K.own self.old.keeper) (K.own self.new.keeper) }
-        ensures cause { CoreCause (K.faults self.old.keeper) (K.faults self.new.keeper) result }
+        ensures call { Acts K.Keeper (λ s. Is (put_refusal s key.now value.now)) (λ s. PutPlan s key.now value.now) (λ s left. left ≡ s) result self.old self.new }
+        ensures keeps { Continues K.Keeper (is_fault result) self.old self.new }
     {
         kept_is_durable();
         if self.stopped {
@@ -59,10 +54,7 @@ impl<K: Keeper> Replica<K> {
         ensures up { IfOk result (λ written. self.new.stopped ≡ false) }
         ensures whole { self.new.whole ≡ self.old.whole }
         ensures batch { self.new.batch ≡ self.old.batch }
-        ensures counted { StaysCounted self.new.stopped (K.told self.old.keeper) self.old.numbers (K.told self.new.keeper) self.new.numbers }
-        ensures own { K.own self.old.keeper ≤ K.own self.new.keeper }
-        ensures quiet { StaysQuiet (K.quiet self.old.keeper) (K.quiet self.new.keeper) (K.own self.old.keeper) (K.own self.new.keeper) }
-        ensures cause { CoreCause (K.faults self.old.keeper) (K.faults self.new.keeper) result }
+        ensures keeps { Continues K.Keeper (is_fault result) self.old self.new }
     {
         let Planned { plan, written } = planned;
         match self.carry_out(plan) {

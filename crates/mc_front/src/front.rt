@@ -1,9 +1,10 @@
 // What the blocks of a group do to the front.
-ghost use Rattle.std.specs.Prelude.{◌≡◌, ◌≤◌, ◌<◌, ◌+◌, ◌-◌, ◌^◌, ◌++◌, [], None, List, IfSome, IfOk, OnOk, OnErr, filter, length, map};
+ghost use Rattle.std.specs.Prelude.{◌≡◌, ◌<◌, ◌+◌, ◌-◌, ◌^◌, ◌++◌, [], None, List, IfSome, IfOk, OnOk, OnErr, filter, length, map};
 ghost use Rattle.mc_model.specs.declared.block.Block.{Block};
 ghost use Rattle.mc_model.specs.Front.{is_among, gaps};
 ghost use Rattle.mc_model.specs.Kept.{processed};
-ghost use Rattle.mc_keep.specs.Causes.{IfTold, KeepCause, StaysQuiet};
+ghost use Rattle.mc_keep.specs.Calls.{Reads};
+ghost use Rattle.mc_keep.specs.Causes.{IfTold, OnFailed};
 ghost use Rattle.mc_keep.specs.New.{AreNew};
 ghost use Rattle.mc_keep.specs.Tables.{FrontFits};
 ghost use Rattle.mc_front.specs.Front.{HeadsOut, MarkFits, new_heads as heads_of};
@@ -49,12 +50,7 @@ pub fn front_changes<K: Keeper>(
     ensures mark { OnOk result (IfSome (K.told keeper.old) (λ kept. MarkFits whole kept.mark (processed kept ++ blocks.now) changes.new.mark)) }
     ensures others { (changes.new.store ≡ changes.old.store) × (changes.new.elements ≡ changes.old.elements) × (changes.new.tombs ≡ changes.old.tombs) × (changes.new.values ≡ changes.old.values) }
     ensures refused { OnErr result (changes.new ≡ changes.old) }
-    ensures told { K.told keeper.new ≡ K.told keeper.old }
-    ensures fuse { K.fuse keeper.new ≡ K.fuse keeper.old }
-    ensures spare { K.spare keeper.old ≤ K.spare keeper.new }
-    ensures own { KeepCause (K.own keeper.old) (K.own keeper.new) result }
-    ensures quiet { StaysQuiet (K.quiet keeper.old) (K.quiet keeper.new) (K.own keeper.old) (K.own keeper.new) }
-    ensures cause { KeepCause (K.faults keeper.old) (K.faults keeper.new) result }
+    ensures reads { Reads K.Keeper (is_fault result) keeper.old keeper.new }
 {
     let rows = rows_of(keeper, alloc, blocks)?;
     let summary = keeper.summary()?;
@@ -72,12 +68,7 @@ fn rows_of<K: Keeper>(keeper: &mut K, alloc: Global, blocks: &[Block]) -> Result
     ensures links { IfTold (K.told keeper.old) result (λ kept rows. rows.links ≡ unlinked (processed kept) (different_links blocks.now)) }
     ensures heads_out { IfTold (K.told keeper.old) result (λ kept rows. rows.heads_out ≡ filter (is_among kept.order) rows.links) }
     ensures heads_in { IfTold (K.told keeper.old) result (λ kept rows. rows.heads_in ≡ rows_of_heads (processed kept) (different_links blocks.now) blocks.now) }
-    ensures told { K.told keeper.new ≡ K.told keeper.old }
-    ensures fuse { K.fuse keeper.new ≡ K.fuse keeper.old }
-    ensures spare { K.spare keeper.old ≤ K.spare keeper.new }
-    ensures own { KeepCause (K.own keeper.old) (K.own keeper.new) result }
-    ensures quiet { StaysQuiet (K.quiet keeper.old) (K.quiet keeper.new) (K.own keeper.old) (K.own keeper.new) }
-    ensures cause { KeepCause (K.faults keeper.old) (K.faults keeper.new) result }
+    ensures reads { Reads K.Keeper (is_fault result) keeper.old keeper.new }
 {
     let marks = marks_of(alloc, blocks)?;
     let all = links_of(alloc, blocks)?;

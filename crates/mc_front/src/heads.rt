@@ -1,8 +1,8 @@
 // The new heads of a group of blocks.
-ghost use Rattle.std.specs.Prelude.{◌≡◌, ◌≤◌};
-ghost use Rattle.mc_base.specs.Causes.{HasCause};
+ghost use Rattle.std.specs.Prelude.{◌≡◌, OnErr};
 ghost use Rattle.mc_model.specs.Kept.{processed};
-ghost use Rattle.mc_keep.specs.Causes.{IfTold, KeepCause, StaysQuiet};
+ghost use Rattle.mc_keep.specs.Calls.{Reads};
+ghost use Rattle.mc_keep.specs.Causes.{IfTold, OnFailed};
 ghost use Rattle.mc_front.specs.Steps.{leads_to, rows_of_heads};
 ghost use Rattle.mc_front.specs.Front.{head_row};
 
@@ -21,12 +21,7 @@ pub(crate) fn new_heads<K: Keeper>(
     links: &IndexSet<Cid>,
 ) -> Result<List<HeadRow>, KeepError>
     ensures heads { IfTold (K.told keeper.old) result (λ kept heads. heads ≡ rows_of_heads (processed kept) links.now.keys blocks.now) }
-    ensures told { K.told keeper.new ≡ K.told keeper.old }
-    ensures fuse { K.fuse keeper.new ≡ K.fuse keeper.old }
-    ensures spare { K.spare keeper.old ≤ K.spare keeper.new }
-    ensures own { KeepCause (K.own keeper.old) (K.own keeper.new) result }
-    ensures quiet { StaysQuiet (K.quiet keeper.old) (K.quiet keeper.new) (K.own keeper.old) (K.own keeper.new) }
-    ensures cause { KeepCause (K.faults keeper.old) (K.faults keeper.new) result }
+    ensures reads { Reads K.Keeper (is_fault result) keeper.old keeper.new }
 {
     let mut heads = List::new(alloc);
     for block in blocks {
@@ -48,12 +43,7 @@ fn head_of(block: &Block) -> HeadRow
 
 fn is_led_to<K: Keeper>(keeper: &mut K, links: &IndexSet<Cid>, cid: &Cid) -> Result<bool, Failed>
     ensures found { IfTold (K.told keeper.old) result (λ kept found. found ≡ leads_to (processed kept) links.now.keys cid.now) }
-    ensures told { K.told keeper.new ≡ K.told keeper.old }
-    ensures fuse { K.fuse keeper.new ≡ K.fuse keeper.old }
-    ensures spare { K.spare keeper.old ≤ K.spare keeper.new }
-    ensures own { HasCause (K.own keeper.old) (K.own keeper.new) result }
-    ensures quiet { StaysQuiet (K.quiet keeper.old) (K.quiet keeper.new) (K.own keeper.old) (K.own keeper.new) }
-    ensures cause { HasCause (K.faults keeper.old) (K.faults keeper.new) result }
+    ensures reads { Reads K.Keeper (is_err result) keeper.old keeper.new }
 {
     if links.contains(cid) {
         return Ok(true);

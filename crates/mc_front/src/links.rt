@@ -1,10 +1,10 @@
 // The links of a group of blocks, and those of them that are new.
-ghost use Rattle.std.specs.Prelude.{◌≡◌, ◌≤◌, IfOk, OnOk, fold, filter};
+ghost use Rattle.std.specs.Prelude.{◌≡◌, IfOk, OnOk, fold, filter, OnErr};
 ghost use Rattle.indexmap.specs.IndexSet.{insert_key};
-ghost use Rattle.mc_base.specs.Causes.{HasCause};
 ghost use Rattle.mc_model.specs.Front.{same_cid, is_among};
 ghost use Rattle.mc_model.specs.Kept.{processed};
-ghost use Rattle.mc_keep.specs.Causes.{IfTold, KeepCause, StaysQuiet};
+ghost use Rattle.mc_keep.specs.Calls.{Reads};
+ghost use Rattle.mc_keep.specs.Causes.{IfTold, OnFailed};
 ghost use Rattle.mc_front.specs.Steps.{with_links, different_links, unlinked};
 
 use crate::adding::add;
@@ -41,12 +41,7 @@ pub(crate) fn new_links<K: Keeper>(
     links: &[Cid],
 ) -> Result<List<Cid>, KeepError>
     ensures new { IfTold (K.told keeper.old) result (λ kept new. new ≡ unlinked (processed kept) links.now) }
-    ensures told { K.told keeper.new ≡ K.told keeper.old }
-    ensures fuse { K.fuse keeper.new ≡ K.fuse keeper.old }
-    ensures spare { K.spare keeper.old ≤ K.spare keeper.new }
-    ensures own { KeepCause (K.own keeper.old) (K.own keeper.new) result }
-    ensures quiet { StaysQuiet (K.quiet keeper.old) (K.quiet keeper.new) (K.own keeper.old) (K.own keeper.new) }
-    ensures cause { KeepCause (K.faults keeper.old) (K.faults keeper.new) result }
+    ensures reads { Reads K.Keeper (is_fault result) keeper.old keeper.new }
 {
     let mut new = List::new(alloc);
     for link in links {
@@ -64,12 +59,7 @@ pub(crate) fn old_heads<K: Keeper>(
     links: &[Cid],
 ) -> Result<List<Cid>, KeepError>
     ensures old { IfTold (K.told keeper.old) result (λ kept old. old ≡ filter (is_among kept.order) links.now) }
-    ensures told { K.told keeper.new ≡ K.told keeper.old }
-    ensures fuse { K.fuse keeper.new ≡ K.fuse keeper.old }
-    ensures spare { K.spare keeper.old ≤ K.spare keeper.new }
-    ensures own { KeepCause (K.own keeper.old) (K.own keeper.new) result }
-    ensures quiet { StaysQuiet (K.quiet keeper.old) (K.quiet keeper.new) (K.own keeper.old) (K.own keeper.new) }
-    ensures cause { KeepCause (K.faults keeper.old) (K.faults keeper.new) result }
+    ensures reads { Reads K.Keeper (is_fault result) keeper.old keeper.new }
 {
     let mut old = List::new(alloc);
     for link in links {
@@ -82,12 +72,7 @@ pub(crate) fn old_heads<K: Keeper>(
 
 fn is_processed<K: Keeper>(keeper: &mut K, cid: &Cid) -> Result<bool, Failed>
     ensures found { IfTold (K.told keeper.old) result (λ kept found. found ≡ is_among kept.order cid.now) }
-    ensures told { K.told keeper.new ≡ K.told keeper.old }
-    ensures fuse { K.fuse keeper.new ≡ K.fuse keeper.old }
-    ensures spare { K.spare keeper.old ≤ K.spare keeper.new }
-    ensures own { HasCause (K.own keeper.old) (K.own keeper.new) result }
-    ensures quiet { StaysQuiet (K.quiet keeper.old) (K.quiet keeper.new) (K.own keeper.old) (K.own keeper.new) }
-    ensures cause { HasCause (K.faults keeper.old) (K.faults keeper.new) result }
+    ensures reads { Reads K.Keeper (is_err result) keeper.old keeper.new }
 {
     Ok(keeper.position(cid)?.is_some())
 }

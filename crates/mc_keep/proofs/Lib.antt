@@ -2,4 +2,5 @@ pub mod Commits
 pub mod ElementTies
 pub mod Processed
 pub mod Fitting
+pub mod Frames
 pub mod Lives

@@ -6,6 +6,23 @@ use Rattle.mc_keep.specs.declared.error.KeepError.{KeepError}
 use Rattle.mc_keep.specs.declared.error.KeepError.TheVariants.{Failed, Memory}
 use Rattle.mc_keep.specs.declared.fuse.Fuse.{Fuse}
 
+-- what an answer that is no Ok means: nothing was done, for a cause of the caller's or of the content; the keeper failed; or
+-- memory was wanted
+pub data Kind : Type 0 where
+  Refusal : Kind
+  Fault : Kind
+  Shortage : Kind
+
+abbrev pub is_fault_kind : Kind → Bool
+is_fault_kind Refusal = false
+is_fault_kind Fault = true
+is_fault_kind Shortage = false
+
+-- whether a call failed, by what its errors mean
+abbrev pub fails : {T E : Type 0} → (E → Kind) → Result T E → Bool
+fails kind (Ok value) = false
+fails kind (Err error) = is_fault_kind (kind error)
+
 -- what holds of what is told and of an Ok
 abbrev pub IfTold : {T E : Type 0} → Option Kept → Result T E → (Kept → T → Type 0) → Type 0
 IfTold told result P = IfSome told (λ kept. IfOk result (λ value. P kept value))

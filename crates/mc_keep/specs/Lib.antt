@@ -1,6 +1,8 @@
 pub mod Causes
+pub mod Calls
 pub mod Changes
 pub mod ElementOrder
+pub mod Frame
 pub mod HeadOrder
 pub mod New
 pub mod Next

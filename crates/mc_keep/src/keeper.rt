@@ -3,13 +3,14 @@ ghost use Rattle.std.specs.Prelude.{◌≡◌, ◌≤◌, ◌+◌, ℕ, Bool, Op
 ghost use Rattle.std.specs.Result.{is_err};
 ghost use Rattle.std.specs.Option.{option_map};
 ghost use Rattle.std.specs.List.{position};
-ghost use Rattle.mc_base.specs.Causes.{Rose, HasCause};
+ghost use Rattle.mc_base.specs.Causes.{Rose};
 ghost use Rattle.mc_base.specs.Told.{Told};
 ghost use Rattle.mc_model.specs.Ascending.{Ascends};
 ghost use Rattle.mc_model.specs.Live.{has_tomb, value_row};
 ghost use Rattle.mc_model.specs.Front.{same_cid, is_linked, heads};
 ghost use Rattle.mc_model.specs.Kept.{Kept, IsKept, processed, bytes_at, is_stored};
-ghost use Rattle.mc_keep.specs.Causes.{IfTold, KeepCause, StaysQuiet, burnt, fires, CommitFails};
+ghost use Rattle.mc_keep.specs.Causes.{IfTold, KeepCause, StaysQuiet, fires, CommitFails};
+ghost use Rattle.mc_keep.specs.Frame.{ReadsAt, ReservesAt, CommitsAt};
 ghost use Rattle.mc_keep.specs.Changes.{row_count, changed, heads_in_rows};
 ghost use Rattle.mc_keep.specs.Next.{IsNext};
 ghost use Rattle.mc_keep.specs.ElementOrder.{element_cmp};
@@ -27,11 +28,11 @@ use std::sync::Wait;
 /// A keeper that tells stands for the stored blocks, the order of the processed ones, and the dirty mark; its tables are
 /// then exactly those that the definitions give for these. A keeper that does not tell owes no content, and never tells. No call but
 /// `commit` changes what is told, also where it fails. `Failed` comes only where the keeper's count rose in the call.
-pub trait Keeper: Counted + Send + Sync {
+pub trait Keeper: Counted {
     ghost use Rattle.mc_keep.specs.declared.fuse.Fuse.{Fuse};
 
     /// A place from which another thread reads blocks.
-    type Desk: Counted + Send;
+    type Desk: Counted;
 
     /// The stored blocks, the order of the processed ones, and the mark, where they are told.
     ghost told: { Self → Option Kept };
@@ -65,13 +66,8 @@ pub trait Keeper: Counted + Send + Sync {
     fn desk(&mut self, alloc: Global) -> Result<Self::Desk, KeepError>
         ensures fresh { IfOk result (λ desk. Self.Desk.faults desk ≡ 0) }
         ensures quiet_desk { quiet self.old ≡ true → IfOk result (λ desk. quiet_desk desk ≡ true) }
-        ensures told { told self.new ≡ told self.old }
-        ensures fuse { fuse self.new ≡ fuse self.old }
-        ensures spare { spare self.old ≤ spare self.new }
-        ensures own { KeepCause (own self.old) (own self.new) result }
-        ensures quiet { StaysQuiet (quiet self.old) (quiet self.new) (own self.old) (own self.new) }
-        ensures planned { DeskAsPlanned desk_schedule (schedule self.old) (schedule self.new) result }
-        ensures cause { KeepCause (Self.faults self.old) (Self.faults self.new) result };
+        ensures reads { ReadsAt told fuse spare own Self.faults quiet (is_fault result) self.old self.new }
+        ensures planned { DeskAsPlanned desk_schedule (schedule self.old) (schedule self.new) result };
 
     /// The bytes of a stored block, or none where it is not stored, read by another thread beside the owner's calls.
     /// `Failed` comes only where the desk's count rose.
@@ -91,135 +87,75 @@ pub trait Keeper: Counted + Send + Sync {
     fn summary(&mut self) -> Result<Summary, Failed>
         ensures row { IfTold (told self.old) result (λ kept summary. IsSummary kept summary) }
         ensures below { IfOk result IsSmall }
-        ensures told { told self.new ≡ told self.old }
-        ensures fuse { fuse self.new ≡ fuse self.old }
-        ensures spare { spare self.old ≤ spare self.new }
-        ensures own { HasCause (own self.old) (own self.new) result }
-        ensures quiet { StaysQuiet (quiet self.old) (quiet self.new) (own self.old) (own self.new) }
-        ensures planned { ReadsAsPlanned (schedule self.old) (schedule self.new) (is_err result) }
-        ensures cause { HasCause (Self.faults self.old) (Self.faults self.new) result };
+        ensures reads { ReadsAt told fuse spare own Self.faults quiet (is_err result) self.old self.new }
+        ensures planned { ReadsAsPlanned (schedule self.old) (schedule self.new) (is_err result) };
 
     /// The bytes of a stored block, or none where it is not stored.
     fn block(&mut self, alloc: Global, cid: &Cid) -> Result<Option<Bytes>, KeepError>
         ensures row { IfTold (told self.old) result (λ kept bytes. bytes ≡ bytes_at kept.graph cid.now) }
-        ensures told { told self.new ≡ told self.old }
-        ensures fuse { fuse self.new ≡ fuse self.old }
-        ensures spare { spare self.old ≤ spare self.new }
-        ensures own { KeepCause (own self.old) (own self.new) result }
-        ensures quiet { StaysQuiet (quiet self.old) (quiet self.new) (own self.old) (own self.new) }
-        ensures planned { ReadsAsPlanned (schedule self.old) (schedule self.new) (is_fault result) }
-        ensures cause { KeepCause (Self.faults self.old) (Self.faults self.new) result };
+        ensures reads { ReadsAt told fuse spare own Self.faults quiet (is_fault result) self.old self.new }
+        ensures planned { ReadsAsPlanned (schedule self.old) (schedule self.new) (is_fault result) };
 
     /// Whether the block is stored.
     fn stored(&mut self, cid: &Cid) -> Result<bool, Failed>
         ensures row { IfTold (told self.old) result (λ kept found. found ≡ is_stored kept.graph cid.now) }
-        ensures told { told self.new ≡ told self.old }
-        ensures fuse { fuse self.new ≡ fuse self.old }
-        ensures spare { spare self.old ≤ spare self.new }
-        ensures own { HasCause (own self.old) (own self.new) result }
-        ensures quiet { StaysQuiet (quiet self.old) (quiet self.new) (own self.old) (own self.new) }
-        ensures planned { ReadsAsPlanned (schedule self.old) (schedule self.new) (is_err result) }
-        ensures cause { HasCause (Self.faults self.old) (Self.faults self.new) result };
+        ensures reads { ReadsAt told fuse spare own Self.faults quiet (is_err result) self.old self.new }
+        ensures planned { ReadsAsPlanned (schedule self.old) (schedule self.new) (is_err result) };
 
     /// The place of the block in the order of processing, counted from 0, or none where it is not processed.
     fn position(&mut self, cid: &Cid) -> Result<Option<u64>, Failed>
         ensures row { IfTold (told self.old) result (λ kept place. place ≡ position (same_cid cid.now) kept.order) }
-        ensures told { told self.new ≡ told self.old }
-        ensures fuse { fuse self.new ≡ fuse self.old }
-        ensures spare { spare self.old ≤ spare self.new }
-        ensures own { HasCause (own self.old) (own self.new) result }
-        ensures quiet { StaysQuiet (quiet self.old) (quiet self.new) (own self.old) (own self.new) }
-        ensures planned { ReadsAsPlanned (schedule self.old) (schedule self.new) (is_err result) }
-        ensures cause { HasCause (Self.faults self.old) (Self.faults self.new) result };
+        ensures reads { ReadsAt told fuse spare own Self.faults quiet (is_err result) self.old self.new }
+        ensures planned { ReadsAsPlanned (schedule self.old) (schedule self.new) (is_err result) };
 
     /// The block at a place in the order of processing, or none past its end.
     fn at(&mut self, position: u64) -> Result<Option<Cid>, Failed>
         ensures row { IfTold (told self.old) result (λ kept cid. cid ≡ slice_get kept.order position) }
-        ensures told { told self.new ≡ told self.old }
-        ensures fuse { fuse self.new ≡ fuse self.old }
-        ensures spare { spare self.old ≤ spare self.new }
-        ensures own { HasCause (own self.old) (own self.new) result }
-        ensures quiet { StaysQuiet (quiet self.old) (quiet self.new) (own self.old) (own self.new) }
-        ensures planned { ReadsAsPlanned (schedule self.old) (schedule self.new) (is_err result) }
-        ensures cause { HasCause (Self.faults self.old) (Self.faults self.new) result };
+        ensures reads { ReadsAt told fuse spare own Self.faults quiet (is_err result) self.old self.new }
+        ensures planned { ReadsAsPlanned (schedule self.old) (schedule self.new) (is_err result) };
 
     /// Whether a processed block links to it.
     fn linked(&mut self, cid: &Cid) -> Result<bool, Failed>
         ensures row { IfTold (told self.old) result (λ kept found. found ≡ is_linked (processed kept) cid.now) }
-        ensures told { told self.new ≡ told self.old }
-        ensures fuse { fuse self.new ≡ fuse self.old }
-        ensures spare { spare self.old ≤ spare self.new }
-        ensures own { HasCause (own self.old) (own self.new) result }
-        ensures quiet { StaysQuiet (quiet self.old) (quiet self.new) (own self.old) (own self.new) }
-        ensures planned { ReadsAsPlanned (schedule self.old) (schedule self.new) (is_err result) }
-        ensures cause { HasCause (Self.faults self.old) (Self.faults self.new) result };
+        ensures reads { ReadsAt told fuse spare own Self.faults quiet (is_err result) self.old self.new }
+        ensures planned { ReadsAsPlanned (schedule self.old) (schedule self.new) (is_err result) };
 
     /// The heads, ascending by the digest.
     fn heads(&mut self, alloc: Global) -> Result<List<HeadRow>, KeepError>
         ensures row { IfTold (told self.old) result (λ kept rows. heads_in_rows rows ≡ heads (processed kept)) }
-        ensures told { told self.new ≡ told self.old }
-        ensures fuse { fuse self.new ≡ fuse self.old }
-        ensures spare { spare self.old ≤ spare self.new }
-        ensures own { KeepCause (own self.old) (own self.new) result }
-        ensures quiet { StaysQuiet (quiet self.old) (quiet self.new) (own self.old) (own self.new) }
-        ensures planned { ReadsAsPlanned (schedule self.old) (schedule self.new) (is_fault result) }
-        ensures cause { KeepCause (Self.faults self.old) (Self.faults self.new) result };
+        ensures reads { ReadsAt told fuse spare own Self.faults quiet (is_fault result) self.old self.new }
+        ensures planned { ReadsAsPlanned (schedule self.old) (schedule self.new) (is_fault result) };
 
     /// All element rows of a key, also of hidden elements, ascending by the block and then by the value.
     fn elements(&mut self, alloc: Global, key: &str) -> Result<List<ElementRow>, KeepError>
         ensures row { IfTold (told self.old) result (λ kept rows. Ascends element_cmp rows (element_rows_of (processed kept) key.now)) }
-        ensures told { told self.new ≡ told self.old }
-        ensures fuse { fuse self.new ≡ fuse self.old }
-        ensures spare { spare self.old ≤ spare self.new }
-        ensures own { KeepCause (own self.old) (own self.new) result }
-        ensures quiet { StaysQuiet (quiet self.old) (quiet self.new) (own self.old) (own self.new) }
-        ensures planned { ReadsAsPlanned (schedule self.old) (schedule self.new) (is_fault result) }
-        ensures cause { KeepCause (Self.faults self.old) (Self.faults self.new) result };
+        ensures reads { ReadsAt told fuse spare own Self.faults quiet (is_fault result) self.old self.new }
+        ensures planned { ReadsAsPlanned (schedule self.old) (schedule self.new) (is_fault result) };
 
     /// Whether a processed block has the tombstone of the key with the id.
     fn hidden(&mut self, key: &str, id: &str) -> Result<bool, Failed>
         ensures row { IfTold (told self.old) result (λ kept found. found ≡ has_tomb (processed kept) key.now id.now) }
-        ensures told { told self.new ≡ told self.old }
-        ensures fuse { fuse self.new ≡ fuse self.old }
-        ensures spare { spare self.old ≤ spare self.new }
-        ensures own { HasCause (own self.old) (own self.new) result }
-        ensures quiet { StaysQuiet (quiet self.old) (quiet self.new) (own self.old) (own self.new) }
-        ensures planned { ReadsAsPlanned (schedule self.old) (schedule self.new) (is_err result) }
-        ensures cause { HasCause (Self.faults self.old) (Self.faults self.new) result };
+        ensures reads { ReadsAt told fuse spare own Self.faults quiet (is_err result) self.old self.new }
+        ensures planned { ReadsAsPlanned (schedule self.old) (schedule self.new) (is_err result) };
 
     /// The value row of a key, or none where it has no value.
     fn value(&mut self, alloc: Global, key: &str) -> Result<Option<ValueRow>, KeepError>
         ensures row { IfTold (told self.old) result (λ kept row. IsValueRow (processed kept) key.now row) }
-        ensures told { told self.new ≡ told self.old }
-        ensures fuse { fuse self.new ≡ fuse self.old }
-        ensures spare { spare self.old ≤ spare self.new }
-        ensures own { KeepCause (own self.old) (own self.new) result }
-        ensures quiet { StaysQuiet (quiet self.old) (quiet self.new) (own self.old) (own self.new) }
-        ensures planned { ReadsAsPlanned (schedule self.old) (schedule self.new) (is_fault result) }
-        ensures cause { KeepCause (Self.faults self.old) (Self.faults self.new) result };
+        ensures reads { ReadsAt told fuse spare own Self.faults quiet (is_fault result) self.old self.new }
+        ensures planned { ReadsAsPlanned (schedule self.old) (schedule self.new) (is_fault result) };
 
     /// A processed block with a live element of the key that has the value and the priority of the key's value row, or none
     /// where the key has no value. Which of several it is, is the keeper's choice.
     fn holder(&mut self, alloc: Global, key: &str) -> Result<Option<Cid>, KeepError>
         ensures row { IfTold (told self.old) result (λ kept cid. IsHolder (processed kept) key.now cid) }
-        ensures told { told self.new ≡ told self.old }
-        ensures fuse { fuse self.new ≡ fuse self.old }
-        ensures spare { spare self.old ≤ spare self.new }
-        ensures own { KeepCause (own self.old) (own self.new) result }
-        ensures quiet { StaysQuiet (quiet self.old) (quiet self.new) (own self.old) (own self.new) }
-        ensures planned { ReadsAsPlanned (schedule self.old) (schedule self.new) (is_fault result) }
-        ensures cause { KeepCause (Self.faults self.old) (Self.faults self.new) result };
+        ensures reads { ReadsAt told fuse spare own Self.faults quiet (is_fault result) self.old self.new }
+        ensures planned { ReadsAsPlanned (schedule self.old) (schedule self.new) (is_fault result) };
 
     /// Whether a key has a value.
     fn has(&mut self, key: &str) -> Result<bool, Failed>
         ensures row { IfTold (told self.old) result (λ kept found. found ≡ is_some (value_row (processed kept) key.now)) }
-        ensures told { told self.new ≡ told self.old }
-        ensures fuse { fuse self.new ≡ fuse self.old }
-        ensures spare { spare self.old ≤ spare self.new }
-        ensures own { HasCause (own self.old) (own self.new) result }
-        ensures quiet { StaysQuiet (quiet self.old) (quiet self.new) (own self.old) (own self.new) }
-        ensures planned { ReadsAsPlanned (schedule self.old) (schedule self.new) (is_err result) }
-        ensures cause { HasCause (Self.faults self.old) (Self.faults self.new) result };
+        ensures reads { ReadsAt told fuse spare own Self.faults quiet (is_err result) self.old self.new }
+        ensures planned { ReadsAsPlanned (schedule self.old) (schedule self.new) (is_err result) };
 
     /// The value row of the least key above the bound, or at it where `inclusive`, or none where there is no such key.
     fn value_from(
@@ -229,24 +165,13 @@ pub trait Keeper: Counted + Send + Sync {
         inclusive: bool,
     ) -> Result<Option<ValueRow>, KeepError>
         ensures row { IfTold (told self.old) result (λ kept row. IsNext (processed kept) bound.now inclusive row) }
-        ensures told { told self.new ≡ told self.old }
-        ensures fuse { fuse self.new ≡ fuse self.old }
-        ensures spare { spare self.old ≤ spare self.new }
-        ensures own { KeepCause (own self.old) (own self.new) result }
-        ensures quiet { StaysQuiet (quiet self.old) (quiet self.new) (own self.old) (own self.new) }
-        ensures planned { ReadsAsPlanned (schedule self.old) (schedule self.new) (is_fault result) }
-        ensures cause { KeepCause (Self.faults self.old) (Self.faults self.new) result };
+        ensures reads { ReadsAt told fuse spare own Self.faults quiet (is_fault result) self.old self.new }
+        ensures planned { ReadsAsPlanned (schedule self.old) (schedule self.new) (is_fault result) };
 
     /// Makes room for so many rows. Nothing else changes.
     fn reserve(&mut self, rows: u64) -> Result<(), AllocError>
         ensures ok { OnOk result (rows ≤ spare self.new) }
-        ensures told { told self.new ≡ told self.old }
-        ensures fuse { fuse self.new ≡ fuse self.old }
-        ensures spare { spare self.old ≤ spare self.new }
-        ensures own { own self.new ≡ own self.old }
-        ensures quiet { quiet self.new ≡ quiet self.old }
-        ensures planned { schedule self.new ≡ schedule self.old }
-        ensures count { Self.faults self.new ≡ Self.faults self.old };
+        ensures reserves { ReservesAt told fuse spare own Self.faults quiet schedule self.old self.new };
 
     /// Makes the changes, or fails before or after them, wholly or not at all. It takes no memory. The changes are those
     /// that the definitions give: the blocks to store are good and new, those to process are stored and not processed, and
@@ -255,16 +180,11 @@ pub trait Keeper: Counted + Send + Sync {
         requires room { row_count changes ≤ spare self.old }
         requires fits { IfSome (told self.old) (λ kept. ChangesFit kept changes) }
         ensures done { OnOk result (Told (told self.old) (told self.new) (λ kept new. new ≡ changed kept changes)) }
-        ensures silent { told self.old ≡ None → told self.new ≡ None }
         ensures lasts { OnOk result (fires (fuse self.old) ≡ None) }
         ensures failed { OnErr result (Told (told self.old) (told self.new) (λ kept new.
             CommitFails (fires (fuse self.old)) (Rose (own self.old) (own self.new)) kept (changed kept changes) new)) }
-        ensures fuse { fuse self.new ≡ burnt (fuse self.old) }
-        ensures spare { spare self.old ≤ spare self.new + row_count changes }
-        ensures own { own self.old ≤ own self.new }
-        ensures quiet { StaysQuiet (quiet self.old) (quiet self.new) (own self.old) (own self.new) }
-        ensures planned { CommitsAsPlanned (schedule self.old) (schedule self.new) (is_err result) (told self.old) (told self.new) (option_map (λ kept. changed kept changes) (told self.old)) }
-        ensures cause { HasCause (Self.faults self.old) (Self.faults self.new) result };
+        ensures commits { CommitsAt told fuse spare own Self.faults quiet (row_count changes) (is_err result) self.old self.new }
+        ensures planned { CommitsAsPlanned (schedule self.old) (schedule self.new) (is_err result) (told self.old) (told self.new) (option_map (λ kept. changed kept changes) (told self.old)) };
 
     /// What is told is sound: no block is stored or processed twice, each stored block is good, and each processed block
     /// is stored.

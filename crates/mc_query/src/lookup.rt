@@ -1,11 +1,11 @@
 // The value of one key.
-ghost use Rattle.std.specs.Prelude.{◌≡◌, ◌≤◌};
+ghost use Rattle.std.specs.Prelude.{◌≡◌, OnErr};
 ghost use Rattle.std.specs.Result.{is_err};
-ghost use Rattle.mc_base.specs.Causes.{HasCause};
 ghost use Rattle.mc_model.specs.Answers.{has_value};
 ghost use Rattle.mc_model.specs.Kept.{processed};
 ghost use Rattle.mc_model.specs.Live.{value};
-ghost use Rattle.mc_keep.specs.Causes.{IfTold, KeepCause, StaysQuiet};
+ghost use Rattle.mc_keep.specs.Calls.{Reads};
+ghost use Rattle.mc_keep.specs.Causes.{IfTold, OnFailed};
 ghost use Rattle.mc_keep.specs.Plan.{ReadsAsPlanned, is_fault};
 
 use mc_base::{Bytes, Failed};
@@ -16,13 +16,8 @@ use std::alloc::Global;
 /// `Failed` comes only where the keeper failed.
 pub fn get<K: Keeper>(keeper: &mut K, alloc: Global, key: &str) -> Result<Option<Bytes>, KeepError>
     ensures row { IfTold (K.told keeper.old) result (λ kept found. found ≡ value (processed kept) key.now) }
-    ensures told { K.told keeper.new ≡ K.told keeper.old }
-    ensures fuse { K.fuse keeper.new ≡ K.fuse keeper.old }
-    ensures spare { K.spare keeper.old ≤ K.spare keeper.new }
-    ensures own { KeepCause (K.own keeper.old) (K.own keeper.new) result }
-    ensures quiet { StaysQuiet (K.quiet keeper.old) (K.quiet keeper.new) (K.own keeper.old) (K.own keeper.new) }
+    ensures reads { Reads K.Keeper (is_fault result) keeper.old keeper.new }
     ensures planned { ReadsAsPlanned (K.schedule keeper.old) (K.schedule keeper.new) (is_fault result) }
-    ensures cause { KeepCause (K.faults keeper.old) (K.faults keeper.new) result }
 {
     match keeper.value(alloc, key) {
         Ok(Some(row)) => Ok(Some(row.value)),
@@ -35,13 +30,8 @@ pub fn get<K: Keeper>(keeper: &mut K, alloc: Global, key: &str) -> Result<Option
 /// `Failed` comes only where the keeper failed.
 pub fn has<K: Keeper>(keeper: &mut K, key: &str) -> Result<bool, Failed>
     ensures row { IfTold (K.told keeper.old) result (λ kept found. found ≡ has_value (processed kept) key.now) }
-    ensures told { K.told keeper.new ≡ K.told keeper.old }
-    ensures fuse { K.fuse keeper.new ≡ K.fuse keeper.old }
-    ensures spare { K.spare keeper.old ≤ K.spare keeper.new }
-    ensures own { HasCause (K.own keeper.old) (K.own keeper.new) result }
-    ensures quiet { StaysQuiet (K.quiet keeper.old) (K.quiet keeper.new) (K.own keeper.old) (K.own keeper.new) }
+    ensures reads { Reads K.Keeper (is_err result) keeper.old keeper.new }
     ensures planned { ReadsAsPlanned (K.schedule keeper.old) (K.schedule keeper.new) (is_err result) }
-    ensures cause { HasCause (K.faults keeper.old) (K.faults keeper.new) result }
 {
     keeper.has(key)
 }

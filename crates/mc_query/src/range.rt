@@ -1,10 +1,11 @@
 // The keys under a prefix.
-ghost use Rattle.std.specs.Prelude.{◌≡◌, ◌≤◌, ◌+◌, [], true, map, take, IfOk, IfSome, OnOk, ◌++◌, ◌∷◌};
+ghost use Rattle.std.specs.Prelude.{◌≡◌, ◌+◌, [], true, map, take, IfOk, IfSome, OnOk, ◌++◌, ◌∷◌};
 ghost use Rattle.mc_key.specs.Prefix.{is_under};
 ghost use Rattle.mc_model.specs.Answers as answers;
 ghost use Rattle.mc_model.specs.Answers.{with_value};
 ghost use Rattle.mc_model.specs.Kept.{processed};
-ghost use Rattle.mc_keep.specs.Causes.{IfTold, KeepCause, StaysQuiet};
+ghost use Rattle.mc_keep.specs.Calls.{Reads};
+ghost use Rattle.mc_keep.specs.Causes.{IfTold, OnFailed};
 ghost use Rattle.mc_keep.specs.Next.{is_past};
 ghost use Rattle.mc_keep.specs.Plan.{ReadsAsPlanned, is_fault};
 ghost use Rattle.mc_query.specs.Reads.{ReadsWithin};
@@ -31,13 +32,8 @@ pub fn query<K: Keeper>(
     count: u64,
 ) -> Result<List<Pair>, KeepError>
     ensures rows { IfTold (K.told keeper.old) result (λ kept pairs. map pair_of pairs ≡ answers.query (processed kept) (is_under prefix.now) skip count) }
-    ensures told { K.told keeper.new ≡ K.told keeper.old }
-    ensures fuse { K.fuse keeper.new ≡ K.fuse keeper.old }
-    ensures spare { K.spare keeper.old ≤ K.spare keeper.new }
-    ensures own { KeepCause (K.own keeper.old) (K.own keeper.new) result }
-    ensures quiet { StaysQuiet (K.quiet keeper.old) (K.quiet keeper.new) (K.own keeper.old) (K.own keeper.new) }
+    ensures reads { Reads K.Keeper (is_fault result) keeper.old keeper.new }
     ensures planned { ReadsWithin (skip + count) (K.schedule keeper.old) (K.schedule keeper.new) (is_fault result) }
-    ensures cause { KeepCause (K.faults keeper.old) (K.faults keeper.new) result }
 {
     if count == 0 {
         return Ok(List::new(alloc));
@@ -60,13 +56,8 @@ fn pass_over<K: Keeper>(
     requires { start ≡ start_of prefix.now }
     ensures place { IfTold (K.told keeper.old) result (λ kept place. IsPassed (processed kept) prefix.now skip place) }
     ensures past { IfOk result (λ place. IfSome place (λ place. is_past (start_of prefix.now) true place.bound ≡ true)) }
-    ensures told { K.told keeper.new ≡ K.told keeper.old }
-    ensures fuse { K.fuse keeper.new ≡ K.fuse keeper.old }
-    ensures spare { K.spare keeper.old ≤ K.spare keeper.new }
-    ensures own { KeepCause (K.own keeper.old) (K.own keeper.new) result }
-    ensures quiet { StaysQuiet (K.quiet keeper.old) (K.quiet keeper.new) (K.own keeper.old) (K.own keeper.new) }
+    ensures reads { Reads K.Keeper (is_fault result) keeper.old keeper.new }
     ensures planned { ReadsWithin skip (K.schedule keeper.old) (K.schedule keeper.new) (is_fault result) }
-    ensures cause { KeepCause (K.faults keeper.old) (K.faults keeper.new) result }
 {
     let mut place = Place {
         bound: start,
@@ -97,13 +88,8 @@ fn take_rows<K: Keeper>(
     requires { is_past (start_of prefix.now) true place.now.bound ≡ true }
     ensures rows { IfTold (K.told keeper.old) result (λ kept pairs.
         map pair_of pairs ≡ map (with_value (processed kept)) (take count (left_of (processed kept) prefix.now place.now.bound place.now.inclusive))) }
-    ensures told { K.told keeper.new ≡ K.told keeper.old }
-    ensures fuse { K.fuse keeper.new ≡ K.fuse keeper.old }
-    ensures spare { K.spare keeper.old ≤ K.spare keeper.new }
-    ensures own { KeepCause (K.own keeper.old) (K.own keeper.new) result }
-    ensures quiet { StaysQuiet (K.quiet keeper.old) (K.quiet keeper.new) (K.own keeper.old) (K.own keeper.new) }
+    ensures reads { Reads K.Keeper (is_fault result) keeper.old keeper.new }
     ensures planned { ReadsWithin count (K.schedule keeper.old) (K.schedule keeper.new) (is_fault result) }
-    ensures cause { KeepCause (K.faults keeper.old) (K.faults keeper.new) result }
 {
     let mut pairs = List::new(alloc);
     for _ in 0..count {
@@ -137,13 +123,8 @@ fn next_under<K: Keeper>(
     requires { is_past (start_of prefix.now) true bound.now ≡ true }
     ensures row { IfTold (K.told keeper.old) result (λ kept row. IsNextUnder (processed kept) prefix.now bound.now inclusive row) }
     ensures past { IfOk result (λ row. IfSome row (λ row. is_past (start_of prefix.now) true row.key ≡ true)) }
-    ensures told { K.told keeper.new ≡ K.told keeper.old }
-    ensures fuse { K.fuse keeper.new ≡ K.fuse keeper.old }
-    ensures spare { K.spare keeper.old ≤ K.spare keeper.new }
-    ensures own { KeepCause (K.own keeper.old) (K.own keeper.new) result }
-    ensures quiet { StaysQuiet (K.quiet keeper.old) (K.quiet keeper.new) (K.own keeper.old) (K.own keeper.new) }
+    ensures reads { Reads K.Keeper (is_fault result) keeper.old keeper.new }
     ensures planned { ReadsAsPlanned (K.schedule keeper.old) (K.schedule keeper.new) (is_fault result) }
-    ensures cause { KeepCause (K.faults keeper.old) (K.faults keeper.new) result }
 {
     valued_keys_are_exact();
     let next = keeper.value_from(alloc, bound, inclusive)?;

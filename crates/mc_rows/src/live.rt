@@ -1,10 +1,10 @@
 // The greatest of the rows of a key that no tombstone hides.
-ghost use Rattle.std.specs.Prelude.{◌≡◌, ◌≤◌, fold, IfSome, IfOk, Some};
+ghost use Rattle.std.specs.Prelude.{◌≡◌, fold, IfSome, IfOk, Some, OnErr};
 ghost use Rattle.std.specs.List.Sorted.{IsStrictlySortedBy};
-ghost use Rattle.mc_base.specs.Causes.{HasCause};
 ghost use Rattle.mc_model.specs.Kept.{processed};
 ghost use Rattle.mc_model.specs.Rank.{greater, greatest};
-ghost use Rattle.mc_keep.specs.Causes.{IfTold, KeepCause, StaysQuiet};
+ghost use Rattle.mc_keep.specs.Calls.{Reads};
+ghost use Rattle.mc_keep.specs.Causes.{IfTold, OnFailed};
 ghost use Rattle.mc_rows.specs.Rows.{new_tomb_cmp, rows_of, tombs_of};
 ghost use Rattle.mc_keep.specs.Live.{live_rows};
 ghost use Rattle.mc_rows.specs.Live.{hides};
@@ -29,12 +29,7 @@ fn is_hidden<K: Keeper>(
 ) -> Result<bool, Failed>
     requires sorted { IsStrictlySortedBy new_tomb_cmp tombs.now }
     ensures hidden { IfTold (K.told keeper.old) result (λ kept hidden. hidden ≡ hides (processed kept) (tombs_of tombs.now) key.now id.now) }
-    ensures told { K.told keeper.new ≡ K.told keeper.old }
-    ensures fuse { K.fuse keeper.new ≡ K.fuse keeper.old }
-    ensures spare { K.spare keeper.old ≤ K.spare keeper.new }
-    ensures own { HasCause (K.own keeper.old) (K.own keeper.new) result }
-    ensures quiet { StaysQuiet (K.quiet keeper.old) (K.quiet keeper.new) (K.own keeper.old) (K.own keeper.new) }
-    ensures cause { HasCause (K.faults keeper.old) (K.faults keeper.new) result }
+    ensures reads { Reads K.Keeper (is_err result) keeper.old keeper.new }
 {
     if has_tomb(tombs, key, id) {
         return Ok(true);
@@ -62,12 +57,7 @@ fn see<K: Keeper>(
     requires last { IfSome (K.told keeper.old) (λ kept. SeenFits (processed kept) (tombs_of tombs.now) key.now last) }
     ensures seen { IfTold (K.told keeper.old) result (λ kept seen. SeenFits (processed kept) (tombs_of tombs.now) key.now (Some seen)) }
     ensures cid { IfOk result (λ seen. seen.cid ≡ cid.now) }
-    ensures told { K.told keeper.new ≡ K.told keeper.old }
-    ensures fuse { K.fuse keeper.new ≡ K.fuse keeper.old }
-    ensures spare { K.spare keeper.old ≤ K.spare keeper.new }
-    ensures own { KeepCause (K.own keeper.old) (K.own keeper.new) result }
-    ensures quiet { StaysQuiet (K.quiet keeper.old) (K.quiet keeper.new) (K.own keeper.old) (K.own keeper.new) }
-    ensures cause { KeepCause (K.faults keeper.old) (K.faults keeper.new) result }
+    ensures reads { Reads K.Keeper (is_fault result) keeper.old keeper.new }
 {
     if let Some(seen) = last {
         if seen.cid == *cid {
@@ -93,12 +83,7 @@ pub(crate) fn best_of_old<'a, K: Keeper>(
 ) -> Result<Option<Best<'a>>, KeepError>
     requires sorted { IsStrictlySortedBy new_tomb_cmp tombs.now }
     ensures best { IfTold (K.told keeper.old) result (λ kept best. ranked_best best ≡ greatest (live_rows (hides (processed kept) (tombs_of tombs.now) key.now) rows.now)) }
-    ensures told { K.told keeper.new ≡ K.told keeper.old }
-    ensures fuse { K.fuse keeper.new ≡ K.fuse keeper.old }
-    ensures spare { K.spare keeper.old ≤ K.spare keeper.new }
-    ensures own { KeepCause (K.own keeper.old) (K.own keeper.new) result }
-    ensures quiet { StaysQuiet (K.quiet keeper.old) (K.quiet keeper.new) (K.own keeper.old) (K.own keeper.new) }
-    ensures cause { KeepCause (K.faults keeper.old) (K.faults keeper.new) result }
+    ensures reads { Reads K.Keeper (is_fault result) keeper.old keeper.new }
 {
     let mut best = None;
     let mut last = None;
@@ -128,12 +113,7 @@ pub(crate) fn best_with_new<'a, K: Keeper>(
 ) -> Result<Option<Best<'a>>, Failed>
     requires sorted { IsStrictlySortedBy new_tomb_cmp tombs.now }
     ensures best { IfTold (K.told keeper.old) result (λ kept found. ranked_best found ≡ fold greater (ranked_best best.entry) (live_rows (hides (processed kept) (tombs_of tombs.now) key.now) (rows_of elements.now))) }
-    ensures told { K.told keeper.new ≡ K.told keeper.old }
-    ensures fuse { K.fuse keeper.new ≡ K.fuse keeper.old }
-    ensures spare { K.spare keeper.old ≤ K.spare keeper.new }
-    ensures own { HasCause (K.own keeper.old) (K.own keeper.new) result }
-    ensures quiet { StaysQuiet (K.quiet keeper.old) (K.quiet keeper.new) (K.own keeper.old) (K.own keeper.new) }
-    ensures cause { HasCause (K.faults keeper.old) (K.faults keeper.new) result }
+    ensures reads { Reads K.Keeper (is_err result) keeper.old keeper.new }
 {
     let mut best = best;
     for element in elements {

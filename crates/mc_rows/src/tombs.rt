@@ -1,5 +1,5 @@
 // The tombstones of a group of blocks that the keeper does not have.
-ghost use Rattle.std.specs.Prelude.{refl, ◌≡◌, ◌≤◌, [], ◌∷◌, ◌++◌, map, filter, IfOk, OnOk, IfSome};
+ghost use Rattle.std.specs.Prelude.{refl, ◌≡◌, [], ◌∷◌, ◌++◌, map, filter, IfOk, OnOk, IfSome};
 ghost use Rattle.std.proofs.Common.{◌∙◌};
 ghost use Rattle.std.specs.Ordering.{eq_by_cmp, as_partial_cmp};
 ghost use Rattle.std.specs.Cmp.{partial_order_from_total};
@@ -7,7 +7,8 @@ ghost use Rattle.std.specs.List.Sorted.{IsStrictlySortedBy};
 ghost use Rattle.std.proofs.lemmas.Cmp.{eq_by_cmp_equiv};
 ghost use Rattle.mc_model.specs.SameMembers.{SameMembers};
 ghost use Rattle.mc_model.specs.Kept.{processed};
-ghost use Rattle.mc_keep.specs.Causes.{IfTold, KeepCause, StaysQuiet};
+ghost use Rattle.mc_keep.specs.Calls.{Reads};
+ghost use Rattle.mc_keep.specs.Causes.{IfTold, OnFailed};
 ghost use Rattle.mc_rows.specs.Rows.{new_tomb_cmp, new_tomb_total, tomb_of, tombs_of, tomb_row, tomb_rows};
 ghost use Rattle.mc_rows.specs.Live.{is_unknown};
 
@@ -74,12 +75,7 @@ pub(crate) fn new_tombs<'a, K: Keeper>(
 ) -> Result<Vec<NewTomb<'a>>, KeepError>
     ensures sorted { IfOk result (λ tombs. IsStrictlySortedBy new_tomb_cmp tombs.items) }
     ensures members { IfTold (K.told keeper.old) result (λ kept tombs. SameMembers (tombs_of tombs.items) (filter (is_unknown (processed kept)) (tomb_rows blocks.now))) }
-    ensures told { K.told keeper.new ≡ K.told keeper.old }
-    ensures fuse { K.fuse keeper.new ≡ K.fuse keeper.old }
-    ensures spare { K.spare keeper.old ≤ K.spare keeper.new }
-    ensures own { KeepCause (K.own keeper.old) (K.own keeper.new) result }
-    ensures quiet { StaysQuiet (K.quiet keeper.old) (K.quiet keeper.new) (K.own keeper.old) (K.own keeper.new) }
-    ensures cause { KeepCause (K.faults keeper.old) (K.faults keeper.new) result }
+    ensures reads { Reads K.Keeper (is_fault result) keeper.old keeper.new }
 {
     let mut tombs = gather(keeper, alloc, blocks)?;
     tombs.sort_unstable();
@@ -93,12 +89,7 @@ fn gather<'a, K: Keeper>(
     blocks: &'a [Block],
 ) -> Result<Vec<NewTomb<'a>>, KeepError>
     ensures rows { IfTold (K.told keeper.old) result (λ kept tombs. tombs_of tombs.items ≡ filter (is_unknown (processed kept)) (tomb_rows blocks.now)) }
-    ensures told { K.told keeper.new ≡ K.told keeper.old }
-    ensures fuse { K.fuse keeper.new ≡ K.fuse keeper.old }
-    ensures spare { K.spare keeper.old ≤ K.spare keeper.new }
-    ensures own { KeepCause (K.own keeper.old) (K.own keeper.new) result }
-    ensures quiet { StaysQuiet (K.quiet keeper.old) (K.quiet keeper.new) (K.own keeper.old) (K.own keeper.new) }
-    ensures cause { KeepCause (K.faults keeper.old) (K.faults keeper.new) result }
+    ensures reads { Reads K.Keeper (is_fault result) keeper.old keeper.new }
 {
     let mut tombs = Vec::new(alloc);
     for block in blocks {
@@ -113,12 +104,7 @@ fn gather_of<'a, K: Keeper>(
     tombs: &mut Vec<NewTomb<'a>>,
 ) -> Result<(), KeepError>
     ensures rows { OnOk result (IfSome (K.told keeper.old) (λ kept. tombs_of tombs.new.items ≡ tombs_of tombs.old.items ++ filter (is_unknown (processed kept)) (map tomb_row tombstones.now))) }
-    ensures told { K.told keeper.new ≡ K.told keeper.old }
-    ensures fuse { K.fuse keeper.new ≡ K.fuse keeper.old }
-    ensures spare { K.spare keeper.old ≤ K.spare keeper.new }
-    ensures own { KeepCause (K.own keeper.old) (K.own keeper.new) result }
-    ensures quiet { StaysQuiet (K.quiet keeper.old) (K.quiet keeper.new) (K.own keeper.old) (K.own keeper.new) }
-    ensures cause { KeepCause (K.faults keeper.old) (K.faults keeper.new) result }
+    ensures reads { Reads K.Keeper (is_fault result) keeper.old keeper.new }
 {
     for tomb in tombstones {
         gather_one(keeper, tomb, tombs)?;
@@ -132,12 +118,7 @@ fn gather_one<'a, K: Keeper>(
     tombs: &mut Vec<NewTomb<'a>>,
 ) -> Result<(), KeepError>
     ensures rows { OnOk result (IfSome (K.told keeper.old) (λ kept. tombs_of tombs.new.items ≡ tombs_of tombs.old.items ++ filter (is_unknown (processed kept)) (tomb_row tomb.now ∷ []))) }
-    ensures told { K.told keeper.new ≡ K.told keeper.old }
-    ensures fuse { K.fuse keeper.new ≡ K.fuse keeper.old }
-    ensures spare { K.spare keeper.old ≤ K.spare keeper.new }
-    ensures own { KeepCause (K.own keeper.old) (K.own keeper.new) result }
-    ensures quiet { StaysQuiet (K.quiet keeper.old) (K.quiet keeper.new) (K.own keeper.old) (K.own keeper.new) }
-    ensures cause { KeepCause (K.faults keeper.old) (K.faults keeper.new) result }
+    ensures reads { Reads K.Keeper (is_fault result) keeper.old keeper.new }
 {
     if keeper.hidden(tomb.key.as_str(), tomb.id.as_str())? {
         return Ok(());

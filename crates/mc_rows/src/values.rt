@@ -1,9 +1,10 @@
 // The new value row of one key.
-ghost use Rattle.std.specs.Prelude.{◌≡◌, ◌≤◌, false, true, IfOk, IfSome};
+ghost use Rattle.std.specs.Prelude.{◌≡◌, false, true, IfOk, IfSome};
 ghost use Rattle.std.specs.List.Sorted.{IsStrictlySortedBy};
 ghost use Rattle.mc_model.specs.Kept.{processed};
 ghost use Rattle.mc_model.specs.Live.{value_row};
-ghost use Rattle.mc_keep.specs.Causes.{IfTold, KeepCause, StaysQuiet};
+ghost use Rattle.mc_keep.specs.Calls.{Reads};
+ghost use Rattle.mc_keep.specs.Causes.{IfTold, OnFailed};
 ghost use Rattle.mc_keep.specs.Changes.{ranked_row};
 ghost use Rattle.mc_keep.specs.Tables.{IsValueRow};
 ghost use Rattle.mc_rows.specs.Rows.{new_element_cmp, new_tomb_cmp, rows_of, tombs_of};
@@ -31,12 +32,7 @@ pub(crate) fn change_of<K: Keeper>(
     requires elements { IsStrictlySortedBy new_element_cmp elements.now }
     requires tombs { IsStrictlySortedBy new_tomb_cmp tombs.now }
     ensures change { IfTold (K.told keeper.old) result (λ kept change. IsChange key.now (value_row (processed kept) key.now) (new_row (processed kept) (rows_of elements.now) (tombs_of tombs.now) key.now) change) }
-    ensures told { K.told keeper.new ≡ K.told keeper.old }
-    ensures fuse { K.fuse keeper.new ≡ K.fuse keeper.old }
-    ensures spare { K.spare keeper.old ≤ K.spare keeper.new }
-    ensures own { KeepCause (K.own keeper.old) (K.own keeper.new) result }
-    ensures quiet { StaysQuiet (K.quiet keeper.old) (K.quiet keeper.new) (K.own keeper.old) (K.own keeper.new) }
-    ensures cause { KeepCause (K.faults keeper.old) (K.faults keeper.new) result }
+    ensures reads { Reads K.Keeper (is_fault result) keeper.old keeper.new }
 {
     let old = keeper.value(alloc, key)?;
     let elements = elements_with(elements, key);
@@ -58,12 +54,7 @@ fn is_hidden_anew<K: Keeper>(
     requires old { IfSome (K.told keeper.old) (λ kept. IsValueRow (processed kept) key.now old.now) }
     ensures hides { IfTold (K.told keeper.old) result (λ kept hidden. hidden ≡ true → HidesValue (processed kept) (tombs_of tombs.now) key.now) }
     ensures stands { IfTold (K.told keeper.old) result (λ kept hidden. hidden ≡ false → Stands (processed kept) (tombs_of tombs.now) key.now) }
-    ensures told { K.told keeper.new ≡ K.told keeper.old }
-    ensures fuse { K.fuse keeper.new ≡ K.fuse keeper.old }
-    ensures spare { K.spare keeper.old ≤ K.spare keeper.new }
-    ensures own { KeepCause (K.own keeper.old) (K.own keeper.new) result }
-    ensures quiet { StaysQuiet (K.quiet keeper.old) (K.quiet keeper.new) (K.own keeper.old) (K.own keeper.new) }
-    ensures cause { KeepCause (K.faults keeper.old) (K.faults keeper.new) result }
+    ensures reads { Reads K.Keeper (is_fault result) keeper.old keeper.new }
 {
     if old.is_none() {
         return Ok(false);
@@ -91,12 +82,7 @@ fn change_anew<K: Keeper>(
     requires old { IfSome (K.told keeper.old) (λ kept. IsValueRow (processed kept) key.now old.now) }
     requires hides { IfSome (K.told keeper.old) (λ kept. HidesValue (processed kept) (tombs_of tombs.now) key.now) }
     ensures change { IfTold (K.told keeper.old) result (λ kept change. IsChange key.now (value_row (processed kept) key.now) (row_from (processed kept) (rows_of elements.now) (tombs_of tombs.now) key.now) change) }
-    ensures told { K.told keeper.new ≡ K.told keeper.old }
-    ensures fuse { K.fuse keeper.new ≡ K.fuse keeper.old }
-    ensures spare { K.spare keeper.old ≤ K.spare keeper.new }
-    ensures own { KeepCause (K.own keeper.old) (K.own keeper.new) result }
-    ensures quiet { StaysQuiet (K.quiet keeper.old) (K.quiet keeper.new) (K.own keeper.old) (K.own keeper.new) }
-    ensures cause { KeepCause (K.faults keeper.old) (K.faults keeper.new) result }
+    ensures reads { Reads K.Keeper (is_fault result) keeper.old keeper.new }
 {
     let rows = keeper.elements(alloc, key)?;
     let best = best_of_old(keeper, alloc, key, rows.as_slice(), tombs)?;
@@ -117,12 +103,7 @@ fn change_on<K: Keeper>(
     requires old { IfSome (K.told keeper.old) (λ kept. IsValueRow (processed kept) key.now old.now) }
     requires stands { IfSome (K.told keeper.old) (λ kept. Stands (processed kept) (tombs_of tombs.now) key.now) }
     ensures change { IfTold (K.told keeper.old) result (λ kept change. IsChange key.now (value_row (processed kept) key.now) (row_from (processed kept) (rows_of elements.now) (tombs_of tombs.now) key.now) change) }
-    ensures told { K.told keeper.new ≡ K.told keeper.old }
-    ensures fuse { K.fuse keeper.new ≡ K.fuse keeper.old }
-    ensures spare { K.spare keeper.old ≤ K.spare keeper.new }
-    ensures own { KeepCause (K.own keeper.old) (K.own keeper.new) result }
-    ensures quiet { StaysQuiet (K.quiet keeper.old) (K.quiet keeper.new) (K.own keeper.old) (K.own keeper.new) }
-    ensures cause { KeepCause (K.faults keeper.old) (K.faults keeper.new) result }
+    ensures reads { Reads K.Keeper (is_fault result) keeper.old keeper.new }
 {
     let found = best_with_new(keeper, key, elements, tombs, best_of(old))?;
     Ok(change_to(alloc, key, old, found)?)

@@ -1,9 +1,10 @@
 // Puts and deletes that become one block.
-ghost use Rattle.std.specs.Prelude.{◌≡◌, ◌≤◌, IfOk, IfSome, OnOk, OnErr};
+ghost use Rattle.std.specs.Prelude.{◌≡◌, IfOk, IfSome, OnOk, OnErr};
 ghost use Rattle.mc_model.specs.Batch.{empty_batch, is_empty_batch, batch_put, batch_delete, batch_delta};
 ghost use Rattle.mc_model.specs.Cuts.{pairs};
 ghost use Rattle.mc_model.specs.Kept.{processed};
-ghost use Rattle.mc_keep.specs.Causes.{KeepCause, StaysQuiet};
+ghost use Rattle.mc_keep.specs.Calls.{Reads};
+ghost use Rattle.mc_keep.specs.Causes.{OnFailed};
 
 use crate::dropped::{add_pairs, tombs_of_dropped};
 use crate::elements::{drop_element, elements_of_puts, put_element};
@@ -65,12 +66,7 @@ impl Batch {
     pub fn delete<K: Keeper>(&mut self, key: &Key<'_>, keeper: &mut K) -> Result<(), KeepError>
         ensures ok { OnOk result (IfSome (K.told keeper.old) (λ kept. self.new ≡ batch_delete key.now (pairs (processed kept) key.now) self.old)) }
         ensures err { OnErr result (self.new ≡ self.old) }
-        ensures told { K.told keeper.new ≡ K.told keeper.old }
-        ensures fuse { K.fuse keeper.new ≡ K.fuse keeper.old }
-        ensures spare { K.spare keeper.old ≤ K.spare keeper.new }
-        ensures own { KeepCause (K.own keeper.old) (K.own keeper.new) result }
-        ensures quiet { StaysQuiet (K.quiet keeper.old) (K.quiet keeper.new) (K.own keeper.old) (K.own keeper.new) }
-        ensures cause { KeepCause (K.faults keeper.old) (K.faults keeper.new) result }
+        ensures reads { Reads K.Keeper (is_fault result) keeper.old keeper.new }
     {
         let pairs = seen_pairs(keeper, self.alloc, key.as_str())?;
         add_pairs(

@@ -1,11 +1,12 @@
 // The deltas of a delete.
-ghost use Rattle.std.specs.Prelude.{◌≡◌, ◌≤◌, IfSome, IfErr};
+ghost use Rattle.std.specs.Prelude.{IfSome, IfErr};
 ghost use Rattle.mc_model.specs.Cuts.{IsCuts, pairs};
 ghost use Rattle.mc_model.specs.Kept.{processed};
 ghost use Rattle.mc_model.specs.Made.{head_cids, next_priority};
-ghost use Rattle.mc_keep.specs.Causes.{IfTold, StaysQuiet};
+ghost use Rattle.mc_keep.specs.Calls.{Reads};
+ghost use Rattle.mc_keep.specs.Causes.{IfTold};
 ghost use Rattle.mc_write.specs.Cutting.{CutsRefused};
-ghost use Rattle.mc_write.specs.Refusals.{WriteCause};
+ghost use Rattle.mc_write.specs.Refusals.{OnFault};
 
 use crate::WriteError;
 use crate::cut::{cut, next_priority};
@@ -32,12 +33,7 @@ pub fn delete_deltas<K: Keeper>(
         IsCuts (head_cids (processed kept)) (next_priority (processed kept)) key.now (pairs (processed kept) key.now) deltas) }
     ensures refused { IfSome (K.told keeper.old) (λ kept. IfErr result (λ error.
         CutsRefused (head_cids (processed kept)) (next_priority (processed kept)) key.now (pairs (processed kept) key.now) error)) }
-    ensures told { K.told keeper.new ≡ K.told keeper.old }
-    ensures fuse { K.fuse keeper.new ≡ K.fuse keeper.old }
-    ensures spare { K.spare keeper.old ≤ K.spare keeper.new }
-    ensures own { WriteCause (K.own keeper.old) (K.own keeper.new) result }
-    ensures quiet { StaysQuiet (K.quiet keeper.old) (K.quiet keeper.new) (K.own keeper.old) (K.own keeper.new) }
-    ensures cause { WriteCause (K.faults keeper.old) (K.faults keeper.new) result }
+    ensures reads { Reads K.Keeper (is_fault result) keeper.old keeper.new }
 {
     let pairs = seen_pairs(keeper, alloc, key.as_str())?;
     if pairs.is_empty() {

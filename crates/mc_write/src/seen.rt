@@ -1,8 +1,9 @@
 // The blocks with a live element of a key, as a keeper tells them.
-ghost use Rattle.std.specs.Prelude.{◌≡◌, ◌≤◌, ◌++◌, ◌∷◌, [], IfOk, OnOk, OnErr, true, map, filter};
+ghost use Rattle.std.specs.Prelude.{◌≡◌, ◌++◌, ◌∷◌, [], IfOk, OnOk, true, map, filter};
 ghost use Rattle.mc_model.specs.Cuts.{pairs};
 ghost use Rattle.mc_model.specs.Kept.{processed};
-ghost use Rattle.mc_keep.specs.Causes.{IfTold, KeepCause, StaysQuiet};
+ghost use Rattle.mc_keep.specs.Calls.{Reads};
+ghost use Rattle.mc_keep.specs.Causes.{IfTold, OnFailed};
 ghost use Rattle.mc_write.specs.Rows.{last_rows, is_shown};
 ghost use Rattle.mc_write.specs.Seen.{seen, all_seen, row_pair, has_digest, have_digests};
 
@@ -19,12 +20,7 @@ pub(crate) fn seen_pairs<K: Keeper>(
 ) -> Result<Vec<Pair>, KeepError>
     ensures row { IfTold (K.told keeper.old) result (λ kept found. all_seen found.items ≡ pairs (processed kept) key.now) }
     ensures digests { IfOk result (λ found. have_digests (all_seen found.items) ≡ true) }
-    ensures told { K.told keeper.new ≡ K.told keeper.old }
-    ensures fuse { K.fuse keeper.new ≡ K.fuse keeper.old }
-    ensures spare { K.spare keeper.old ≤ K.spare keeper.new }
-    ensures own { KeepCause (K.own keeper.old) (K.own keeper.new) result }
-    ensures quiet { StaysQuiet (K.quiet keeper.old) (K.quiet keeper.new) (K.own keeper.old) (K.own keeper.new) }
-    ensures cause { KeepCause (K.faults keeper.old) (K.faults keeper.new) result }
+    ensures reads { Reads K.Keeper (is_fault result) keeper.old keeper.new }
 {
     let rows = keeper.elements(alloc, key)?;
     let rows = last_of_blocks(rows.into_vec());
@@ -51,12 +47,7 @@ fn shown_pairs<K: Keeper>(
 ) -> Result<Vec<Pair>, KeepError>
     ensures row { IfTold (K.told keeper.old) result (λ kept found. all_seen found.items ≡ map row_pair (filter (is_shown (processed kept) key.now) rows.items)) }
     ensures digests { IfOk result (λ found. have_digests (all_seen found.items) ≡ true) }
-    ensures told { K.told keeper.new ≡ K.told keeper.old }
-    ensures fuse { K.fuse keeper.new ≡ K.fuse keeper.old }
-    ensures spare { K.spare keeper.old ≤ K.spare keeper.new }
-    ensures own { KeepCause (K.own keeper.old) (K.own keeper.new) result }
-    ensures quiet { StaysQuiet (K.quiet keeper.old) (K.quiet keeper.new) (K.own keeper.old) (K.own keeper.new) }
-    ensures cause { KeepCause (K.faults keeper.old) (K.faults keeper.new) result }
+    ensures reads { Reads K.Keeper (is_fault result) keeper.old keeper.new }
 {
     let mut pairs = Vec::new(alloc);
     for row in rows {

@@ -1,17 +1,14 @@
-use Rattle.std.proofs.Common.{rules, ◌∙◌, sym, arith}
+use Rattle.std.proofs.Common.{◌∙◌, sym}
 use Rattle.std.proofs.lemmas.Iterator.Adapters.{YieldsList-from_vec}
 use Rattle.std.proofs.lemmas.Iterator.Consumers.{YieldsList-turn, YieldsList-so_far}
+use Rattle.mc_keep.proofs.Frames.{read_more}
 use Rattle.mc_core.proofs.DeleteFacts.{making_goes_on, making_fails, rest_of}
 use Rattle.mc_core.proofs.deletes.make_blocks.Goals as goal
 
 pub loop-delta-preserved : goal.loop-delta-preserved
 loop-delta-preserved g c = record {
-  making = making_goes_on _ _ _ _ _ _ _ _ c.loop-delta.invariant.making (rw c.loop-delta.invariant.told at c.in-Ok.ensures.made);
-  told = search rules;
-  fuse = search rules;
-  own = omega (arith, c.loop-delta.invariant.own, c.in-Ok.ensures.own.later);
-  quiet = search rules;
-  cause = omega (arith, c.loop-delta.invariant.cause, c.in-Ok.ensures.cause.later);
+  making = making_goes_on _ _ _ _ _ _ _ _ c.loop-delta.invariant.making (rw c.loop-delta.invariant.reads.told_same at c.in-Ok.ensures.made);
+  reads = read_more c.loop-delta.invariant.reads c.in-Ok.ensures.reads;
 }
 
 pub returns-in-Err-clause-refused : goal.returns-in-Err-clause-refused
@@ -20,4 +17,4 @@ returns-in-Err-clause-refused g c =
     let turn = YieldsList-turn road c.loop-delta.yielded c.loop-delta.delta-iterator c.loop-delta.yielded_by c.next.result c.next.new.self c.in-Some.delta c.in-Some.is c.next.ensures.steps in
     let so_far = YieldsList-so_far road c.loop-delta.yielded c.loop-delta.delta-iterator c.loop-delta.yielded_by in
     let rest = rest_of c.loop-delta.yielded c.into_vec-delta-items.result.items c.in-Some.delta so_far turn.0 turn.1 in
-    making_fails _ _ _ rest.0 _ _ _ _ _ (sym c.into_vec-delta-items.ensures ∙ rest.1) c.loop-delta.invariant.making (rw c.loop-delta.invariant.told at c.in-Err.ensures.refused)
+    making_fails _ _ _ rest.0 _ _ _ _ _ (sym c.into_vec-delta-items.ensures ∙ rest.1) c.loop-delta.invariant.making (rw c.loop-delta.invariant.reads.told_same at c.in-Err.ensures.refused)

@@ -1,3 +1,5 @@
+use Rattle.std.proofs.lemmas.Result.{err_from_is_err_and}
+use Rattle.mc_core.proofs.Keeps.{read_reserved}
 use Rattle.mc_core.proofs.PlanFacts.{plan_is, plan_shape}
 use Rattle.mc_core.proofs.plan.plan_block.Goals as goal
 
@@ -8,3 +10,8 @@ returns-clause-plan g c =
 pub returns-clause-shape : goal.returns-clause-shape
 returns-clause-shape g c =
     plan_shape c.args.known _ _ _ _ c.in_ok-store.ensures.stored c.in_ok-store.ensures.new c.in_ok-process.ensures.only (rw (c.one.ensures) at c.in_ok-process.ensures.marks)
+
+pub returns-in_err-reserve-clause-reads : goal.returns-in_err-reserve-clause-reads
+returns-in_err-reserve-clause-reads g c =
+    let p = err_from_is_err_and c.from_residual-in_err-reserve.result c.from_residual-in_err-reserve.ensures.1 in
+    rw (p.1, p.2) (read_reserved c.in_ok-process.ensures.reads c.reserve.ensures.reserves)

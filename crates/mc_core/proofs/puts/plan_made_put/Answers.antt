@@ -4,4 +4,4 @@ use Rattle.mc_core.proofs.puts.plan_made_put.Goals as goal
 
 pub returns-clause-refused : goal.returns-clause-refused
 returns-clause-refused g c =
-    result_made _ _ _ _ _ (put_delta c.args.key.now c.args.value.now) _ c.in_ok-next.ensures.told c.in_ok-next.ensures.left c.in_ok-next.ensures.next c.in_ok-delta.ensures c.plan_made.ensures.refused
+    result_made _ _ _ _ _ (put_delta c.args.key.now c.args.value.now) _ c.in_ok-next.ensures.reads.told_same c.in_ok-next.ensures.left c.in_ok-next.ensures.next c.in_ok-delta.ensures c.plan_made.ensures.refused

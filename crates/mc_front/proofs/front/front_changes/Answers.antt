@@ -18,14 +18,14 @@ returns-clause-gaps g c =
     count_told (g.K.Keeper.told c.args.keeper.now) c.args.blocks.now c.in_ok-summary.summary c.gaps_after-gaps.result
     c.in_ok-rows.rows.marks c.in_ok-rows.rows.links c.in_ok-rows.rows.heads_out c.in_ok-rows.rows.heads_in
     c.requires.new c.in_ok-rows.ensures.marks c.in_ok-rows.ensures.links c.in_ok-rows.ensures.heads_out c.in_ok-rows.ensures.heads_in
-    (rw c.in_ok-rows.ensures.told at c.in_ok-summary.ensures.row) c.gaps_after-gaps.ensures
+    (rw c.in_ok-rows.ensures.reads.told_same at c.in_ok-summary.ensures.row) c.gaps_after-gaps.ensures
 
 pub returns-clause-mark : goal.returns-clause-mark
 returns-clause-mark g c =
     mark_told (g.K.Keeper.told c.args.keeper.now) c.args.blocks.now c.in_ok-summary.summary c.gaps_after-gaps.result c.args.whole c.mark_change-changes.result
-    (rw c.in_ok-rows.ensures.told at c.in_ok-summary.ensures.row)
+    (rw c.in_ok-rows.ensures.reads.told_same at c.in_ok-summary.ensures.row)
     (count_told (g.K.Keeper.told c.args.keeper.now) c.args.blocks.now c.in_ok-summary.summary c.gaps_after-gaps.result
     c.in_ok-rows.rows.marks c.in_ok-rows.rows.links c.in_ok-rows.rows.heads_out c.in_ok-rows.rows.heads_in
     c.requires.new c.in_ok-rows.ensures.marks c.in_ok-rows.ensures.links c.in_ok-rows.ensures.heads_out c.in_ok-rows.ensures.heads_in
-    (rw c.in_ok-rows.ensures.told at c.in_ok-summary.ensures.row) c.gaps_after-gaps.ensures)
+    (rw c.in_ok-rows.ensures.reads.told_same at c.in_ok-summary.ensures.row) c.gaps_after-gaps.ensures)
     c.mark_change-changes.ensures.after c.mark_change-changes.ensures.changes

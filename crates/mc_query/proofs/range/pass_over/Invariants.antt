@@ -1,12 +1,17 @@
-use Rattle.std.proofs.Common.{◌≡◌, true}
-use Rattle.mc_model.specs.Kept.{Kept, processed}
+use Rattle.std.proofs.Common.{◌≡◌, true, false}
+use Rattle.std.specs.Prelude.{IfSome}
+use Rattle.mc_model.specs.Kept.{processed}
+use Rattle.mc_keep.specs.Calls.{HasRead}
 use Rattle.mc_keep.specs.Next.{is_past}
 use Rattle.mc_query.specs.Places.{start_of}
-use Rattle.mc_query.proofs.Leaving.{IsReading}
+use Rattle.mc_query.specs.Reads.{ReadsWithin}
 use Rattle.mc_query.proofs.PairFacts.{IsPassing}
 use Rattle.mc_query.proofs.range.pass_over.Given as goal
 
 abbrev pub invariant-loop : goal.invariant-loop
-invariant-loop g l = IsReading (g.K.Keeper.told l.fn.keeper) (g.K.Keeper.told l.keeper) (g.K.Keeper.fuse l.fn.keeper) (g.K.Keeper.fuse l.keeper) (g.K.Keeper.spare l.fn.keeper) (g.K.Keeper.spare l.keeper)
-    (g.K.Keeper.own l.fn.keeper) (g.K.Keeper.own l.keeper) (g.K.Keeper.quiet l.fn.keeper) (g.K.Keeper.quiet l.keeper) (g.K.Counted.faults l.fn.keeper) (g.K.Counted.faults l.keeper) (g.K.Keeper.schedule l.fn.keeper) (g.K.Keeper.schedule l.keeper) l.counter
-    (is_past (start_of l.prefix) true l.place.bound ≡ true) (λ (kept : Kept). IsPassing (processed kept) l.prefix l.place l.counter)
+invariant-loop g l = record {
+  reads : HasRead g.K.Keeper g.K.Counted l.fn.keeper l.keeper;
+  planned : ReadsWithin l.counter (g.K.Keeper.schedule l.fn.keeper) (g.K.Keeper.schedule l.keeper) false;
+  past : is_past (start_of l.prefix) true l.place.bound ≡ true;
+  done : IfSome (g.K.Keeper.told l.fn.keeper) (λ kept. IsPassing (processed kept) l.prefix l.place l.counter);
+}

@@ -1,21 +1,22 @@
 use Rattle.std.proofs.Common.{arith, ◌+◌, false}
 use Rattle.mc_model.specs.Kept.{Kept, processed}
+use Rattle.mc_keep.proofs.Frames.{read_itself, read_more}
 use Rattle.mc_query.specs.Places.{start_of}
-use Rattle.mc_query.proofs.Leaving.{left_itself, left_more, told_all, told_both}
+use Rattle.mc_query.proofs.Leaving.{told_all, told_both}
 use Rattle.mc_query.proofs.PairFacts.{taken_start, taken_more, taken_ended, past_after}
 use Rattle.mc_query.proofs.ReadFacts.{reads_none, reads_more}
 use Rattle.mc_query.proofs.range.take_rows.Goals as goal
 
 pub loop-init : goal.loop-init
 loop-init g c = record {
-  left = left_itself _ _ _ _ _ _;
+  reads = read_itself _;
   planned = reads_none 0 (g.K.Keeper.schedule c.args.keeper.now);
   past = rw c.new-pairs.ensures c.requires;
   done = told_all (g.K.Keeper.told c.args.keeper.now) (λ (kept : Kept). taken_start (processed kept) c.args.prefix.now c.args.place.now c.new-pairs.result c.new-pairs.ensures);
 }
 
 pub returns-in-None-clause-rows : goal.returns-in-None-clause-rows
-returns-in-None-clause-rows g c = told_both (g.K.Keeper.told c.args.keeper.now) (g.K.Keeper.told c.loop.keeper) c.loop.invariant.left.told_same c.loop.invariant.done c.in_ok-row.ensures.row
+returns-in-None-clause-rows g c = told_both (g.K.Keeper.told c.args.keeper.now) (g.K.Keeper.told c.loop.keeper) c.loop.invariant.reads.told_same c.loop.invariant.done c.in_ok-row.ensures.row
     (λ (kept : Kept). λ taken next. taken_ended (processed kept) c.args.prefix.now c.args.place.now c.loop.pairs c.loop.counter c.args.count c.place_after-inclusive.result.0.now c.place_after-inclusive.result.1 c.in_ok-row.field-0
     (rw c.as_slice.ensures at c.place_after-inclusive.ensures.bound) (rw c.as_slice.ensures at c.place_after-inclusive.ensures.inclusive) c.in-None.is (omega (arith, c.loop-test.true)) taken next)
 
@@ -23,10 +24,10 @@ pub loop-preserved : goal.loop-preserved
 loop-preserved g c =
     let told = c.in_ok-row.ensures in
     record {
-      left = left_more c.loop.invariant.left told.told told.fuse told.spare told.own.later told.quiet told.cause.later;
+      reads = read_more c.loop.invariant.reads told.reads;
       planned = reads_more c.loop.counter (c.loop.counter + 1) (g.K.Keeper.schedule c.args.keeper.now) (g.K.Keeper.schedule c.loop.keeper) (g.K.Keeper.schedule c.next_under.new.keeper) false (omega arith) c.loop.invariant.planned told.planned;
       past = past_after c.args.place.now c.loop.pairs c.push_row.new.pairs c.in-Some.row (start_of c.args.prefix.now) c.in_ok-push_row-in-Some.ensures (rw c.in-Some.is at told.past);
-      done = told_both (g.K.Keeper.told c.args.keeper.now) (g.K.Keeper.told c.loop.keeper) c.loop.invariant.left.told_same c.loop.invariant.done told.row
+      done = told_both (g.K.Keeper.told c.args.keeper.now) (g.K.Keeper.told c.loop.keeper) c.loop.invariant.reads.told_same c.loop.invariant.done told.row
           (λ (kept : Kept). λ taken next. taken_more (processed kept) c.args.prefix.now c.args.place.now c.loop.pairs c.push_row.new.pairs c.loop.counter c.place_after-inclusive.result.0.now c.place_after-inclusive.result.1 c.in_ok-row.field-0 c.in-Some.row
           (rw c.as_slice.ensures at c.place_after-inclusive.ensures.bound) (rw c.as_slice.ensures at c.place_after-inclusive.ensures.inclusive) c.in-Some.is c.in_ok-push_row-in-Some.ensures taken next);
     }

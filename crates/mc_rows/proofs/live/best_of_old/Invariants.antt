@@ -1,8 +1,8 @@
-use Rattle.std.proofs.Common.{◌≡◌, ◌≤◌, take}
+use Rattle.std.proofs.Common.{◌≡◌, take}
 use Rattle.std.specs.Prelude.{IfSome}
 use Rattle.mc_model.specs.Kept.{processed}
 use Rattle.mc_model.specs.Rank.{greatest}
-use Rattle.mc_keep.specs.Causes.{StaysQuiet}
+use Rattle.mc_keep.specs.Calls.{HasRead}
 use Rattle.mc_rows.specs.Rows.{tombs_of}
 use Rattle.mc_keep.specs.Live.{live_rows}
 use Rattle.mc_rows.specs.Live.{hides}
@@ -12,12 +12,7 @@ use Rattle.mc_rows.proofs.live.best_of_old.Given as goal
 
 abbrev pub invariant-loop-row : goal.invariant-loop-row
 invariant-loop-row g l = record {
-  told : g.K.Keeper.told l.keeper ≡ g.K.Keeper.told l.fn.keeper;
-  fuse : g.K.Keeper.fuse l.keeper ≡ g.K.Keeper.fuse l.fn.keeper;
-  spare : g.K.Keeper.spare l.fn.keeper ≤ g.K.Keeper.spare l.keeper;
-  own : g.K.Keeper.own l.fn.keeper ≤ g.K.Keeper.own l.keeper;
-  quiet : StaysQuiet (g.K.Keeper.quiet l.fn.keeper) (g.K.Keeper.quiet l.keeper) (g.K.Keeper.own l.fn.keeper) (g.K.Keeper.own l.keeper);
-  faults : g.K.Counted.faults l.fn.keeper ≤ g.K.Counted.faults l.keeper;
+  reads : HasRead g.K.Keeper g.K.Counted l.fn.keeper l.keeper;
   best : IfSome (g.K.Keeper.told l.fn.keeper) (λ kept. ranked_best l.best ≡ greatest (live_rows (hides (processed kept) (tombs_of l.tombs) l.key) (take l.row-index l.rows)));
   last : IfSome (g.K.Keeper.told l.fn.keeper) (λ kept. SeenFits (processed kept) (tombs_of l.tombs) l.key l.last);
 }

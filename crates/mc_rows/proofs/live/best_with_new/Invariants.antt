@@ -1,8 +1,8 @@
-use Rattle.std.proofs.Common.{◌≡◌, ◌≤◌, take}
+use Rattle.std.proofs.Common.{◌≡◌, take}
 use Rattle.std.specs.Prelude.{IfSome, fold}
 use Rattle.mc_model.specs.Kept.{processed}
 use Rattle.mc_model.specs.Rank.{greater}
-use Rattle.mc_keep.specs.Causes.{StaysQuiet}
+use Rattle.mc_keep.specs.Calls.{HasRead}
 use Rattle.mc_rows.specs.Rows.{rows_of, tombs_of}
 use Rattle.mc_keep.specs.Live.{live_rows}
 use Rattle.mc_rows.specs.Live.{hides}
@@ -11,11 +11,6 @@ use Rattle.mc_rows.proofs.live.best_with_new.Given as goal
 
 abbrev pub invariant-loop-element : goal.invariant-loop-element
 invariant-loop-element g l = record {
-  told : g.K.Keeper.told l.keeper ≡ g.K.Keeper.told l.fn.keeper;
-  fuse : g.K.Keeper.fuse l.keeper ≡ g.K.Keeper.fuse l.fn.keeper;
-  spare : g.K.Keeper.spare l.fn.keeper ≤ g.K.Keeper.spare l.keeper;
-  own : g.K.Keeper.own l.fn.keeper ≤ g.K.Keeper.own l.keeper;
-  quiet : StaysQuiet (g.K.Keeper.quiet l.fn.keeper) (g.K.Keeper.quiet l.keeper) (g.K.Keeper.own l.fn.keeper) (g.K.Keeper.own l.keeper);
-  faults : g.K.Counted.faults l.fn.keeper ≤ g.K.Counted.faults l.keeper;
+  reads : HasRead g.K.Keeper g.K.Counted l.fn.keeper l.keeper;
   best : IfSome (g.K.Keeper.told l.fn.keeper) (λ kept. ranked_best l.best ≡ fold greater (ranked_best l.fn.best) (live_rows (hides (processed kept) (tombs_of l.tombs) l.key) (rows_of (take l.element-index l.elements))));
 }

@@ -14,6 +14,6 @@ returns-clause-fit g c =
     c.in_ok-tombs.ensures.sorted
     c.in_ok-tombs.ensures.members
     (rw (c.as_slice-2.ensures.value, c.as_slice-3.ensures.value) at c.in_ok-keys.ensures.members)
-    (rw (c.in_ok-tombs.ensures.told, c.as_slice-4.ensures.value, c.as_slice-5.ensures.value, c.as_slice-6.ensures.value) at c.in_ok-values.ensures.fit)
+    (rw (c.in_ok-tombs.ensures.reads.told_same, c.as_slice-4.ensures.value, c.as_slice-5.ensures.value, c.as_slice-6.ensures.value) at c.in_ok-values.ensures.fit)
     (c.in_ok-element_rows.ensures ∙ ap rows_of c.as_slice-7.ensures.value)
     (c.in_ok-tomb_rows.ensures ∙ ap tombs_of c.as_slice-8.ensures.value)

@@ -6,7 +6,7 @@ use Rattle.mc_rows.proofs.values.change_anew.Goals as goal
 
 pub returns-clause-change : goal.returns-clause-change
 returns-clause-change g c =
-    let one = c.in_ok-rows.ensures.told in
-    let two = c.in_ok-best.ensures.told ∙ one in
+    let one = c.in_ok-rows.ensures.reads.told_same in
+    let two = c.in_ok-best.ensures.reads.told_same ∙ one in
     anew_told (g.K.Keeper.told c.args.keeper.now) (rows_of c.args.elements.now) (tombs_of c.args.tombs.now) c.args.key.now c.args.old.now _ _ _ _
     c.requires.old c.in_ok-rows.ensures.row (rw (one, c.as_slice.ensures) at c.in_ok-best.ensures.best) (rw two at c.in_ok-found.ensures.best) c.in_ok-change_to.ensures

@@ -13,11 +13,11 @@ returns-then-is_empty-clause-call g c =
 
 pub returns-in-Ok-clause-call : goal.returns-in-Ok-clause-call
 returns-in-Ok-clause-call g c =
-    part_call (λ s. Is (commit_refusal s)) CommitPlan _ _ _ _ _ _ _ _ _ _ _ _ _ _ c.if-self.false c.in-Ok.ensures.told c.in-Ok.ensures.fuse c.in-Ok.ensures.own.later
+    part_call (λ s. Is (commit_refusal s)) CommitPlan _ _ _ _ _ _ _ _ _ _ _ _ _ _ c.if-self.false c.in-Ok.ensures.reads.told_same c.in-Ok.ensures.reads.fuse_same c.in-Ok.ensures.reads.own_later
     (commit_plan c.kept_is_durable.ensures.back _ (g.K.Keeper.fuse c.args.self.now.keeper) c.args.self.now.batch c.in-Some.batch c.args.self.now.whole c.in-Ok.planned c.in-Some.is c.if-is_empty.ensures c.in-Ok.ensures.allowed c.in-Ok.ensures.planned)
     c.take_up_batch.ensures.answer c.take_up_batch.ensures.only c.take_up_batch.ensures.part
 
 pub returns-in-Err-clause-call : goal.returns-in-Err-clause-call
 returns-in-Err-clause-call g c =
-    early_call (λ s. Is (commit_refusal s)) CommitPlan _ _ _ _ _ _ c.args.self.now.batch _ _ _ c.if-self.false c.in-Err.ensures.told c.in-Err.ensures.fuse c.stops-self.ensures c.in-Err.ensures.own.failed
+    early_call (λ s. Is (commit_refusal s)) CommitPlan _ _ _ _ _ _ c.args.self.now.batch _ _ _ c.if-self.false c.in-Err.ensures.reads.told_same c.in-Err.ensures.reads.fuse_same c.stops-self.ensures c.in-Err.ensures.reads.own_rose
     (commit_due c.kept_is_durable.ensures.back _ (g.K.Keeper.fuse c.args.self.now.keeper) c.args.self.now.batch c.in-Some.batch c.args.self.now.whole _ c.in-Some.is c.if-is_empty.ensures c.in-Err.ensures.refused)

@@ -4,21 +4,21 @@ use Rattle.mc_core.proofs.replica.Replica.delete.Goals as goal
 
 pub take_up_all-requires-clause-next : goal.take_up_all-requires-clause-next
 take_up_all-requires-clause-next g c κs within =
-    delete_next c.kept_is_durable.ensures.made_links _ _ c.args.key.now _ c.in-Ok.ensures.told c.is_sound.ensures c.in-Ok.ensures.made
+    delete_next c.kept_is_durable.ensures.made_links _ _ c.args.key.now _ c.in-Ok.ensures.reads.told_same c.is_sound.ensures c.in-Ok.ensures.made
 
 pub returns-in-Ok-clause-call : goal.returns-in-Ok-clause-call
 returns-in-Ok-clause-call g c =
-    delete_call c.kept_is_durable.ensures.back _ _ _ _ _ _ _ _ c.args.key.now _ _ _ _ _ c.if-self.false c.in-Ok.ensures.told c.in-Ok.ensures.fuse c.in-Ok.ensures.own.later c.in-Ok.ensures.allowed c.in-Ok.ensures.made
+    delete_call c.kept_is_durable.ensures.back _ _ _ _ _ _ _ _ c.args.key.now _ _ _ _ _ c.if-self.false c.in-Ok.ensures.reads.told_same c.in-Ok.ensures.reads.fuse_same c.in-Ok.ensures.reads.own_later c.in-Ok.ensures.allowed c.in-Ok.ensures.made
     c.take_up_all.ensures.takes
 
 pub returns-in-Err-clause-call : goal.returns-in-Err-clause-call
 returns-in-Err-clause-call g c =
-    delete_early c.kept_is_durable.ensures.back _ _ _ _ _ _ _ _ c.args.key.now _ _ c.if-self.false c.in-Err.ensures.told c.in-Err.ensures.fuse c.stops-self.ensures c.in-Err.ensures.own.failed c.in-Err.ensures.refused
+    delete_early c.kept_is_durable.ensures.back _ _ _ _ _ _ _ _ c.args.key.now _ _ c.if-self.false c.in-Err.ensures.reads.told_same c.in-Err.ensures.reads.fuse_same c.stops-self.ensures c.in-Err.ensures.reads.own_rose c.in-Err.ensures.refused
 
 pub returns-in-Ok-clause-short : goal.returns-in-Ok-clause-short
 returns-in-Ok-clause-short g c =
     short_call c.kept_is_durable.ensures.back c.commits_are_events.ensures.sound c.changes_fit.ensures.stored c.changes_fit.ensures.same c.kept_is_durable.ensures.made_links
-    _ _ _ _ _ _ _ _ c.args.key.now _ _ _ c.if-self.false c.in-Ok.ensures.told c.in-Ok.ensures.fuse c.is_sound.ensures c.in-Ok.ensures.made c.take_up_all.ensures.takes
+    _ _ _ _ _ _ _ _ c.args.key.now _ _ _ c.if-self.false c.in-Ok.ensures.reads.told_same c.in-Ok.ensures.reads.fuse_same c.is_sound.ensures c.in-Ok.ensures.made c.take_up_all.ensures.takes
 
 pub returns-in-Err-clause-short : goal.returns-in-Err-clause-short
-returns-in-Err-clause-short g c = short_early _ _ _ _ _ _ c.args.key.now _ c.in-Err.ensures.told
+returns-in-Err-clause-short g c = short_early _ _ _ _ _ _ c.args.key.now _ c.in-Err.ensures.reads.told_same

@@ -1,7 +1,8 @@
-use Rattle.std.proofs.Common.{◌∙◌, sym, arith}
+use Rattle.std.proofs.Common.{rules, ◌∙◌, sym}
 use Rattle.std.proofs.lemmas.Iterator.Adapters.{YieldsList-from_vec}
 use Rattle.std.proofs.lemmas.Iterator.Consumers.{YieldsList-turn, YieldsList-so_far}
 use Rattle.mc_core.proofs.DeleteFacts.{rest_of}
+use Rattle.mc_core.proofs.Keeps.{continues_more}
 use Rattle.mc_core.proofs.TakenFacts.{first_told, second_told, next_told, taken_goes_on, taken_ends}
 use Rattle.mc_core.proofs.replica.Replica.take_up_all.Goals as goal
 
@@ -26,10 +27,7 @@ loop-made-preserved g c = record {
   taken = taken_goes_on c.kept_is_durable.ensures.back _ _ _ _ _ _ _ _ c.in-Some.made c.requires.up c.loop-made.invariant.taken c.in-Ok.ensures.takes;
   silent = λ e. c.in-Ok.ensures.silent (c.loop-made.invariant.silent e);
   up = c.in-Ok.ensures.up;
-  counted = λ n. c.in-Ok.ensures.counted c.in-Ok.ensures.up (c.loop-made.invariant.counted n);
-  own = omega (arith, c.loop-made.invariant.own, c.in-Ok.ensures.own);
-  quiet = λ q. let before = c.loop-made.invariant.quiet q in let now = c.in-Ok.ensures.quiet before.0 in (now.0, now.1 ∙ before.1);
-  cause = omega (arith, c.loop-made.invariant.cause, c.in-Ok.ensures.cause.later);
+  keeps = continues_more c.loop-made.invariant.keeps c.loop-made.invariant.up c.in-Ok.ensures.keeps;
 }
 
 pub returns-in-Err-clause-takes : goal.returns-in-Err-clause-takes
@@ -38,7 +36,9 @@ returns-in-Err-clause-takes g c =
     let turn = YieldsList-turn road c.loop-made.yielded c.loop-made.made-iterator c.loop-made.yielded_by c.next.result c.next.new.self c.in-Some.made c.in-Some.is c.next.ensures.steps in
     let so_far = YieldsList-so_far road c.loop-made.yielded c.loop-made.made-iterator c.loop-made.yielded_by in
     let rest = rest_of c.loop-made.yielded c.into_vec-made-items.result.items c.in-Some.made so_far turn.0 turn.1 in
-    taken_ends c.kept_is_durable.ensures.back _ _ _ _ _ _ _ _ c.in-Some.made rest.0 c.args.blocks _ _ _ c.in-Err.error c.requires.up c.loop-made.invariant.own (sym c.into_vec-made-items.ensures ∙ rest.1) c.loop-made.invariant.taken c.in-Err.ensures.takes
+    taken_ends c.kept_is_durable.ensures.back _ _ _ _ _ _ _ _ c.in-Some.made rest.0 c.args.blocks _ _ _ c.in-Err.error c.requires.up c.loop-made.invariant.keeps.own_later (sym c.into_vec-made-items.ensures ∙ rest.1) c.loop-made.invariant.taken c.in-Err.ensures.takes
 
-pub returns-in-Err-clause-counted : goal.returns-in-Err-clause-counted
-returns-in-Err-clause-counted g c = λ up n. c.in-Err.ensures.counted up (c.loop-made.invariant.counted n)
+pub returns-in-Err-clause-keeps : goal.returns-in-Err-clause-keeps
+returns-in-Err-clause-keeps g c =
+    let both = continues_more c.loop-made.invariant.keeps c.loop-made.invariant.up c.in-Err.ensures.keeps in
+    record { counted = both.counted; own_later = both.own_later; still_quiet = both.still_quiet; later = both.later; rose = search rules }
