@@ -4,7 +4,7 @@ ghost use Rattle.mc_model.specs.Batch.{empty_batch, is_empty_batch, batch_put, b
 ghost use Rattle.mc_model.specs.Cuts.{pairs};
 ghost use Rattle.mc_model.specs.Kept.{processed};
 ghost use Rattle.mc_keep.specs.Calls.{Reads};
-ghost use Rattle.mc_keep.specs.Causes.{OnFailed};
+ghost use Rattle.mc_keep.specs.Plan.{is_fault};
 
 use crate::dropped::{add_pairs, tombs_of_dropped};
 use crate::elements::{drop_element, elements_of_puts, put_element};

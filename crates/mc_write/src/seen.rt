@@ -3,7 +3,8 @@ ghost use Rattle.std.specs.Prelude.{◌≡◌, ◌++◌, ◌∷◌, [], IfOk, On
 ghost use Rattle.mc_model.specs.Cuts.{pairs};
 ghost use Rattle.mc_model.specs.Kept.{processed};
 ghost use Rattle.mc_keep.specs.Calls.{Reads};
-ghost use Rattle.mc_keep.specs.Causes.{IfTold, OnFailed};
+ghost use Rattle.mc_keep.specs.Causes.{IfTold};
+ghost use Rattle.mc_keep.specs.Plan.{is_fault};
 ghost use Rattle.mc_write.specs.Rows.{last_rows, is_shown};
 ghost use Rattle.mc_write.specs.Seen.{seen, all_seen, row_pair, has_digest, have_digests};
 
