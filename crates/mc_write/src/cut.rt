@@ -29,8 +29,10 @@ pub(crate) fn cut(
     pairs: &[Pair],
 ) -> Result<List<Delta>, WriteError>
     requires { have_digests (all_seen pairs.now) ≡ true }
-    ensures cuts { IfOk result (λ deltas. (cids : prelude.List Link) → links ≡ capped (links_length cids) → IsCuts cids (number priority) key.now (all_seen pairs.now) deltas) }
-    ensures refused { IfErr result (λ error. (cids : prelude.List Link) → links ≡ capped (links_length cids) → CutsRefused cids (number priority) key.now (all_seen pairs.now) error) }
+    ensures cuts { IfOk result (λ deltas. (cids : prelude.List Link) →
+        links ≡ capped (links_length cids) → IsCuts cids (number priority) key.now (all_seen pairs.now) deltas) }
+    ensures refused { IfErr result (λ error. (cids : prelude.List Link) →
+        links ≡ capped (links_length cids) → CutsRefused cids (number priority) key.now (all_seen pairs.now) error) }
     ensures keeper { is_fault result ≡ false }
 {
     let mut deltas = List::new(alloc);
@@ -76,9 +78,12 @@ fn next_delta(
     requires tomb { IsTombLen key.now tomb }
     requires some { 0 < length pairs.now }
     requires digests { have_digests (all_seen pairs.now) ≡ true }
-    ensures within { IfOk result (λ delta. (0 < length delta.tombstones) × (length delta.tombstones ≤ length pairs.now)) }
-    ensures cut { IfOk result (λ delta. (cids : prelude.List Link) → links ≡ capped (links_length cids) → IsNext cids (number priority) key.now (all_seen pairs.now) delta) }
-    ensures refused { IfErr result (λ error. (cids : prelude.List Link) → links ≡ capped (links_length cids) → NextRefused cids (number priority) key.now (all_seen pairs.now) error) }
+    ensures within { IfOk result (λ delta.
+        (0 < length delta.tombstones) × (length delta.tombstones ≤ length pairs.now)) }
+    ensures cut { IfOk result (λ delta. (cids : prelude.List Link) →
+        links ≡ capped (links_length cids) → IsNext cids (number priority) key.now (all_seen pairs.now) delta) }
+    ensures refused { IfErr result (λ error. (cids : prelude.List Link) →
+        links ≡ capped (links_length cids) → NextRefused cids (number priority) key.now (all_seen pairs.now) error) }
     ensures keeper { is_fault result ≡ false }
 {
     let Some(priority) = priority else {
