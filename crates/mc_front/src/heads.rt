@@ -1,8 +1,10 @@
 // The new heads of a group of blocks.
-ghost use Rattle.std.specs.Prelude.{◌≡◌, OnErr};
+ghost use Rattle.std.specs.Prelude.{◌≡◌};
+ghost use Rattle.std.specs.Result.{is_err};
 ghost use Rattle.mc_model.specs.Kept.{processed};
 ghost use Rattle.mc_keep.specs.Calls.{Reads};
-ghost use Rattle.mc_keep.specs.Causes.{IfTold, OnFailed};
+ghost use Rattle.mc_keep.specs.Causes.{IfTold};
+ghost use Rattle.mc_keep.specs.Plan.{is_fault};
 ghost use Rattle.mc_front.specs.Steps.{leads_to, rows_of_heads};
 ghost use Rattle.mc_front.specs.Front.{head_row};
 
