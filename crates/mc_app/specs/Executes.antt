@@ -7,8 +7,8 @@ use Rattle.mc_script.specs.declared.command.Command.{Command}
 use Rattle.mc_script.specs.declared.reply.Reply.{Reply}
 use Rattle.mc_app.specs.Runs.{Answer, LineStep, IsWithin, fault_of, owns_none, text_of_answer}
 
--- this was read of a line, it was done and answered, and the answer was written; the keeper's count rose from one number
--- to another; and where all was calm, the record names no keeper that failed by itself
+-- this was read of a line, it was done and answered, and the answer was written; the keeper's count rose from one
+-- number to another; and where all was calm, the record names no keeper that failed by itself
 pub record Executes (calm : Type 0) (old : Option (List ReplicaState)) (faults : ℕ) (read : Option (Option Command))
     (new : Option (List ReplicaState)) (faults_now : ℕ) (before after : Option (List ℕ)) : Type 0 where
   pub answer : Option Answer

@@ -140,21 +140,24 @@ pub record IsRefused (Refusal : Option Reply → Type 0) (s new : ReplicaState) 
   pub same : new ≡ s
 
 -- nothing refuses the command, and all its events have happened
-pub record IsDone (Refusal : Option Reply → Type 0) (Planned : List Event → Reply → Type 0) (s new : ReplicaState) (reply : Reply) : Type 0 where
+pub record IsDone (Refusal : Option Reply → Type 0) (Planned : List Event → Reply → Type 0)
+    (s new : ReplicaState) (reply : Reply) : Type 0 where
   pub allowed : Refusal None
   pub events : List Event
   pub plan : Planned events reply
   pub goes : Goes events s new
 
--- the keeper failed, and the command's events are cut short; `named` says that the record of the line names the replica,
--- and `own` that it names it for a fault that no fuse made
-pub record IsFaulted (Planned : List Event → Reply → Type 0) (named own : Type 0) (s new : ReplicaState) (reply : Reply) : Type 0 where
+-- the keeper failed, and the command's events are cut short; `named` says that the record of the line names the
+-- replica, and `own` that it names it for a fault that no fuse made
+pub record IsFaulted (Planned : List Event → Reply → Type 0) (named own : Type 0)
+    (s new : ReplicaState) (reply : Reply) : Type 0 where
   pub cause : named
   pub says : reply ≡ FaultKeeper
   pub faults : Faults Planned own s new
 
 -- a command does one of the three
-abbrev pub Row : (Option Reply → Type 0) → (List Event → Reply → Type 0) → Type 0 → Type 0 → ReplicaState → ReplicaState → Reply → Type 0
+abbrev pub Row : (Option Reply → Type 0) → (List Event → Reply → Type 0) → Type 0 → Type 0 → ReplicaState → ReplicaState
+    → Reply → Type 0
 Row Refusal Planned named own s new reply =
     (IsRefused Refusal s new reply ⊎ IsDone Refusal Planned s new reply) ⊎ IsFaulted Planned named own s new reply
 
@@ -165,10 +168,13 @@ ReplicaStep s command named own new reply = Row (Refuses s command) (Plan s comm
 abbrev pub is_named : List ℕ → ℕ → Bool
 is_named numbers r = list_any (λ number. number == r) numbers
 
--- a command leads from one world to another with this reply and this entry of the record: only the replica that it names changes
-pub record Step (w : List ReplicaState) (command : Command) (entry : LineEntry) (reply : Reply) (w2 : List ReplicaState) : Type 0 where
+-- a command leads from one world to another with this reply and this entry of the record: only the replica that it
+-- names changes
+pub record Step (w : List ReplicaState) (command : Command) (entry : LineEntry) (reply : Reply)
+    (w2 : List ReplicaState) : Type 0 where
   pub old : ReplicaState
   pub new : ReplicaState
   pub stands : slice_get w (place_of command) ≡ Some old
   pub after : w2 ≡ set w (place_of command) new
-  pub step : ReplicaStep old command (is_named entry.keepers (place_of command) ≡ true) (is_named entry.own (place_of command) ≡ true) new reply
+  pub step : ReplicaStep old command (is_named entry.keepers (place_of command) ≡ true)
+      (is_named entry.own (place_of command) ≡ true) new reply
