@@ -13,7 +13,6 @@ pub mod PartFacts
 pub mod PlanFacts
 pub mod PutFacts
 pub mod RefusalFacts
-pub mod TestFacts
 pub mod ShortFacts
 pub mod TakenFacts
 pub mod ValueFacts
