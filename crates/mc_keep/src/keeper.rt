@@ -71,7 +71,7 @@ pub trait Keeper: Counted {
 
     /// The bytes of a stored block, or none where it is not stored, read by another thread beside the owner's calls.
     /// `Failed` comes only where the desk's count rose.
-    fn peer_block<W: Wait + Sync>(
+    fn peer_block<W: Wait>(
         &self,
         alloc: Global,
         desk: &mut Self::Desk,

@@ -314,7 +314,7 @@ fn link_alone(alloc: Global) -> Result<Bytes, AllocError> {
 }
 
 // Whether another thread's desk reads the block, and finds no other.
-fn has_peer_block<W: Wait + Sync, K: Keeper>(
+fn has_peer_block<W: Wait, K: Keeper>(
     rt: &W,
     keeper: &mut K,
     alloc: Global,
@@ -332,7 +332,7 @@ where
 }
 
 // A link to a block that comes later.
-fn closes_a_gap<W: Wait + Sync, K: Keeper + Drop>(
+fn closes_a_gap<W: Wait, K: Keeper + Drop>(
     rt: &W,
     keeper: K,
     alloc: Global,

@@ -182,7 +182,7 @@ impl Keeper for HandMade {
         Ok(HandMadeDesk { faults: 0 })
     }
 
-    fn peer_block<W: Wait + Sync>(
+    fn peer_block<W: Wait>(
         &self,
         _alloc: Global,
         _desk: &mut HandMadeDesk,
