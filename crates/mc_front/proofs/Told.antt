@@ -3,12 +3,13 @@ use Rattle.std.proofs.Common.{◌≡◌, ℕ, ◌+◌, ◌-◌, ◌≤◌, Bool,
 use Rattle.std.specs.Prelude.{◌==◌, IfSome, unwrap_or, if◌then◌else◌}
 use Rattle.std.specs.List.{list_any}
 use Rattle.std.proofs.lemmas.List.{length-map}
+use Rattle.std.proofs.lemmas.Bool.{or_cases, or_parts as or_none}
 use Rattle.mc_base.specs.declared.cid.Cid.{Cid}
 use Rattle.mc_model.specs.declared.block.Block.{Block}
 use Rattle.mc_model.specs.Front.{same_cid, is_among, is_processed, is_linked, gaps}
 use Rattle.mc_model.specs.Kept.{Kept, processed}
 use Rattle.mc_model.proofs.Blocks.{is_processed_has}
-use Rattle.mc_model.proofs.Counts.{cid_is, or_cases, or_none}
+use Rattle.mc_model.proofs.Counts.{cid_is}
 use Rattle.mc_keep.specs.declared.rows.HeadRow.{HeadRow}
 use Rattle.mc_keep.specs.declared.rows.Summary.{Summary}
 use Rattle.mc_keep.specs.declared.changes.Changes.{Changes}

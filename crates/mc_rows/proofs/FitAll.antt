@@ -6,6 +6,7 @@ use Rattle.std.specs.List.Sorted.{IsStrictlySortedBy}
 use Rattle.std.specs.Str.{bytes_eq}
 use Rattle.std.proofs.lemmas.List.Folds.{list_any-append}
 use Rattle.std.proofs.lemmas.Map.Views.{any-filter_same}
+use Rattle.std.proofs.lemmas.Bool.{or_parts as or_none, and_parts as and_both}
 use lib.Pointwise.{bytes_decides}
 use denote.Ref.{Bor}
 use Rattle.mc_model.specs.declared.block.Block.{Block}
@@ -14,7 +15,6 @@ use Rattle.mc_model.specs.Ascending.{is_once}
 use Rattle.mc_model.specs.Front.{same_cid}
 use Rattle.mc_model.specs.Kept.{Kept, processed}
 use Rattle.mc_model.specs.Live.{has_tomb, is_tomb, value_row}
-use Rattle.mc_model.proofs.Counts.{or_none, and_both}
 use Rattle.mc_model.proofs.Live.{has_tomb-append}
 use Rattle.mc_model.proofs.Members.{list_any-filter, list_any-map}
 use Rattle.mc_keep.specs.declared.rows.ElementRow.{ElementRow}

@@ -8,6 +8,7 @@ use Rattle.std.proofs.lemmas.List.Concat.{flat_map-append}
 use Rattle.std.proofs.lemmas.List.Elements.{filter-append}
 use Rattle.std.proofs.lemmas.List.{append-nil}
 use Rattle.std.proofs.lemmas.Slice.Eq.{bytes_eq-Decides}
+use Rattle.std.proofs.lemmas.Bool.{or_parts as or_none}
 use Rattle.mc_base.specs.declared.cid.Cid.{Cid}
 use Rattle.mc_model.specs.declared.block.Block.{Block}
 use Rattle.mc_model.specs.Front.{same_cid}
@@ -15,7 +16,6 @@ use Rattle.mc_model.specs.Id.{id_text}
 use Rattle.mc_model.specs.SameMembers.{SameMembers}
 use Rattle.mc_model.specs.Rank.{Ranked, same_ranked, greatest, greater, IsGreatestOf}
 use Rattle.mc_model.specs.Live.{has_tomb, live, value_row}
-use Rattle.mc_model.proofs.Counts.{or_none}
 use Rattle.mc_model.proofs.Greatest.{greatest_of_fewer, greatest_same, greatest_is_greatest, greatest-append}
 use Rattle.mc_model.proofs.Members.{list_any-filter, same_flat_map}
 use Rattle.mc_keep.specs.declared.rows.ElementRow.{ElementRow}

@@ -11,6 +11,7 @@ use Rattle.std.specs.declared.cmp.Ordering.{Ordering}
 use Rattle.std.specs.declared.cmp.Ordering.TheVariants.{Less, Equal, Greater}
 use Rattle.std.proofs.lemmas.Cmp.{tied_itself, nat_cmp_total, nat_list_eq_equiv}
 use Rattle.std.proofs.lemmas.List.Folds.{list_any-append}
+use Rattle.std.proofs.lemmas.Bool.{or_parts as or_none, and_parts as and_both}
 use lib.Pointwise.{bytes_decides}
 use Rattle.mc_base.specs.declared.cid.Cid.{Cid}
 use Rattle.mc_model.specs.declared.block.Block.{Block}
@@ -18,7 +19,7 @@ use Rattle.mc_model.specs.declared.delta.Element.{Element}
 use Rattle.mc_model.specs.Ascending.{is_once}
 use Rattle.mc_model.specs.Front.{same_cid}
 use Rattle.mc_model.specs.SameMembers.{SameMembers}
-use Rattle.mc_model.proofs.Counts.{cid_is, cid_itself, or_none, and_both}
+use Rattle.mc_model.proofs.Counts.{cid_is, cid_itself}
 use Rattle.mc_keep.specs.declared.rows.ElementRow.{ElementRow}
 use Rattle.mc_keep.specs.declared.rows.TombRow.{TombRow}
 use Rattle.mc_keep.specs.Tables.{element_row, element_rows, same_element, same_tomb}

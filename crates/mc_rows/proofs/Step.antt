@@ -10,6 +10,7 @@ use Rattle.std.proofs.lemmas.List.{append-nil, get_or-take, get_or_default, leng
 use Rattle.std.proofs.lemmas.List.Folds.{list_any-append, list_any_none, list_any_more, list_all-append}
 use Rattle.std.proofs.lemmas.Map.Keys.{Less-from_sorted}
 use Rattle.std.proofs.lemmas.Map.Text.{is_eq-slice_cmp}
+use Rattle.std.proofs.lemmas.Bool.{or_parts as or_none}
 use lib.Pointwise.{bytes_decides}
 use denote.Ref.{Bor}
 use Rattle.mc_model.specs.declared.block.Block.{Block}
@@ -17,7 +18,6 @@ use Rattle.mc_model.specs.Ascending.{is_once}
 use Rattle.mc_model.specs.Kept.{Kept, processed}
 use Rattle.mc_model.specs.Live.{value_row}
 use Rattle.mc_model.specs.Rank.{Ranked}
-use Rattle.mc_model.proofs.Counts.{or_none}
 use Rattle.mc_model.proofs.Greatest.{fold-append}
 use Rattle.mc_keep.specs.declared.rows.ElementRow.{ElementRow}
 use Rattle.mc_keep.specs.declared.rows.TombRow.{TombRow}
