@@ -20,6 +20,7 @@ empty_at : (all : List (List ℕ)) (place : ℕ) (segment : List ℕ) → place 
 empty_at [] place segment within is empty = absurd (omega arith)
 empty_at (first ∷ all) zero segment within is empty = rw (rw is at empty) refl
 empty_at (first ∷ all) (suc place) segment within is empty = rw (empty_at all place segment (omega arith) is empty) (or-true (is_empty first))
+
 no_bytes : (segment : List ℕ) → length segment ≡ 0 → is_empty segment ≡ true
 no_bytes [] h = refl
 no_bytes (byte ∷ segment) h = absurd (omega arith)

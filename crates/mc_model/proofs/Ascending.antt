@@ -81,6 +81,7 @@ module _ {X : Type 0} (cmp : X → X → Ordering) (total : IsTotalOrder cmp) (t
         | Equal ↦ λ e. subst (λ z. (test y || list_any test ys) ≡ (test z || (test y || list_any test ys))) (sym (tied x y e)) (sym (or_self_left (test y) (list_any test ys)))
         | Greater ↦ λ e. ap (λ rest. test y || rest) (insert_members test x ys) ∙ or_shift (test y) (test x) (list_any test ys)
       ] refl
+
   insert_below : (w x : X) (ys : List X) → cmp w x ≡ Less → Below w ys → Below w (insert_in_order cmp x ys)
   insert_below w x [] e b = (e, b)
   insert_below w x (y ∷ ys) e b =

@@ -93,6 +93,7 @@ all_links_blocks graph [] e = refl
 all_links_blocks graph (x ∷ cids) e =
     let parts = and_parts (is_stored graph x) (list_all (is_stored graph) cids) e in
     ap (λ front. front ++ all_links (vertices graph) cids) (links_in_stored graph x parts.0) ∙ ap (λ rest. (block_in graph x).links ++ rest) (all_links_blocks graph cids parts.1)
+
 -- a list without repeats
 
 pub times_once : (xs : List Cid) → is_once same_cid xs ≡ true → (c : Cid) → times c xs ≤ 1

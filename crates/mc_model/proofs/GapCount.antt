@@ -47,6 +47,7 @@ among_filter keep c (x ∷ xs) =
         | false ↦ among_filter keep c xs
       ]
     ] refl
+
 gap_among : (blocks : List Block) (c : Cid) → is_gap blocks c ≡ is_among (filter (λ cid. not (is_processed blocks cid)) (links blocks)) c
 gap_among blocks c =
     ap (λ z. z && not (is_processed blocks c)) (is_linked_has blocks c)

@@ -93,6 +93,7 @@ tied_gt (x ∷ xs) m n e f =
       | Equal ↦ λ t h. subst (λ (z : Ranked). is_gt (rank_cmp z n) ≡ false) (sym (rank_tied m x t)) none.0
       | Greater ↦ λ t h. tied_gt xs m n h none.1
     ] refl e
+
 neither_gt : (m n : Ranked) → is_gt (rank_cmp m n) ≡ false → is_gt (rank_cmp n m) ≡ false → m ≡ n
 neither_gt m n e f = rank_tied m n (only_equal (rank_cmp m n) e (sym (gt_lt n m) ∙ f))
   where
@@ -132,12 +133,14 @@ none_above m [] e = All-nil (λ (x : Ranked). is_gt (rank_cmp x m) ≡ false)
 none_above m (x ∷ xs) e =
     let none = or_parts (is_gt (rank_cmp x m)) (list_any (λ x. is_gt (rank_cmp x m)) xs) e in
     All-cons (λ (x : Ranked). is_gt (rank_cmp x m) ≡ false) x xs none.0 (none_above m xs none.1)
+
 -- what ties with a member is a member
 tied_member : (m : Ranked) (xs : List Ranked) → list_any (λ x. is_eq (rank_cmp m x)) xs ≡ true → Contains xs m
 tied_member m xs e =
     let found = Any-from_list_any (λ x. is_eq (rank_cmp m x)) xs e in
     let tied : rank_cmp m found.1 ≡ Equal = (Equal-is (rank_cmp m found.1)).0 found.4 in
     (found.0, found.2, subst (λ (z : Ranked). slice_index_or xs found.0 z ≡ z) (sym (rank_tied m found.1 tied)) found.3)
+
 pub greatest_is_greatest : (ranked : List Ranked) → IsGreatestOf ranked (greatest ranked)
 greatest_is_greatest [] = refl
 greatest_is_greatest (x ∷ xs) =

@@ -52,6 +52,7 @@ is_head blocks c =
       | true ↦ sym (and-false (is_processed blocks c))
       | false ↦ some_found (λ (block : Block). block.delta.priority) (λ (block : Block). same_cid c block.cid) blocks ∙ sym (and-true (is_processed blocks c))
     ]
+
 -- the identifiers of the heads are those of the processed blocks that none links to
 pub heads_cid : (blocks : List Block) (c : Cid) → list_any (same_cid c) (map (λ (head : Head). head.0) (heads blocks)) ≡ (is_processed blocks c && not (is_linked blocks c))
 heads_cid blocks c =

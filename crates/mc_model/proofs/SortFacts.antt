@@ -19,6 +19,7 @@ module _ {X : Type 0} (cmp : X → X → Ordering) (total : IsTotalOrder cmp) (t
         | true ↦ λ e. any_dedup test x ys ∙ subst (λ z. (test x || list_any test ys) ≡ (test x || (test z || list_any test ys))) (sym (tied y x ((Equal-is (cmp y x)).0 e))) (sym (or_self_left (test x) (list_any test ys)))
         | false ↦ λ e. ap (λ rest. test x || rest) (any_dedup test y ys)
       ] refl
+
   any_of_dedup : (test : X → Bool) (xs : List X) → list_any test (dedup (eq_by_cmp cmp) xs) ≡ list_any test xs
   any_of_dedup test [] = refl
   any_of_dedup test (x ∷ xs) = any_dedup test x xs
