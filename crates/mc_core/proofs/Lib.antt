@@ -5,9 +5,10 @@ pub mod DeleteFacts
 pub mod DeletedFacts
 pub mod EventFacts
 pub mod GrowthFacts
-pub mod NumberFacts
 pub mod IdFacts
 pub mod Keeps
+pub mod KindFacts
+pub mod NumberFacts
 pub mod OpenFacts
 pub mod PartFacts
 pub mod PlanFacts
@@ -15,4 +16,5 @@ pub mod PutFacts
 pub mod RefusalFacts
 pub mod ShortFacts
 pub mod TakenFacts
+pub mod TestFacts
 pub mod ValueFacts
