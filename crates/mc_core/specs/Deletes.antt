@@ -58,7 +58,7 @@ DeltasRefusal kept key refusal =
     ((deltas : List Delta) × IsDeltas kept key deltas × (refusal ≡ chain_clash kept (next_links kept) deltas))
     ⊎ ((refusal ≡ Some PriorityFull) × IsPriorityFull (next_links kept) (next_priority (processed kept)) key (pairs (processed kept) key))
     ⊎ ((len : ℕ) × (refusal ≡ Some (BlockTooLarge len))
-        × IsTooLarge (next_links kept) (next_priority (processed kept)) key (pairs (processed kept) key) len)
+    × IsTooLarge (next_links kept) (next_priority (processed kept)) key (pairs (processed kept) key) len)
 
 -- the key's refusal comes first, and that of a replica that doesn't run before it
 abbrev pub DeleteKeptRefusal : Kept → List ℕ → Option CoreError → Option CoreError → Type 0

@@ -90,7 +90,7 @@ fn take_rows<K: Keeper>(
     requires { is_past (start_of prefix.now) true place.now.bound ≡ true }
     ensures rows { IfTold (K.told keeper.old) result (λ kept pairs.
         map pair_of pairs ≡ map (with_value (processed kept))
-            (take count (left_of (processed kept) prefix.now place.now.bound place.now.inclusive))) }
+        (take count (left_of (processed kept) prefix.now place.now.bound place.now.inclusive))) }
     ensures reads { Reads K.Keeper (is_fault result) keeper.old keeper.new }
     ensures planned { ReadsWithin count (K.schedule keeper.old) (K.schedule keeper.new) (is_fault result) }
 {
