@@ -16,10 +16,11 @@ use Rattle.mc_core.specs.Batches.{batch_put_refusal, BatchPutPlan, batch_delete_
 use Rattle.mc_core.specs.Events.{ReplicaState, state_of, Goes}
 use Rattle.mc_core.specs.Plans.{plan_events}
 use Rattle.mc_core.specs.Puts.{IsPlanned, next_links}
-use Rattle.mc_keep.specs.Causes.{OnFailed}
+use Rattle.mc_keep.specs.Causes.{is_fault_kind}
+use Rattle.mc_keep.specs.Plan.{is_fault}
 use Rattle.mc_keep.specs.declared.error.KeepError.{KeepError}
 use Rattle.mc_keep.specs.declared.error.KeepError.TheVariants.{Failed, Memory}
-use Rattle.mc_core.specs.Refusals.{Is, IsDue, IfFault, OfKeeper, stops, key_refusal, value_refusal}
+use Rattle.mc_core.specs.Refusals.{Is, IsDue, OfKeeper, kind_of, stops, key_refusal, value_refusal}
 use Rattle.mc_core.specs.Replica.{run_of}
 use Rattle.mc_core.proofs.CallFacts.{at, Calls, early_call}
 use Rattle.mc_core.proofs.PutFacts.{BackLaw, plan_is_made}
@@ -48,7 +49,7 @@ batch_call Refusal Plan (Some kept) told_new fuse fuse_new stop batch after whol
 
 -- a call that ended early, with the batch as it was
 pub early_batch : {T : Type 0} (Refusal : ReplicaState → Option CoreError → Type 0) (Plan : ReplicaState → List Event → T → Type 0) (told told_new : Option Kept) (fuse fuse_new : Option Fuse) (stop stop_new : Bool) (batch after : Option OpenBatch) (whole : Bool) (rose : Type 0) (error : CoreError)
-    → after ≡ batch → stop ≡ false → told_new ≡ told → fuse_new ≡ fuse → stop_new ≡ stops error false → IfFault error rose
+    → after ≡ batch → stop ≡ false → told_new ≡ told → fuse_new ≡ fuse → stop_new ≡ stops error false → (is_fault_kind (kind_of error) ≡ true → rose)
     → IfSome told (λ kept. IsDue (Refusal (at kept fuse (run_of false batch whole))) error)
     → Told (state_of told fuse (run_of stop batch whole)) (state_of told_new fuse_new (run_of stop_new after whole)) (Calls Refusal Plan rose (Err error))
 early_batch Refusal Plan told told_new fuse fuse_new stop stop_new batch after whole rose error same up e f g r due =
@@ -90,9 +91,9 @@ pub delete_due : (told : Option Kept) (fuse : Option Fuse) (held : Option OpenBa
 delete_due told fuse held whole key Failed error of = told_all told _ (λ kept. subst (λ e. IsDue (Is (batch_delete_refusal (at kept fuse (run_of false held whole)) key)) e) (sym of) tt)
 delete_due told fuse held whole key Memory error of = told_all told _ (λ kept. subst (λ e. IsDue (Is (batch_delete_refusal (at kept fuse (run_of false held whole)) key)) e) (sym of) tt)
 
-pub keeper_rose : (keep : KeepError) (error : CoreError) (rose : Type 0) → OfKeeper keep error → OnFailed {T = ⊤} (Err keep) rose → IfFault error rose
-keeper_rose Failed error rose of r = subst (λ e. IfFault e rose) (sym of) r
-keeper_rose Memory error rose of r = subst (λ e. IfFault e rose) (sym of) tt
+pub keeper_rose : (keep : KeepError) (error : CoreError) (rose : Type 0) → OfKeeper keep error → (is_fault {T = ⊤} (Err keep) ≡ true → rose) → is_fault_kind (kind_of error) ≡ true → rose
+keeper_rose Failed error rose of r e = r refl
+keeper_rose Memory error rose of r e = absurd (let f : false ≡ true = subst (λ x. is_fault_kind (kind_of x) ≡ true) of e in cc)
 
 -- a batch that becomes a block
 abbrev DueAt : Option Kept → Option Fuse → Option OpenBatch → Bool → CoreError → Type 0

@@ -1,17 +1,18 @@
 -- What a call of a replica does, from what its parts do.
-use Rattle.std.proofs.Common.{◌≡◌, ◌≤◌, ℕ, Bool, true, false, List, [], Option, Some, None, Result, Ok, Err, refl, sym, subst, arith, inl, inr}
-use Rattle.std.specs.Prelude.{IfSome, IfOk, IfErr}
+use Rattle.std.proofs.Common.{◌≡◌, ◌≤◌, ℕ, Bool, true, false, ◌||◌, List, [], Option, Some, None, Result, Ok, Err, refl, sym, subst, arith, inl, inr}
+use Rattle.std.specs.Prelude.{IfSome, IfOk, IfErr, ⊤}
 use Rattle.mc_base.specs.Causes.{Rose}
 use Rattle.mc_base.specs.Told.{Told}
 use Rattle.mc_model.specs.Events.{Event}
 use Rattle.mc_model.specs.Kept.{Kept}
 use Rattle.mc_model.specs.State.{OpenBatch, Running, durable_of}
+use Rattle.mc_keep.specs.Causes.{Kind, Refusal as Refused, Fault, Shortage, is_fault_kind}
 use Rattle.mc_keep.specs.declared.fuse.Fuse.{Fuse}
 use Rattle.mc_core.specs.declared.error.CoreError.{CoreError}
-use Rattle.mc_core.specs.declared.error.CoreError.TheVariants.{BadKey, ValueTooLong, BlockTooLarge, PriorityFull, Clash, KeeperFault, Stopped, NoBatch, BatchOpen, Memory}
-use Rattle.mc_core.specs.Calls.{Faults, Call}
+use Rattle.mc_core.specs.declared.error.CoreError.TheVariants.{KeeperFault, Stopped}
+use Rattle.mc_core.specs.Calls.{Faults, IsRefused, Call}
 use Rattle.mc_core.specs.Events.{ReplicaState, state_of, stopped, Part}
-use Rattle.mc_core.specs.Refusals.{IsDue, IfFault, stops}
+use Rattle.mc_core.specs.Refusals.{ByKind, IsDue, kind_of, stops}
 use Rattle.mc_core.specs.Replica.{run_of}
 use Rattle.mc_core.proofs.EventFacts.{goes_nowhere, breaks_rose}
 
@@ -39,23 +40,20 @@ module _ {T : Type 0} (Refusal : ReplicaState → Option CoreError → Type 0) (
   stopped_call (Some kept) fuse stop batch whole rose is due =
       subst (λ b. Calls rose (Err Stopped) (at kept fuse (run_of b batch whole)) (at kept fuse (run_of b batch whole))) (sym is) (due kept, refl)
 
-  early : (error : CoreError) (rose : Type 0) (kept : Kept) (fuse : Option Fuse) (batch : Option OpenBatch) (whole : Bool) → IfFault error rose
-      → IsDue (Refusal (at kept fuse (run_of false batch whole))) error
-      → Calls rose (Err error) (at kept fuse (run_of false batch whole)) (at kept fuse (run_of (stops error false) batch whole))
-  early KeeperFault rose kept fuse batch whole r due = nothing_done (Plan (at kept fuse (run_of false batch whole))) rose (at kept fuse (run_of false batch whole)) r
-  early Memory rose kept fuse batch whole r due = refl
-  early (BadKey fault) rose kept fuse batch whole r due = (due, refl)
-  early ValueTooLong rose kept fuse batch whole r due = (due, refl)
-  early (BlockTooLarge len) rose kept fuse batch whole r due = (due, refl)
-  early PriorityFull rose kept fuse batch whole r due = (due, refl)
-  early (Clash cid) rose kept fuse batch whole r due = (due, refl)
-  early Stopped rose kept fuse batch whole r due = (due, refl)
-  early NoBatch rose kept fuse batch whole r due = (due, refl)
-  early BatchOpen rose kept fuse batch whole r due = (due, refl)
+  -- what such an error leaves of a running replica
+  abbrev Ends : Kind → CoreError → Type 0 → ReplicaState → ReplicaState → Type 0
+  Ends kind error rose s new = ByKind (IsRefused (Refusal s) error s new) (Faults (Plan s) rose s new) (new ≡ s) kind
+
+  early : (kind : Kind) (error : CoreError) (rose : Type 0) (kept : Kept) (fuse : Option Fuse) (batch : Option OpenBatch) (whole : Bool) → (is_fault_kind kind ≡ true → rose)
+      → ByKind (Refusal (at kept fuse (run_of false batch whole)) (Some error)) ⊤ ⊤ kind
+      → Ends kind error rose (at kept fuse (run_of false batch whole)) (at kept fuse (run_of (is_fault_kind kind || false) batch whole))
+  early Refused error rose kept fuse batch whole r due = (due, refl)
+  early Fault error rose kept fuse batch whole r due = nothing_done (Plan (at kept fuse (run_of false batch whole))) rose (at kept fuse (run_of false batch whole)) (r refl)
+  early Shortage error rose kept fuse batch whole r due = refl
 
   -- a call that ended before its first commit
   pub early_call : (told told_new : Option Kept) (fuse fuse_new : Option Fuse) (stop stop_new : Bool) (batch : Option OpenBatch) (whole : Bool) (rose : Type 0) (error : CoreError)
-      → stop ≡ false → told_new ≡ told → fuse_new ≡ fuse → stop_new ≡ stops error false → IfFault error rose
+      → stop ≡ false → told_new ≡ told → fuse_new ≡ fuse → stop_new ≡ stops error false → (is_fault_kind (kind_of error) ≡ true → rose)
       → IfSome told (λ kept. IsDue (Refusal (at kept fuse (run_of false batch whole))) error)
       → Told (state_of told fuse (run_of stop batch whole)) (state_of told_new fuse_new (run_of stop_new batch whole)) (Calls rose (Err error))
   early_call None told_new fuse fuse_new stop stop_new batch whole rose error up e f g r due = tt
@@ -64,7 +62,7 @@ module _ {T : Type 0} (Refusal : ReplicaState → Option CoreError → Type 0) (
       (subst (λ x. Calls rose (Err error) (at kept fuse (run_of stop batch whole)) (at kept x (run_of stop_new batch whole))) (sym f)
       (subst (λ b. Calls rose (Err error) (at kept fuse (run_of stop batch whole)) (at kept fuse (run_of b batch whole))) (sym g)
       (subst (λ b. Calls rose (Err error) (at kept fuse (run_of b batch whole)) (at kept fuse (run_of (stops error false) batch whole))) (sym up)
-      (early error rose kept fuse batch whole r due))))
+      (early (kind_of error) error rose kept fuse batch whole r due))))
 
   part_is : (events : List Event) (value : T) (rose : Type 0) (result : Result T CoreError) (s new : ReplicaState) → Refusal s None → Plan s events value
       → IfOk result (λ answer. answer ≡ value) → IfErr result (λ error. error ≡ KeeperFault) → Part events rose result s new → Calls rose result s new

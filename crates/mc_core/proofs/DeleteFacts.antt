@@ -1,5 +1,5 @@
 -- The blocks of a delete, made one after another.
-use Rattle.std.proofs.Common.{◌≡◌, ◌≤◌, ℕ, Bool, true, false, cond, ◌||◌, List, [], ◌∷◌, ◌++◌, length, map, take, drop, get_or, ◌+◌, ◌<◌, Option, Some, None, Result, Ok, Err, refl, sym, ◌∙◌, ap, subst}
+use Rattle.std.proofs.Common.{◌≡◌, ◌≤◌, ℕ, Bool, true, false, cond, ◌||◌, List, [], ◌∷◌, ◌++◌, length, map, take, drop, get_or, ◌+◌, ◌<◌, Option, Some, None, Result, Ok, Err, refl, sym, ◌∙◌, ap, subst, inl, inr}
 use Rattle.std.specs.Prelude.{IfSome, IfErr, find, is_some, ⊤}
 use Rattle.std.specs.List.{list_all}
 use Rattle.std.specs.Option.{option_map, option_or}
@@ -14,12 +14,16 @@ use Rattle.mc_model.specs.Front.{same_cid, is_among}
 use Rattle.mc_model.specs.Kept.{Kept, processed, bytes_at, is_stored}
 use Rattle.mc_model.specs.Made.{made_bytes, made_cid, next_priority}
 use Rattle.mc_model.specs.Offer.{block_max, offer}
+use Rattle.mc_write.specs.Cutting.{CutsRefused}
+use Rattle.mc_write.specs.declared.error.WriteError.{WriteError}
+use Rattle.mc_write.specs.declared.error.WriteError.TheVariants as write
 use Rattle.mc_core.specs.declared.deletes.MadeBlock.{MadeBlock}
 use Rattle.mc_core.specs.declared.error.CoreError.{CoreError}
-use Rattle.mc_core.specs.declared.error.CoreError.TheVariants.{BadKey, ValueTooLong, BlockTooLarge, PriorityFull, Clash, KeeperFault, Stopped, NoBatch, BatchOpen, Memory}
+use Rattle.mc_core.specs.declared.error.CoreError.TheVariants.{BlockTooLarge, PriorityFull, Clash}
 use Rattle.mc_core.specs.Deletes.{with_made, with_block, with_all, has_made, links_after, chain_clash, is_left, IsDeltas, IsDelete, DeltasRefusal, IsMade, AreMade, IsNextMade}
 use Rattle.mc_core.specs.Puts.{made_block, next_links}
-use Rattle.mc_core.specs.Refusals.{Is, IsDue, clash_refusal, other_refusal}
+use Rattle.mc_core.specs.Refusals.{Is, IsDue, OfDelete, kind_of, clash_refusal, other_refusal}
+use Rattle.mc_core.proofs.KindFacts.{by_kind}
 use Rattle.mc_core.proofs.RefusalFacts.{due_first}
 
 or_parts : (a b : Bool) → (a || b) ≡ false → (a ≡ false) × (b ≡ false)
@@ -188,55 +192,18 @@ making_fails (Some kept) first deltas rest all blocks links delta error e so_far
     subst (λ refusal. IsDue (Is refusal) error) (sym (ap (chain_clash kept first) e ∙ clash_left deltas (delta ∷ rest) blocks kept first so_far.are ∙ ap (λ l. chain_clash (with_all kept blocks) l (delta ∷ rest)) (sym so_far.last)))
     (due_first (clash_refusal (with_all kept blocks) (made_cid links delta) (made_bytes links delta)) _ error due)
 
--- a clash is refused as such
-abbrev IsClash : CoreError → Type 0
-IsClash (Clash cid) = ⊤
-IsClash KeeperFault = ⊥
-IsClash Memory = ⊥
-IsClash (BadKey fault) = ⊥
-IsClash ValueTooLong = ⊥
-IsClash (BlockTooLarge len) = ⊥
-IsClash PriorityFull = ⊥
-IsClash Stopped = ⊥
-IsClash NoBatch = ⊥
-IsClash BatchOpen = ⊥
-
-other_clash : (cid : Cid) (bytes : List ℕ) (found : Option (List ℕ)) → IfSome (other_refusal cid bytes found) IsClash
-other_clash cid bytes None = tt
-other_clash cid bytes (Some other) = elim (bytes_eq other bytes) as (λ t. IfSome (cond t None (Some (Clash cid))) IsClash) [ true ↦ tt | false ↦ tt ]
-
-one_clash : (kept : Kept) (cid : Cid) (bytes : List ℕ) → IfSome (clash_refusal kept cid bytes) IsClash
-one_clash kept cid bytes =
-    elim (is_among kept.order cid) as (λ t. IfSome (cond t (Some (Clash cid)) (other_refusal cid bytes (bytes_at kept.graph cid))) IsClash) [
-      | true ↦ tt
-      | false ↦ other_clash cid bytes (bytes_at kept.graph cid)
-    ]
-
-or_clash : (first second : Option CoreError) → IfSome first IsClash → IfSome second IsClash → IfSome (option_or first second) IsClash
-or_clash None second p q = q
-or_clash (Some error) second p q = p
-
-chain_is_clash : (kept : Kept) (links : List Cid) (deltas : List Delta) → IfSome (chain_clash kept links deltas) IsClash
-chain_is_clash kept links [] = tt
-chain_is_clash kept links (delta ∷ deltas) =
-    or_clash (clash_refusal kept (made_cid links delta) (made_bytes links delta)) _ (one_clash kept (made_cid links delta) (made_bytes links delta))
-    (chain_is_clash (with_made kept (made_cid links delta) (made_bytes links delta)) (made_cid links delta ∷ []) deltas)
-
-clash_is : (kept : Kept) (links : List Cid) (deltas : List Delta) (error : CoreError) → Some error ≡ chain_clash kept links deltas → IsClash error
-clash_is kept links deltas error e = subst (λ refusal. IfSome refusal IsClash) (sym e) (chain_is_clash kept links deltas)
-
 -- the refusal of a delete whose deltas are known is a clash
 deltas_due : (kept : Kept) (key : List ℕ) (deltas : List Delta) (error : CoreError) → IsDeltas kept key deltas → IsDue (Is (chain_clash kept (next_links kept) deltas)) error → IsDue (DeltasRefusal kept key) error
-deltas_due kept key deltas KeeperFault is due = tt
-deltas_due kept key deltas Memory is due = tt
-deltas_due kept key deltas (Clash cid) is due = (deltas, is, sym due)
-deltas_due kept key deltas (BadKey fault) is due = absurd (clash_is kept (next_links kept) deltas (BadKey fault) due)
-deltas_due kept key deltas ValueTooLong is due = absurd (clash_is kept (next_links kept) deltas ValueTooLong due)
-deltas_due kept key deltas (BlockTooLarge len) is due = absurd (clash_is kept (next_links kept) deltas (BlockTooLarge len) due)
-deltas_due kept key deltas PriorityFull is due = absurd (clash_is kept (next_links kept) deltas PriorityFull due)
-deltas_due kept key deltas Stopped is due = absurd (clash_is kept (next_links kept) deltas Stopped due)
-deltas_due kept key deltas NoBatch is due = absurd (clash_is kept (next_links kept) deltas NoBatch due)
-deltas_due kept key deltas BatchOpen is due = absurd (clash_is kept (next_links kept) deltas BatchOpen due)
+deltas_due kept key deltas error is due = by_kind (kind_of error) (λ clash. inl (deltas, is, clash)) (λ x. x) (λ x. x) due
+
+-- that of a delete without deltas is what they are refused for
+pub tombs_due : (told : Option Kept) (key : List ℕ) (cause : WriteError) (error : CoreError) → OfDelete cause error
+    → IfSome told (λ kept. CutsRefused (next_links kept) (next_priority (processed kept)) key (pairs (processed kept) key) cause) → IfSome told (λ kept. IsDue (DeltasRefusal kept key) error)
+tombs_due None key cause error of refused = tt
+tombs_due (Some kept) key (write.BlockTooLarge len) error of refused = subst (IsDue (DeltasRefusal kept key)) (sym of) (inr (inr (len, refl, refused)))
+tombs_due (Some kept) key write.PriorityFull error of refused = subst (IsDue (DeltasRefusal kept key)) (sym of) (inr (inl (refl, refused)))
+tombs_due (Some kept) key write.Failed error of refused = subst (IsDue (DeltasRefusal kept key)) (sym of) tt
+tombs_due (Some kept) key write.Memory error of refused = subst (IsDue (DeltasRefusal kept key)) (sym of) tt
 
 pub blocks_due : {T : Type 0} (told : Option Kept) (key : List ℕ) (links : List Cid) (deltas : List Delta) (result : Result T CoreError) → list_all is_left deltas ≡ true
     → IfSome told (λ kept. IsCuts (next_links kept) (next_priority (processed kept)) key (pairs (processed kept) key) deltas) → IfSome told (λ kept. links ≡ next_links kept)

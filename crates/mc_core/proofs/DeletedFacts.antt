@@ -13,20 +13,21 @@ use Rattle.mc_model.specs.Front.{is_among}
 use Rattle.mc_model.specs.Kept.{Kept, IsKept, processed}
 use Rattle.mc_model.specs.Made.{head_cids, next_priority}
 use Rattle.mc_model.specs.State.{Durable, OpenBatch, Running, durable_of, kept_of}
+use Rattle.mc_keep.specs.Causes.{is_fault_kind}
 use Rattle.mc_keep.specs.declared.fuse.Fuse.{Fuse}
 use Rattle.mc_core.specs.declared.deletes.Deleted.{Deleted}
 use Rattle.mc_core.specs.declared.deletes.MadeBlock.{MadeBlock}
 use Rattle.mc_core.specs.declared.error.CoreError.{CoreError}
-use Rattle.mc_core.specs.declared.error.CoreError.TheVariants.{BadKey, ValueTooLong, BlockTooLarge, PriorityFull, Clash, KeeperFault, Stopped, NoBatch, BatchOpen, Memory}
 use Rattle.mc_core.specs.Calls.{Call}
 use Rattle.mc_core.specs.Deletes.{chain_clash, AreMade, AreNext, IsDelete, DeleteKeptRefusal, DeletePlan, DeleteRefusal, DeleteShort, all_events, Takes}
 use Rattle.mc_core.specs.Events.{ReplicaState, state_of, Goes}
 use Rattle.mc_core.specs.Puts.{next_links}
-use Rattle.mc_core.specs.Refusals.{IsDue, IfFault, key_refusal, stops}
+use Rattle.mc_core.specs.Refusals.{IsDue, key_refusal, kind_of, stops}
 use Rattle.mc_core.specs.Replica.{run_of, running_with}
 use Rattle.mc_core.proofs.CallFacts.{at, Calls, early_call}
 use Rattle.mc_core.proofs.DeleteFacts.{clash_left}
 use Rattle.mc_core.proofs.EventFacts.{breaks_rose}
+use Rattle.mc_core.proofs.KindFacts.{by_kind}
 use Rattle.mc_core.proofs.PutFacts.{BackLaw}
 use Rattle.mc_core.proofs.TakenFacts.{next_all, events_all, made_take, made_length}
 
@@ -66,45 +67,29 @@ call_of : (durable : Durable) (run : Running) (fuse : Option Fuse) (key : List �
     → IsDelete (kept_of durable) key blocks → Takes blocks rose result (running durable run fuse) new → DeleteCall key rose result (running durable run fuse) new
 call_of durable run fuse key blocks rose (Ok deleted) new good is takes = record {
   allowed = subst (λ fault. DeleteKeptRefusal (kept_of durable) key fault None) (sym good)
-      (is.deltas, is.is, chain_none is.deltas blocks (kept_of durable) (next_links (kept_of durable)) is.are);
+      (inl (is.deltas, is.is, sym (chain_none is.deltas blocks (kept_of durable) (next_links (kept_of durable)) is.are)));
   events = all_events (kept_of durable) blocks;
   plan = plan_is durable run fuse key blocks deleted is takes.1;
   goes = takes.0;
 }
-call_of durable run fuse key blocks rose (Err KeeperFault) new good is takes =
-    let deleted : Deleted = record { blocks = length blocks } in
-    record { events = all_events (kept_of durable) blocks; begins = inr (deleted, plan_is durable run fuse key blocks deleted is refl); breaks = takes }
-call_of durable run fuse key blocks rose (Err Memory) new good is takes =
+call_of durable run fuse key blocks rose (Err error) new good is takes =
     let links : List Cid = next_links (kept_of durable) in
-    inr (
+    let deleted : Deleted = record { blocks = length blocks } in
+    by_kind (kind_of error) (λ never. absurd never)
+    (λ breaks. record { events = all_events (kept_of durable) blocks; begins = inr (deleted, plan_is durable run fuse key blocks deleted is refl); breaks = breaks })
+    (λ some. inr (
       is.deltas,
-      takes.0,
+      some.0,
       is.is,
-      subst (λ count. takes.0 < count) (made_length is.deltas blocks (kept_of durable) links is.are) takes.1,
+      subst (λ count. some.0 < count) (made_length is.deltas blocks (kept_of durable) links is.are) some.1,
       subst (λ events. Goes events (running durable run fuse) new)
-          (events_all (take takes.0 is.deltas) (take takes.0 blocks) (kept_of durable) links (made_take takes.0 is.deltas blocks (kept_of durable) links is.are)) takes.2,
-    )
-call_of durable run fuse key blocks rose (Err (BadKey fault)) new good is takes = absurd takes
-call_of durable run fuse key blocks rose (Err ValueTooLong) new good is takes = absurd takes
-call_of durable run fuse key blocks rose (Err (BlockTooLarge len)) new good is takes = absurd takes
-call_of durable run fuse key blocks rose (Err PriorityFull) new good is takes = absurd takes
-call_of durable run fuse key blocks rose (Err (Clash cid)) new good is takes = absurd takes
-call_of durable run fuse key blocks rose (Err Stopped) new good is takes = absurd takes
-call_of durable run fuse key blocks rose (Err NoBatch) new good is takes = absurd takes
-call_of durable run fuse key blocks rose (Err BatchOpen) new good is takes = absurd takes
+          (events_all (take some.0 is.deltas) (take some.0 blocks) (kept_of durable) links (made_take some.0 is.deltas blocks (kept_of durable) links is.are)) some.2,
+    )) takes
 
 takes_rose : (blocks : List MadeBlock) (P Q : Type 0) (result : Result Deleted CoreError) (s new : ReplicaState) → (P → Q) → Takes blocks P result s new → Takes blocks Q result s new
 takes_rose blocks P Q (Ok deleted) s new f takes = takes
-takes_rose blocks P Q (Err KeeperFault) s new f takes = breaks_rose (all_events (kept_of s.state.durable) blocks) P Q s new f takes
-takes_rose blocks P Q (Err Memory) s new f takes = takes
-takes_rose blocks P Q (Err (BadKey fault)) s new f takes = takes
-takes_rose blocks P Q (Err ValueTooLong) s new f takes = takes
-takes_rose blocks P Q (Err (BlockTooLarge len)) s new f takes = takes
-takes_rose blocks P Q (Err PriorityFull) s new f takes = takes
-takes_rose blocks P Q (Err (Clash cid)) s new f takes = takes
-takes_rose blocks P Q (Err Stopped) s new f takes = takes
-takes_rose blocks P Q (Err NoBatch) s new f takes = takes
-takes_rose blocks P Q (Err BatchOpen) s new f takes = takes
+takes_rose blocks P Q (Err error) s new f takes =
+    by_kind (kind_of error) (λ x. x) (λ breaks. breaks_rose (all_events (kept_of s.state.durable) blocks) P Q s new f breaks) (λ x. x) takes
 
 -- a delete whose blocks were made
 pub delete_call : (back : BackLaw) (told mid : Option Kept) (fuse fuse_mid : Option Fuse) (stop : Bool) (batch : Option OpenBatch) (whole : Bool) (new : Option ReplicaState) (key : List ℕ) (blocks : List MadeBlock)
@@ -128,16 +113,7 @@ delete_call back told mid fuse fuse_mid stop batch whole new key blocks own own_
 -- a delete that made no blocks
 
 short_is : (key : List ℕ) (rose : Type 0) (error : CoreError) (s new : ReplicaState) → Calls {T = Deleted} (λ s. DeleteRefusal s key) (λ s. DeletePlan s key) rose (Err error) s new → DeleteCall key rose (Err error) s new
-short_is key rose KeeperFault s new call = call
-short_is key rose Memory s new call = inl call
-short_is key rose (BadKey fault) s new call = call
-short_is key rose ValueTooLong s new call = call
-short_is key rose (BlockTooLarge len) s new call = call
-short_is key rose PriorityFull s new call = call
-short_is key rose (Clash cid) s new call = call
-short_is key rose Stopped s new call = call
-short_is key rose NoBatch s new call = call
-short_is key rose BatchOpen s new call = call
+short_is key rose error s new call = by_kind (kind_of error) (λ x. x) (λ x. x) (λ same. inl same) call
 
 delete_due : (back : BackLaw) (told : Option Kept) (fuse : Option Fuse) (batch : Option OpenBatch) (whole : Bool) (key : List ℕ) (error : CoreError) → IfSome told (λ kept. IsDue (DeleteKeptRefusal kept key (key_refusal key)) error)
     → IfSome told (λ kept. IsDue (DeleteRefusal (at kept fuse (run_of false batch whole)) key) error)
@@ -145,7 +121,7 @@ delete_due back None fuse batch whole key error due = tt
 delete_due back (Some kept) fuse batch whole key error due = subst (λ k. IsDue (DeleteKeptRefusal k key (key_refusal key)) error) (sym (back kept)) due
 
 pub delete_early : (back : BackLaw) (told told_new : Option Kept) (fuse fuse_new : Option Fuse) (stop stop_new : Bool) (batch : Option OpenBatch) (whole : Bool) (key : List ℕ) (rose : Type 0) (error : CoreError)
-    → stop ≡ false → told_new ≡ told → fuse_new ≡ fuse → stop_new ≡ stops error false → IfFault error rose
+    → stop ≡ false → told_new ≡ told → fuse_new ≡ fuse → stop_new ≡ stops error false → (is_fault_kind (kind_of error) ≡ true → rose)
     → IfSome told (λ kept. IsDue (DeleteKeptRefusal kept key (key_refusal key)) error)
     → Told (state_of told fuse (run_of stop batch whole)) (state_of told_new fuse_new (run_of stop_new batch whole)) (DeleteCall key rose (Err error))
 delete_early back told told_new fuse fuse_new stop stop_new batch whole key rose error up e f g r due =

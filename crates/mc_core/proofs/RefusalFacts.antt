@@ -9,36 +9,19 @@ use Rattle.mc_model.specs.declared.delta.Delta.{Delta}
 use Rattle.mc_model.specs.Made.{next_priority, made_bytes, made_cid}
 use Rattle.mc_core.specs.Puts.{next_links}
 use Rattle.mc_core.specs.declared.error.CoreError.{CoreError}
-use Rattle.mc_core.specs.declared.error.CoreError.TheVariants.{BadKey, ValueTooLong, BlockTooLarge, PriorityFull, Clash, KeeperFault, Stopped, NoBatch, BatchOpen, Memory}
-use Rattle.mc_core.specs.Refusals.{Is, IsDue, priority_refusal, clash_refusal, other_refusal, size_refusal, made_refusal}
+use Rattle.mc_core.specs.declared.error.CoreError.TheVariants.{Clash}
+use Rattle.mc_core.specs.Refusals.{Is, IsDue, kind_of, priority_refusal, clash_refusal, other_refusal, size_refusal, made_refusal}
+use Rattle.mc_core.proofs.KindFacts.{kinds, by_kind}
 
 -- a refusal that is due is so before all later ones
 pub due_some : (due : Option CoreError) (error : CoreError) → due ≡ Some error → IsDue (Is due) error
-due_some due KeeperFault e = tt
-due_some due Memory e = tt
-due_some due (BadKey fault) e = sym e
-due_some due ValueTooLong e = sym e
-due_some due (BlockTooLarge len) e = sym e
-due_some due PriorityFull e = sym e
-due_some due (Clash cid) e = sym e
-due_some due Stopped e = sym e
-due_some due NoBatch e = sym e
-due_some due BatchOpen e = sym e
+due_some due error e = kinds (kind_of error) (sym e) tt tt
 
 or_some : (first second : Option CoreError) (error : CoreError) → Some error ≡ first → Some error ≡ option_or first second
 or_some first second error e = subst (λ f. Some error ≡ option_or f second) e refl
 
 pub due_first : (first second : Option CoreError) (error : CoreError) → IsDue (Is first) error → IsDue (Is (option_or first second)) error
-due_first first second KeeperFault d = tt
-due_first first second Memory d = tt
-due_first first second (BadKey fault) d = or_some first second _ d
-due_first first second ValueTooLong d = or_some first second _ d
-due_first first second (BlockTooLarge len) d = or_some first second _ d
-due_first first second PriorityFull d = or_some first second _ d
-due_first first second (Clash cid) d = or_some first second _ d
-due_first first second Stopped d = or_some first second _ d
-due_first first second NoBatch d = or_some first second _ d
-due_first first second BatchOpen d = or_some first second _ d
+due_first first second error d = by_kind (kind_of error) (or_some first second error) (λ x. x) (λ x. x) d
 
 -- where the first is none, the second is due
 pub or_none : (first second : Option CoreError) → first ≡ None → option_or first second ≡ second

@@ -23,14 +23,15 @@ use Rattle.mc_write.proofs.Membership.{In, any_from_in, from_map}
 use Rattle.mc_core.specs.declared.deletes.Deleted.{Deleted}
 use Rattle.mc_core.specs.declared.deletes.MadeBlock.{MadeBlock}
 use Rattle.mc_core.specs.declared.error.CoreError.{CoreError}
-use Rattle.mc_core.specs.declared.error.CoreError.TheVariants.{BadKey, ValueTooLong, BlockTooLarge, PriorityFull, Clash, KeeperFault, Stopped, NoBatch, BatchOpen, Memory}
 use Rattle.mc_core.specs.Deletes.{AreMade, AreNext, IsDelete, ShortKeeps, Takes, all_events, chain_blocks, with_all, with_block, with_made}
 use Rattle.mc_core.specs.Events.{ReplicaState, state_of, Goes}
 use Rattle.mc_core.specs.Plans.{IsNew, IsNoOther}
 use Rattle.mc_core.specs.Puts.{next_links}
+use Rattle.mc_core.specs.Refusals.{kind_of}
 use Rattle.mc_core.specs.Replica.{run_of, running_with}
 use Rattle.mc_core.proofs.DeletedFacts.{HeadsLaw}
 use Rattle.mc_core.proofs.IdFacts.{AreApart, are_apart}
+use Rattle.mc_core.proofs.KindFacts.{kinds, by_kind}
 use Rattle.mc_core.proofs.PlanFacts.{SoundLaw, SameLaw, StoredLaw, one_block, one_stored, stored_now}
 use Rattle.mc_core.proofs.PutFacts.{BackLaw}
 use Rattle.mc_core.proofs.TakenFacts.{Follows, running, goes_follow, made_length, made_take, next_all}
@@ -148,18 +149,10 @@ module _ (back : BackLaw) (sound_law : SoundLaw) (stored_law : StoredLaw) (same_
   short_of : (kept : Kept) (fuse : Option Fuse) (run : Running) (key : List ℕ) (blocks : List MadeBlock) (rose : Type 0) (result : Result Deleted CoreError) (left : ReplicaState) → IsKept kept → IsDelete kept key blocks
       → Takes blocks rose result (running (durable_of kept) run fuse) left → ShortKeeps key result (running (durable_of kept) run fuse) left
   short_of kept fuse run key blocks rose (Ok deleted) left sound is takes = tt
-  short_of kept fuse run key blocks rose (Err Memory) left sound is takes =
-      subst (λ k. value (processed (kept_of left.state.durable)) key ≡ value (processed k) key) (sym (back kept))
-      (value_left kept fuse run key blocks takes.0 left sound is takes.1 (subst (λ k. Goes (all_events k (take takes.0 blocks)) (running (durable_of kept) run fuse) left) (back kept) takes.2))
-  short_of kept fuse run key blocks rose (Err KeeperFault) left sound is takes = tt
-  short_of kept fuse run key blocks rose (Err (BadKey fault)) left sound is takes = tt
-  short_of kept fuse run key blocks rose (Err ValueTooLong) left sound is takes = tt
-  short_of kept fuse run key blocks rose (Err (BlockTooLarge len)) left sound is takes = tt
-  short_of kept fuse run key blocks rose (Err PriorityFull) left sound is takes = tt
-  short_of kept fuse run key blocks rose (Err (Clash cid)) left sound is takes = tt
-  short_of kept fuse run key blocks rose (Err Stopped) left sound is takes = tt
-  short_of kept fuse run key blocks rose (Err NoBatch) left sound is takes = tt
-  short_of kept fuse run key blocks rose (Err BatchOpen) left sound is takes = tt
+  short_of kept fuse run key blocks rose (Err error) left sound is takes =
+      by_kind (kind_of error) (λ never. tt) (λ breaks. tt)
+      (λ some. subst (λ k. value (processed (kept_of left.state.durable)) key ≡ value (processed k) key) (sym (back kept))
+      (value_left kept fuse run key blocks some.0 left sound is some.1 (subst (λ k. Goes (all_events k (take some.0 blocks)) (running (durable_of kept) run fuse) left) (back kept) some.2))) takes
 
   -- a delete whose blocks were made
   pub short_call : (told mid : Option Kept) (fuse fuse_mid : Option Fuse) (stop : Bool) (batch : Option OpenBatch) (whole : Bool) (new : Option ReplicaState) (key : List ℕ) (blocks : List MadeBlock) (rose : Type 0) (result : Result Deleted CoreError)
@@ -181,16 +174,7 @@ module _ (back : BackLaw) (sound_law : SoundLaw) (stored_law : StoredLaw) (same_
 
 early_of : (kept : Kept) (fuse fuse_new : Option Fuse) (run run_new : Option Running) (key : List ℕ) (error : CoreError)
     → ShortKeeps key (Err error) (record { state = record { durable = durable_of kept; run = run }; fuse = fuse }) (record { state = record { durable = durable_of kept; run = run_new }; fuse = fuse_new })
-early_of kept fuse fuse_new run run_new key Memory = refl
-early_of kept fuse fuse_new run run_new key KeeperFault = tt
-early_of kept fuse fuse_new run run_new key (BadKey fault) = tt
-early_of kept fuse fuse_new run run_new key ValueTooLong = tt
-early_of kept fuse fuse_new run run_new key (BlockTooLarge len) = tt
-early_of kept fuse fuse_new run run_new key PriorityFull = tt
-early_of kept fuse fuse_new run run_new key (Clash cid) = tt
-early_of kept fuse fuse_new run run_new key Stopped = tt
-early_of kept fuse fuse_new run run_new key NoBatch = tt
-early_of kept fuse fuse_new run run_new key BatchOpen = tt
+early_of kept fuse fuse_new run run_new key error = kinds (kind_of error) tt tt refl
 
 pub short_early : (told told_new : Option Kept) (fuse fuse_new : Option Fuse) (run run_new : Option Running) (key : List ℕ) (error : CoreError) → told_new ≡ told
     → Told (state_of told fuse run) (state_of told_new fuse_new run_new) (ShortKeeps key (Err error))

@@ -25,14 +25,15 @@ use Rattle.mc_core.specs.declared.deletes.Deleted.{Deleted}
 use Rattle.mc_core.specs.declared.deletes.MadeBlock.{MadeBlock}
 use Rattle.mc_core.specs.declared.error.CoreError.{CoreError}
 use Rattle.mc_core.specs.declared.plan.Plan.{Plan}
-use Rattle.mc_core.specs.declared.error.CoreError.TheVariants.{BadKey, ValueTooLong, BlockTooLarge, PriorityFull, Clash, KeeperFault, Stopped, NoBatch, BatchOpen, Memory}
+use Rattle.mc_core.specs.declared.error.CoreError.TheVariants.{Clash, KeeperFault}
 use Rattle.mc_core.specs.Deletes.{with_made, with_block, with_all, chain_events, IsMade, AreMade, AreNext, block_events, all_events, OutsideIs, EndsOne, Takes}
 use Rattle.mc_core.specs.Events.{ReplicaState, state_of, all_happen, Goes, Breaks}
 use Rattle.mc_core.specs.Plans.{IsNew, IsNoOther, IsPlan, plan_events, store_change, with_store}
-use Rattle.mc_core.specs.Refusals.{clash_refusal, other_refusal}
+use Rattle.mc_core.specs.Refusals.{kind_of, clash_refusal, other_refusal}
 use Rattle.mc_core.specs.Replica.{run_of, running_with}
 use Rattle.mc_core.proofs.DeleteFacts.{is_cid, among_here}
 use Rattle.mc_core.proofs.EventFacts.{goes_then, goes_nowhere, breaks_after, breaks_more, breaks_rose}
+use Rattle.mc_core.proofs.KindFacts.{by_kind}
 use Rattle.mc_core.proofs.PutFacts.{BackLaw}
 
 -- a made block may be taken up where it doesn't clash
@@ -247,24 +248,17 @@ module _ (back : BackLaw) where
       → OutsideIs (Breaks (block_events (kept_of now.state.durable) made) (Rose own_mid own_new) now new) (new ≡ now) error
       → OutsideIs (Breaks (all_events (kept_of (durable_of kept)) all) (Rose own own_new) (running (durable_of kept) run fuse) new)
       ((n : ℕ) × (n < length all) × Goes (all_events (kept_of (durable_of kept)) (take n all)) (running (durable_of kept) run fuse) new) error
-  one_ends kept fuse run blocks made rest all own own_mid own_new now new KeeperFault later split p q =
-      subst (λ k. Breaks (all_events k all) (Rose own own_new) (running (durable_of kept) run fuse) new) (sym (back kept))
+  one_ends kept fuse run blocks made rest all own own_mid own_new now new error later split p q =
+      by_kind (kind_of error) (λ never. never)
+      (λ breaks. subst (λ k. Breaks (all_events k all) (Rose own own_new) (running (durable_of kept) run fuse) new) (sym (back kept))
       (subst (λ l. Breaks (all_events kept l) (Rose own own_new) (running (durable_of kept) run fuse) new) (sym split)
-      (one_breaks kept fuse run blocks made rest own own_mid own_new now new later (from_kept kept fuse run blocks now p) q))
-  one_ends kept fuse run blocks made rest all own own_mid own_new now new Memory later split p q = (
-    length blocks,
-    omega (arith, ap length split, length-append blocks (made ∷ rest)),
-    subst (λ l. Goes (all_events (kept_of (durable_of kept)) l) (running (durable_of kept) run fuse) new) (sym (ap (take (length blocks)) split ∙ take_at blocks (made ∷ rest) (length blocks) refl))
-        (subst (λ s. Taken blocks (running (durable_of kept) run fuse) s) (sym q) p),
-  )
-  one_ends kept fuse run blocks made rest all own own_mid own_new now new (BadKey fault) later split p q = absurd q
-  one_ends kept fuse run blocks made rest all own own_mid own_new now new ValueTooLong later split p q = absurd q
-  one_ends kept fuse run blocks made rest all own own_mid own_new now new (BlockTooLarge len) later split p q = absurd q
-  one_ends kept fuse run blocks made rest all own own_mid own_new now new PriorityFull later split p q = absurd q
-  one_ends kept fuse run blocks made rest all own own_mid own_new now new (Clash cid) later split p q = absurd q
-  one_ends kept fuse run blocks made rest all own own_mid own_new now new Stopped later split p q = absurd q
-  one_ends kept fuse run blocks made rest all own own_mid own_new now new NoBatch later split p q = absurd q
-  one_ends kept fuse run blocks made rest all own own_mid own_new now new BatchOpen later split p q = absurd q
+      (one_breaks kept fuse run blocks made rest own own_mid own_new now new later (from_kept kept fuse run blocks now p) breaks)))
+      (λ same. (
+        length blocks,
+        omega (arith, ap length split, length-append blocks (made ∷ rest)),
+        subst (λ l. Goes (all_events (kept_of (durable_of kept)) l) (running (durable_of kept) run fuse) new) (sym (ap (take (length blocks)) split ∙ take_at blocks (made ∷ rest) (length blocks) refl))
+            (subst (λ s. Taken blocks (running (durable_of kept) run fuse) s) (sym same) p),
+      )) q
 
   pub taken_ends : (told : Option Kept) (fuse : Option Fuse) (stop : Bool) (batch : Option OpenBatch) (whole : Bool) (now new : Option ReplicaState) (blocks : List MadeBlock) (made : MadeBlock) (rest all : List MadeBlock)
       (own own_mid own_new : ℕ) (error : CoreError) → stop ≡ false → own ≤ own_mid → all ≡ blocks ++ made ∷ rest → Told (state_of told fuse (run_of stop batch whole)) now (Taken blocks)

@@ -3,8 +3,8 @@
 use Rattle.std.specs.Prelude.{◌≡◌, ◌⊎◌, List, [], Option, Some, None, Result, Ok, Err}
 use Rattle.mc_model.specs.Events.{Event}
 use Rattle.mc_core.specs.declared.error.CoreError.{CoreError}
-use Rattle.mc_core.specs.declared.error.CoreError.TheVariants.{BadKey, ValueTooLong, BlockTooLarge, PriorityFull, Clash, KeeperFault, Stopped, NoBatch, BatchOpen, Memory}
 use Rattle.mc_core.specs.Events.{ReplicaState, Goes, Breaks}
+use Rattle.mc_core.specs.Refusals.{ByKind, kind_of}
 
 -- the events of a plan, or none: no plan is known where a call failed before its first commit
 abbrev pub Begins : {T : Type 0} → (List Event → T → Type 0) → List Event → Type 0
@@ -27,17 +27,14 @@ pub record Faults {T : Type 0} (Plan : List Event → T → Type 0) (rose : Type
 abbrev pub IsRefused : (Option CoreError → Type 0) → CoreError → ReplicaState → ReplicaState → Type 0
 IsRefused Refusal error s new = Refusal (Some error) × (new ≡ s)
 
+-- what a want of memory leaves, but of a delete: the replica as it was
+abbrev pub Stays : ReplicaState → ReplicaState → Type 0
+Stays s left = left ≡ s
+
 -- The clause of every call: `Refusal` says which refusal is due, `Plan` which events the call makes with which answer, and
 -- `Short` what a want of memory leaves.
-abbrev pub Call : {T : Type 0} → (Option CoreError → Type 0) → (List Event → T → Type 0) → (ReplicaState → Type 0) → Type 0 → Result T CoreError → ReplicaState → ReplicaState → Type 0
+abbrev pub Call : {T : Type 0} → (Option CoreError → Type 0) → (List Event → T → Type 0) → (ReplicaState → Type 0) → Type 0
+    → Result T CoreError → ReplicaState → ReplicaState → Type 0
 Call Refusal Plan Short rose (Ok value) s new = Does Refusal Plan value s new
-Call Refusal Plan Short rose (Err KeeperFault) s new = Faults Plan rose s new
-Call Refusal Plan Short rose (Err Memory) s new = Short new
-Call Refusal Plan Short rose (Err (BadKey fault)) s new = IsRefused Refusal (BadKey fault) s new
-Call Refusal Plan Short rose (Err ValueTooLong) s new = IsRefused Refusal ValueTooLong s new
-Call Refusal Plan Short rose (Err (BlockTooLarge len)) s new = IsRefused Refusal (BlockTooLarge len) s new
-Call Refusal Plan Short rose (Err PriorityFull) s new = IsRefused Refusal PriorityFull s new
-Call Refusal Plan Short rose (Err (Clash cid)) s new = IsRefused Refusal (Clash cid) s new
-Call Refusal Plan Short rose (Err Stopped) s new = IsRefused Refusal Stopped s new
-Call Refusal Plan Short rose (Err NoBatch) s new = IsRefused Refusal NoBatch s new
-Call Refusal Plan Short rose (Err BatchOpen) s new = IsRefused Refusal BatchOpen s new
+Call Refusal Plan Short rose (Err error) s new =
+    ByKind (IsRefused Refusal error s new) (Faults Plan rose s new) (Short new) (kind_of error)

@@ -16,11 +16,11 @@ use Rattle.mc_model.specs.State.{Running, kept_of}
 use Rattle.mc_core.specs.declared.deletes.Deleted.{Deleted}
 use Rattle.mc_core.specs.declared.deletes.MadeBlock.{MadeBlock}
 use Rattle.mc_core.specs.declared.error.CoreError.{CoreError}
-use Rattle.mc_core.specs.declared.error.CoreError.TheVariants.{BadKey, ValueTooLong, BlockTooLarge, PriorityFull, Clash, KeeperFault, Stopped, NoBatch, BatchOpen, Memory}
+use Rattle.mc_core.specs.declared.error.CoreError.TheVariants.{BlockTooLarge, PriorityFull, Stopped}
 use Rattle.mc_core.specs.Events.{ReplicaState, Goes, Breaks}
 use Rattle.mc_core.specs.Plans.{IsNew, store_change, with_store}
 use Rattle.mc_core.specs.Puts.{made_block, made_events, next_links}
-use Rattle.mc_core.specs.Refusals.{key_refusal, clash_refusal}
+use Rattle.mc_core.specs.Refusals.{ByKind, kind_of, key_refusal, clash_refusal}
 
 -- what is kept once a made block is taken up
 abbrev pub with_made : Kept → Cid → List ℕ → Kept
@@ -52,19 +52,13 @@ pub record IsDeltas (kept : Kept) (key : List ℕ) (deltas : List Delta) : Type 
   pub cuts : IsCuts (next_links kept) (next_priority (processed kept)) key (pairs (processed kept) key) deltas
   pub left : list_all is_left deltas ≡ true
 
--- why they are not made
+-- why they are not made, or that they are
 abbrev pub DeltasRefusal : Kept → List ℕ → Option CoreError → Type 0
-DeltasRefusal kept key None = (deltas : List Delta) × IsDeltas kept key deltas × (chain_clash kept (next_links kept) deltas ≡ None)
-DeltasRefusal kept key (Some PriorityFull) = IsPriorityFull (next_links kept) (next_priority (processed kept)) key (pairs (processed kept) key)
-DeltasRefusal kept key (Some (BlockTooLarge len)) = IsTooLarge (next_links kept) (next_priority (processed kept)) key (pairs (processed kept) key) len
-DeltasRefusal kept key (Some (Clash cid)) = (deltas : List Delta) × IsDeltas kept key deltas × (chain_clash kept (next_links kept) deltas ≡ Some (Clash cid))
-DeltasRefusal kept key (Some (BadKey fault)) = ⊥
-DeltasRefusal kept key (Some ValueTooLong) = ⊥
-DeltasRefusal kept key (Some KeeperFault) = ⊥
-DeltasRefusal kept key (Some Stopped) = ⊥
-DeltasRefusal kept key (Some NoBatch) = ⊥
-DeltasRefusal kept key (Some BatchOpen) = ⊥
-DeltasRefusal kept key (Some Memory) = ⊥
+DeltasRefusal kept key refusal =
+    ((deltas : List Delta) × IsDeltas kept key deltas × (refusal ≡ chain_clash kept (next_links kept) deltas))
+    ⊎ ((refusal ≡ Some PriorityFull) × IsPriorityFull (next_links kept) (next_priority (processed kept)) key (pairs (processed kept) key))
+    ⊎ ((len : ℕ) × (refusal ≡ Some (BlockTooLarge len))
+    × IsTooLarge (next_links kept) (next_priority (processed kept)) key (pairs (processed kept) key) len)
 
 -- the key's refusal comes first, and that of a replica that doesn't run before it
 abbrev pub DeleteKeptRefusal : Kept → List ℕ → Option CoreError → Option CoreError → Type 0
@@ -96,22 +90,10 @@ chain_blocks links [] = []
 chain_blocks links (delta ∷ deltas) = made_block links delta ∷ chain_blocks (made_cid links delta ∷ []) deltas
 
 -- a want of memory leaves the value of the key
-abbrev pub OnMemory : CoreError → Type 0 → Type 0
-OnMemory Memory P = P
-OnMemory KeeperFault P = ⊤
-OnMemory (BadKey fault) P = ⊤
-OnMemory ValueTooLong P = ⊤
-OnMemory (BlockTooLarge len) P = ⊤
-OnMemory PriorityFull P = ⊤
-OnMemory (Clash cid) P = ⊤
-OnMemory Stopped P = ⊤
-OnMemory NoBatch P = ⊤
-OnMemory BatchOpen P = ⊤
-
 abbrev pub ShortKeeps : List ℕ → Result Deleted CoreError → ReplicaState → ReplicaState → Type 0
 ShortKeeps key (Ok deleted) s left = ⊤
 ShortKeeps key (Err error) s left =
-    OnMemory error (value (processed (kept_of left.state.durable)) key ≡ value (processed (kept_of s.state.durable)) key)
+    ByKind ⊤ ⊤ (value (processed (kept_of left.state.durable)) key ≡ value (processed (kept_of s.state.durable)) key) (kind_of error)
 
 -- The blocks that the code makes, before they are taken up.
 
@@ -174,16 +156,7 @@ all_events kept (made ∷ blocks) = block_events kept made ++ all_events (with_b
 
 -- the keeper failed, or memory was wanted, and nothing else
 abbrev pub OutsideIs : Type 0 → Type 0 → CoreError → Type 0
-OutsideIs failed short KeeperFault = failed
-OutsideIs failed short Memory = short
-OutsideIs failed short (BadKey fault) = ⊥
-OutsideIs failed short ValueTooLong = ⊥
-OutsideIs failed short (BlockTooLarge len) = ⊥
-OutsideIs failed short PriorityFull = ⊥
-OutsideIs failed short (Clash cid) = ⊥
-OutsideIs failed short Stopped = ⊥
-OutsideIs failed short NoBatch = ⊥
-OutsideIs failed short BatchOpen = ⊥
+OutsideIs failed short error = ByKind ⊥ failed short (kind_of error)
 
 abbrev pub IsOutside : CoreError → Type 0
 IsOutside error = OutsideIs ⊤ ⊤ error

@@ -12,5 +12,5 @@ abbrev pub read_refusal : ReplicaState → Option CoreError
 read_refusal s = running_refusal s.state.run (λ run. None)
 
 -- nothing happens, and the answer is this over what is kept
-abbrev pub Reads : {T : Type 0} → (Kept → T → Type 0) → ReplicaState → List Event → T → Type 0
-Reads P s events answer = (events ≡ []) × P (kept_of s.state.durable) answer
+abbrev pub OnlyReads : {T : Type 0} → (Kept → T → Type 0) → ReplicaState → List Event → T → Type 0
+OnlyReads P s events answer = (events ≡ []) × P (kept_of s.state.durable) answer

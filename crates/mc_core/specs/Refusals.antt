@@ -1,11 +1,11 @@
 -- Why a replica refuses: the causes, and the order in which they are looked at.
-use Rattle.std.specs.Prelude.{◌≡◌, ⊤, ℕ, Bool, true, ◌-◌, ◌^◌, ◌≤◌, min, nat_lt, List, length, Option, Some, None, Result, Ok, Err, if◌then◌else◌}
+use Rattle.std.specs.Prelude.{◌≡◌, ⊤, ℕ, Bool, ◌||◌, ◌-◌, ◌^◌, min, nat_lt, List, length, Option, Some, None, Result, if◌then◌else◌}
 use Rattle.std.specs.Option.{option_or, option_map}
 use Rattle.std.specs.Str.{bytes_eq}
-use Rattle.mc_base.specs.Causes.{Rose}
 use Rattle.mc_base.specs.declared.cid.Cid.{Cid}
 use Rattle.mc_key.specs.KeyRule.{key_fault}
 use Rattle.mc_key.specs.declared.fault.KeyFault.{KeyFault}
+use Rattle.mc_keep.specs.Causes.{Kind, Refusal, Fault, Shortage, is_fault_kind, fails}
 use Rattle.mc_keep.specs.declared.error.KeepError.{KeepError}
 use Rattle.mc_keep.specs.declared.error.KeepError.TheVariants.{Failed, Memory as KeepMemory}
 use Rattle.mc_model.specs.declared.delta.Delta.{Delta}
@@ -18,6 +18,29 @@ use Rattle.mc_write.specs.declared.error.WriteError.{WriteError}
 use Rattle.mc_write.specs.declared.error.WriteError.TheVariants as write
 use Rattle.mc_core.specs.declared.error.CoreError.{CoreError}
 use Rattle.mc_core.specs.declared.error.CoreError.TheVariants.{BadKey, ValueTooLong, BlockTooLarge, PriorityFull, Clash, KeeperFault, Stopped, NoBatch, BatchOpen, Memory}
+
+-- what an error means: the one table of them
+abbrev pub kind_of : CoreError → Kind
+kind_of (BadKey fault) = Refusal
+kind_of ValueTooLong = Refusal
+kind_of (BlockTooLarge len) = Refusal
+kind_of PriorityFull = Refusal
+kind_of (Clash cid) = Refusal
+kind_of KeeperFault = Fault
+kind_of Stopped = Refusal
+kind_of NoBatch = Refusal
+kind_of BatchOpen = Refusal
+kind_of Memory = Shortage
+
+-- whether the keeper failed
+abbrev pub is_fault : {T : Type 0} → Result T CoreError → Bool
+is_fault result = fails kind_of result
+
+-- what holds of an error, by what it means
+abbrev pub ByKind : Type 0 → Type 0 → Type 0 → Kind → Type 0
+ByKind refused failed short Refusal = refused
+ByKind refused failed short Fault = failed
+ByKind refused failed short Shortage = short
 
 -- a keeper's refusal, and that of a delete's deltas, as a replica's
 abbrev pub OfKeeper : KeepError → CoreError → Type 0
@@ -79,50 +102,10 @@ open_batch_refusal (Some batch) = Some BatchOpen
 abbrev pub Is : Option CoreError → Option CoreError → Type 0
 Is due refusal = refusal ≡ due
 
--- what holds of a refusal: a fault of the keeper, and want of memory, are none
+-- a refusal is due; a fault of the keeper, and want of memory, always may come
 abbrev pub IsDue : (Option CoreError → Type 0) → CoreError → Type 0
-IsDue Refusal KeeperFault = ⊤
-IsDue Refusal Memory = ⊤
-IsDue Refusal (BadKey fault) = Refusal (Some (BadKey fault))
-IsDue Refusal ValueTooLong = Refusal (Some ValueTooLong)
-IsDue Refusal (BlockTooLarge len) = Refusal (Some (BlockTooLarge len))
-IsDue Refusal PriorityFull = Refusal (Some PriorityFull)
-IsDue Refusal (Clash cid) = Refusal (Some (Clash cid))
-IsDue Refusal Stopped = Refusal (Some Stopped)
-IsDue Refusal NoBatch = Refusal (Some NoBatch)
-IsDue Refusal BatchOpen = Refusal (Some BatchOpen)
+IsDue Due error = ByKind (Due (Some error)) ⊤ ⊤ (kind_of error)
 
 -- whether a replica has stopped after this error, where it had or had not
 abbrev pub stops : CoreError → Bool → Bool
-stops KeeperFault stop = true
-stops Memory stop = stop
-stops (BadKey fault) stop = stop
-stops ValueTooLong stop = stop
-stops (BlockTooLarge len) stop = stop
-stops PriorityFull stop = stop
-stops (Clash cid) stop = stop
-stops Stopped stop = stop
-stops NoBatch stop = stop
-stops BatchOpen stop = stop
-
--- what holds where the keeper failed
-abbrev pub IfFault : CoreError → Type 0 → Type 0
-IfFault KeeperFault P = P
-IfFault Memory P = ⊤
-IfFault (BadKey fault) P = ⊤
-IfFault ValueTooLong P = ⊤
-IfFault (BlockTooLarge len) P = ⊤
-IfFault PriorityFull P = ⊤
-IfFault (Clash cid) P = ⊤
-IfFault Stopped P = ⊤
-IfFault NoBatch P = ⊤
-IfFault BatchOpen P = ⊤
-
-abbrev pub OnFault : {T : Type 0} → Result T CoreError → Type 0 → Type 0
-OnFault (Ok value) P = ⊤
-OnFault (Err error) P = IfFault error P
-
--- a count never falls, and has risen where the call answers KeeperFault
-pub record CoreCause {T : Type 0} (before now : ℕ) (result : Result T CoreError) : Type 0 where
-  pub later : before ≤ now
-  pub failed : OnFault result (Rose before now)
+stops error stop = is_fault_kind (kind_of error) || stop

@@ -1,5 +1,5 @@
 -- The words that every call of a replica says, at a bound `K: Keeper`.
-use Rattle.std.specs.Prelude.{ℕ, ◌≤◌, Bool, Option, List, Result}
+use Rattle.std.specs.Prelude.{◌≡◌, ℕ, ◌≤◌, Bool, true, false, Option, None, List, Result}
 use Rattle.mc_base.specs.Causes.{Rose}
 use Rattle.mc_base.specs.Told.{Told}
 use Rattle.mc_base.specs.declared.counted.Counted as counted
@@ -7,32 +7,56 @@ use Rattle.mc_model.specs.Events.{Event}
 use Rattle.mc_model.specs.Kept.{Kept}
 use Rattle.mc_keep.specs.Calls.{Members}
 use Rattle.mc_keep.specs.Causes.{StaysQuiet}
-use Rattle.mc_keep.specs.Frame.{NoFault}
 use Rattle.mc_keep.specs.declared.keeper.Keeper as keeper
 use Rattle.mc_core.specs.declared.error.CoreError.{CoreError}
 use Rattle.mc_core.specs.declared.replica.Replica.{Replica}
-use Rattle.mc_core.specs.Calls.{Call}
+use Rattle.mc_core.specs.Calls.{Call, Stays}
 use Rattle.mc_core.specs.Events.{ReplicaState}
+use Rattle.mc_core.specs.Reads.{OnlyReads, read_refusal}
+use Rattle.mc_core.specs.Refusals.{Is}
 use Rattle.mc_core.specs.Replica.{replica_state}
 use Rattle.mc_core.specs.Reports.{StaysCounted}
 
--- what every call leaves of a replica: its numbers stay those of what is told, counts don't fall, what is quiet stays so
-pub record ContinuesAt {K D : Type 0} (told : K → Option Kept) (own faults : K → ℕ) (quiet : K → Bool) (OnFault : Type 0 → Type 0) (old new : Replica K D) : Type 0 where
+-- What every call leaves of a replica: its numbers stay those of what is told, counts don't fall, what is quiet stays so,
+-- and where the keeper failed, its count rose.
+pub record ContinuesAt {K D : Type 0} (told : K → Option Kept) (own faults : K → ℕ) (quiet : K → Bool) (failed : Bool)
+    (old new : Replica K D) : Type 0 where
   pub counted : StaysCounted new.stopped (told old.keeper) old.numbers (told new.keeper) new.numbers
   pub own_later : own old.keeper ≤ own new.keeper
   pub still_quiet : StaysQuiet (quiet old.keeper) (quiet new.keeper) (own old.keeper) (own new.keeper)
   pub later : faults old.keeper ≤ faults new.keeper
-  pub rose : OnFault (Rose (faults old.keeper) (faults new.keeper))
+  pub rose : failed ≡ true → Rose (faults old.keeper) (faults new.keeper)
+
+-- what commits leave besides: a keeper that doesn't tell goes on so, and the batch and the gaps wanted are the same
+pub record CommitKeepsAt {K D : Type 0} (told : K → Option Kept) (own faults : K → ℕ) (quiet : K → Bool) (failed : Bool)
+    (old new : Replica K D) : Type 0 where
+  pub silent : told old.keeper ≡ None → told new.keeper ≡ None
+  pub batch_same : new.batch ≡ old.batch
+  pub whole_same : new.whole ≡ old.whole
+  pub continues : ContinuesAt told own faults quiet failed old new
 
 module _ {K D : Type 0} (k : Members K D) where
-  abbrev pub Continues : (Type 0 → Type 0) → Replica K D → Replica K D → Type 0
+  abbrev pub Continues : Bool → Replica K D → Replica K D → Type 0
   Continues = ContinuesAt k.told k.own k.faults k.quiet
 
-  -- what a call does, where its keeper tells
-  abbrev pub Acts : {T : Type 0} → (ReplicaState → Option CoreError → Type 0) → (ReplicaState → List Event → T → Type 0) → (ReplicaState → ReplicaState → Type 0) → Result T CoreError → Replica K D → Replica K D → Type 0
-  Acts Refusal Plan Short result old new = Told (replica_state k.told k.fuse old) (replica_state k.told k.fuse new) (λ s after.
-      Call (Refusal s) (Plan s) (Short s) (Rose (k.own old.keeper) (k.own new.keeper)) result s after)
+  abbrev pub CommitKeeps : Bool → Replica K D → Replica K D → Type 0
+  CommitKeeps = CommitKeepsAt k.told k.own k.faults k.quiet
 
--- The same of a loop, in a proof file.
-abbrev pub HasContinued : {K D : Type 0} → keeper.Ghosts K D → counted.Ghosts K → Replica K D → Replica K D → Type 0
-HasContinued k c = ContinuesAt k.told k.own c.faults k.quiet NoFault
+  -- what becomes of a replica, where its keeper tells, by whether the own count rose
+  abbrev pub Becomes : (Type 0 → ReplicaState → ReplicaState → Type 0) → Replica K D → Replica K D → Type 0
+  Becomes P old new = Told (replica_state k.told k.fuse old) (replica_state k.told k.fuse new) (λ s after.
+      P (Rose (k.own old.keeper) (k.own new.keeper)) s after)
+
+  -- what a call does
+  abbrev pub Acts : {T : Type 0} → (ReplicaState → Option CoreError → Type 0) → (ReplicaState → List Event → T → Type 0)
+      → (ReplicaState → ReplicaState → Type 0) → Result T CoreError → Replica K D → Replica K D → Type 0
+  Acts Refusal Plan Short result old new = Becomes (λ rose s after.
+      Call (Refusal s) (Plan s) (Short s) rose result s after) old new
+
+  -- what a call does that only reads: its answer is this over what is kept
+  abbrev pub Answers : {T : Type 0} → (Kept → T → Type 0) → Result T CoreError → Replica K D → Replica K D → Type 0
+  Answers P result old new = Acts (λ s. Is (read_refusal s)) (OnlyReads P) Stays result old new
+
+-- The same of a loop over commits, in a proof file.
+abbrev pub HasCommitted : {K D : Type 0} → keeper.Ghosts K D → counted.Ghosts K → Replica K D → Replica K D → Type 0
+HasCommitted k c = CommitKeepsAt k.told k.own c.faults k.quiet false

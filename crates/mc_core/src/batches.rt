@@ -1,19 +1,16 @@
 // The calls of a replica on its batch.
-ghost use Rattle.mc_core.specs.Words.{Continues};
 ghost use Rattle.mc_keep.specs.Calls.{Reads};
 ghost use Rattle.std.specs.Prelude.{◌≡◌, ◌≤◌, ◌++◌, ◌∷◌, [], false, None, Some, IfOk, IfSome, IfErr};
-ghost use Rattle.mc_base.specs.Causes.{Rose};
-ghost use Rattle.mc_base.specs.Told.{Told};
 ghost use Rattle.mc_keep.specs.Causes.{IfTold};
 ghost use Rattle.mc_model.specs.Events.{Batch as Closed};
 ghost use Rattle.mc_core.specs.declared.error.CoreError.{CoreError as Refused};
 ghost use Rattle.mc_core.specs.Batches.{BeginPlan, BatchDeletePlan, BatchPutPlan, CommitPlan, batch_delete_refusal, batch_made_refusal, batch_put_refusal, begin_refusal, commit_refusal, delta_of_batch};
-ghost use Rattle.mc_core.specs.Calls.{Call};
+ghost use Rattle.mc_core.specs.Calls.{Stays};
 ghost use Rattle.mc_core.specs.Events.{Part};
 ghost use Rattle.mc_core.specs.Plans.{IsShaped, IsSomePlan, plan_events, plan_rows};
 ghost use Rattle.mc_core.specs.Puts.{IsPlanned, next_links};
-ghost use Rattle.mc_core.specs.Refusals.{Is, IsDue, OnFault};
-ghost use Rattle.mc_core.specs.Replica.{replica_state};
+ghost use Rattle.mc_core.specs.Refusals.{Is, IsDue, is_fault};
+ghost use Rattle.mc_core.specs.Words.{Acts, Becomes, Continues};
 
 use crate::commits::is_sound;
 use crate::error::stops;
@@ -28,8 +25,7 @@ use std::alloc::Global;
 impl<K: Keeper> Replica<K> {
     /// Opens a batch, with nothing in it. Takes no memory. Refusals in their order: `Stopped`, `BatchOpen`.
     pub fn batch_begin(&mut self, alloc: Global) -> Result<(), CoreError>
-        ensures call { Told (replica_state K.told K.fuse self.old) (replica_state K.told K.fuse self.new) (λ s new.
-            Call (Is (begin_refusal s)) BeginPlan (λ left. left ≡ s) (Rose (K.own self.old.keeper) (K.own self.new.keeper)) result s new) }
+        ensures call { Acts K.Keeper (λ s. Is (begin_refusal s)) (λ s. BeginPlan) Stays result self.old self.new }
         ensures keeps { Continues K.Keeper (is_fault result) self.old self.new }
     {
         if self.stopped {
@@ -45,8 +41,8 @@ impl<K: Keeper> Replica<K> {
     /// Puts a value into the open batch, in the place of the batch's element of the key. Refusals in their order:
     /// `Stopped`, `NoBatch`, `BadKey`, `ValueTooLong`; these and `Memory` leave the replica as it was.
     pub fn batch_put(&mut self, key: &str, value: &[u8]) -> Result<(), CoreError>
-        ensures call { Told (replica_state K.told K.fuse self.old) (replica_state K.told K.fuse self.new) (λ s new.
-            Call (Is (batch_put_refusal s key.now value.now)) (BatchPutPlan s key.now value.now) (λ left. left ≡ s) (Rose (K.own self.old.keeper) (K.own self.new.keeper)) result s new) }
+        ensures call { Acts K.Keeper (λ s. Is (batch_put_refusal s key.now value.now))
+            (λ s. BatchPutPlan s key.now value.now) Stays result self.old self.new }
         ensures keeps { Continues K.Keeper (is_fault result) self.old self.new }
     {
         if self.stopped {
@@ -66,8 +62,8 @@ impl<K: Keeper> Replica<K> {
     /// Drops the batch's element of a key, and adds the blocks with a live element of it that a delete would take now.
     /// Refusals in their order: `Stopped`, `NoBatch`, `BadKey`; these and `Memory` leave the replica as it was.
     pub fn batch_delete(&mut self, key: &str) -> Result<(), CoreError>
-        ensures call { Told (replica_state K.told K.fuse self.old) (replica_state K.told K.fuse self.new) (λ s new.
-            Call (Is (batch_delete_refusal s key.now)) (BatchDeletePlan s key.now) (λ left. left ≡ s) (Rose (K.own self.old.keeper) (K.own self.new.keeper)) result s new) }
+        ensures call { Acts K.Keeper (λ s. Is (batch_delete_refusal s key.now)) (λ s. BatchDeletePlan s key.now)
+            Stays result self.old self.new }
         ensures keeps { Continues K.Keeper (is_fault result) self.old self.new }
     {
         kept_is_durable();
@@ -93,8 +89,7 @@ impl<K: Keeper> Replica<K> {
     /// order: `Stopped`, `NoBatch`, `PriorityFull`, `BlockTooLarge`, `Clash`; these and `Memory` leave the batch open and
     /// the replica as it was.
     pub fn batch_commit(&mut self, alloc: Global) -> Result<Option<Written>, CoreError>
-        ensures call { Told (replica_state K.told K.fuse self.old) (replica_state K.told K.fuse self.new) (λ s new.
-            Call (Is (commit_refusal s)) (CommitPlan s) (λ left. left ≡ s) (Rose (K.own self.old.keeper) (K.own self.new.keeper)) result s new) }
+        ensures call { Acts K.Keeper (λ s. Is (commit_refusal s)) CommitPlan Stays result self.old self.new }
         ensures keeps { Continues K.Keeper (is_fault result) self.old self.new }
     {
         kept_is_durable();
@@ -123,8 +118,8 @@ impl<K: Keeper> Replica<K> {
         requires room { plan_rows planned.plan ≤ K.spare self.old.keeper }
         requires shape { IsShaped planned.plan }
         requires plan { IfSome (K.told self.old.keeper) (λ kept. IsSomePlan kept self.old.whole planned.plan) }
-        ensures part { Told (replica_state K.told K.fuse self.old) (replica_state K.told K.fuse self.new) (λ s new.
-            Part (plan_events planned.plan ++ Closed None ∷ []) (Rose (K.own self.old.keeper) (K.own self.new.keeper)) result s new) }
+        ensures part { Becomes K.Keeper (λ rose.
+            Part (plan_events planned.plan ++ Closed None ∷ []) rose result) self.old self.new }
         ensures answer { IfOk result (λ written. written ≡ Some planned.written) }
         ensures only { IfErr result (λ error. error ≡ Refused.KeeperFault) }
         ensures keeps { Continues K.Keeper (is_fault result) self.old self.new }
@@ -147,8 +142,10 @@ fn plan_batch<K: Keeper>(
     whole: bool,
 ) -> Result<Planned, CoreError>
     ensures allowed { IfTold (K.told keeper.old) result (λ kept planned. batch_made_refusal kept batch.now ≡ None) }
-    ensures planned { IfTold (K.told keeper.old) result (λ kept planned. IsPlanned kept whole (next_links kept) (delta_of_batch kept batch.now) planned) }
-    ensures refused { IfSome (K.told keeper.old) (λ kept. IfErr result (IsDue (Is (batch_made_refusal kept batch.now)))) }
+    ensures planned { IfTold (K.told keeper.old) result (λ kept planned.
+        IsPlanned kept whole (next_links kept) (delta_of_batch kept batch.now) planned) }
+    ensures refused { IfSome (K.told keeper.old) (λ kept.
+        IfErr result (IsDue (Is (batch_made_refusal kept batch.now)))) }
     ensures shape { IfOk result (λ planned. IsShaped planned.plan) }
     ensures room { IfOk result (λ planned. plan_rows planned.plan ≤ K.spare keeper.new) }
     ensures reads { Reads K.Keeper (is_fault result) keeper.old keeper.new }

@@ -1,7 +1,6 @@
 // The commits of a replica: each is one event, or it breaks and the replica stops.
-ghost use Rattle.mc_core.specs.Words.{Continues};
-ghost use Rattle.std.specs.Prelude.{◌≡◌, ◌≢◌, ◌≤◌, ◌+◌, false, [], ◌∷◌, None, IfSome, OnOk, OnErr};
-ghost use Rattle.mc_base.specs.Causes.{Rose};
+ghost use Rattle.std.specs.Prelude.{◌≡◌, ◌≢◌, ◌≤◌, ◌+◌, false, [], ◌∷◌, None, IfSome, OnOk};
+ghost use Rattle.std.specs.Result.{is_err};
 ghost use Rattle.mc_base.specs.Told.{Told};
 ghost use Rattle.mc_model.specs.Events.{Store, Process};
 ghost use Rattle.mc_model.specs.Kept.{IsKept};
@@ -10,7 +9,7 @@ ghost use Rattle.mc_keep.specs.Changes.{changed, row_count};
 ghost use Rattle.mc_keep.specs.Tables.{ChangesFit};
 ghost use Rattle.mc_core.specs.Events.{Part};
 ghost use Rattle.mc_core.specs.Plans.{IsReady, HasLinks, IsShaped, IsSomePlan, plan_rows, plan_events};
-ghost use Rattle.mc_core.specs.Replica.{replica_state};
+ghost use Rattle.mc_core.specs.Words.{Becomes, CommitKeeps};
 
 use crate::plan::Plan;
 use crate::replica::Replica;
@@ -26,14 +25,12 @@ impl<K: Keeper> Replica<K> {
         requires room { row_count store ≤ K.spare self.old.keeper }
         requires only { (store.marks ≡ []) × (store.mark ≡ None) }
         requires fits { IfSome (K.told self.old.keeper) (λ kept. ChangesFit kept store) }
-        ensures part { Told (replica_state K.told K.fuse self.old) (replica_state K.told K.fuse self.new) (λ s new.
-            Part (Store (vertices store.store) ∷ []) (Rose (K.own self.old.keeper) (K.own self.new.keeper)) result s new) }
-        ensures silent { K.told self.old.keeper ≡ None → K.told self.new.keeper ≡ None }
-        ensures told { OnOk result (Told (K.told self.old.keeper) (K.told self.new.keeper) (λ kept new. new ≡ changed kept store)) }
+        ensures part { Becomes K.Keeper (λ rose.
+            Part (Store (vertices store.store) ∷ []) rose result) self.old self.new }
+        ensures told { OnOk result (Told (K.told self.old.keeper) (K.told self.new.keeper) (λ kept new.
+            new ≡ changed kept store)) }
         ensures up { OnOk result (self.new.stopped ≡ false) }
-        ensures keeps { Continues K.Keeper (is_err result) self.old self.new }
-        ensures whole { self.new.whole ≡ self.old.whole }
-        ensures batch { self.new.batch ≡ self.old.batch }
+        ensures keeps { CommitKeeps K.Keeper (is_err result) self.old self.new }
         ensures spare { K.spare self.old.keeper ≤ K.spare self.new.keeper + row_count store }
     {
         commits_are_events();
@@ -56,14 +53,11 @@ impl<K: Keeper> Replica<K> {
         requires up { self.old.stopped ≡ false }
         requires room { row_count process ≤ K.spare self.old.keeper }
         requires only { (process.store ≡ []) × (process.marks ≢ []) }
-        requires ready { IfSome (K.told self.old.keeper) (λ kept. IsReady kept self.old.whole process × HasLinks kept process.marks) }
-        ensures part { Told (replica_state K.told K.fuse self.old) (replica_state K.told K.fuse self.new) (λ s new.
-            Part (Process process.marks ∷ []) (Rose (K.own self.old.keeper) (K.own self.new.keeper)) result s new) }
-        ensures silent { K.told self.old.keeper ≡ None → K.told self.new.keeper ≡ None }
+        requires ready { IfSome (K.told self.old.keeper) (λ kept.
+            IsReady kept self.old.whole process × HasLinks kept process.marks) }
+        ensures part { Becomes K.Keeper (λ rose. Part (Process process.marks ∷ []) rose result) self.old self.new }
         ensures up { OnOk result (self.new.stopped ≡ false) }
-        ensures keeps { Continues K.Keeper (is_err result) self.old self.new }
-        ensures whole { self.new.whole ≡ self.old.whole }
-        ensures batch { self.new.batch ≡ self.old.batch }
+        ensures keeps { CommitKeeps K.Keeper (is_err result) self.old self.new }
     {
         commits_are_events();
         is_sound(&self.keeper);
@@ -87,14 +81,12 @@ impl<K: Keeper> Replica<K> {
         requires only_store { (store.marks ≡ []) × (store.mark ≡ None) }
         requires only_process { (process.store ≡ []) × (process.marks ≢ []) }
         requires fits { IfSome (K.told self.old.keeper) (λ kept. ChangesFit kept store) }
-        requires ready { IfSome (K.told self.old.keeper) (λ kept. IsReady (changed kept store) self.old.whole process × HasLinks (changed kept store) process.marks) }
-        ensures part { Told (replica_state K.told K.fuse self.old) (replica_state K.told K.fuse self.new) (λ s new.
-            Part (Store (vertices store.store) ∷ Process process.marks ∷ []) (Rose (K.own self.old.keeper) (K.own self.new.keeper)) result s new) }
-        ensures silent { K.told self.old.keeper ≡ None → K.told self.new.keeper ≡ None }
+        requires ready { IfSome (K.told self.old.keeper) (λ kept.
+            IsReady (changed kept store) self.old.whole process × HasLinks (changed kept store) process.marks) }
+        ensures part { Becomes K.Keeper (λ rose.
+            Part (Store (vertices store.store) ∷ Process process.marks ∷ []) rose result) self.old self.new }
         ensures up { OnOk result (self.new.stopped ≡ false) }
-        ensures keeps { Continues K.Keeper (is_err result) self.old self.new }
-        ensures whole { self.new.whole ≡ self.old.whole }
-        ensures batch { self.new.batch ≡ self.old.batch }
+        ensures keeps { CommitKeeps K.Keeper (is_err result) self.old self.new }
     {
         match self.commit_store(store) {
             Ok(()) => self.commit_process(process),
@@ -108,13 +100,9 @@ impl<K: Keeper> Replica<K> {
         requires room { plan_rows plan ≤ K.spare self.old.keeper }
         requires shape { IsShaped plan }
         requires plan { IfSome (K.told self.old.keeper) (λ kept. IsSomePlan kept self.old.whole plan) }
-        ensures part { Told (replica_state K.told K.fuse self.old) (replica_state K.told K.fuse self.new) (λ s new.
-            Part (plan_events plan) (Rose (K.own self.old.keeper) (K.own self.new.keeper)) result s new) }
-        ensures silent { K.told self.old.keeper ≡ None → K.told self.new.keeper ≡ None }
+        ensures part { Becomes K.Keeper (λ rose. Part (plan_events plan) rose result) self.old self.new }
         ensures up { OnOk result (self.new.stopped ≡ false) }
-        ensures keeps { Continues K.Keeper (is_err result) self.old self.new }
-        ensures whole { self.new.whole ≡ self.old.whole }
-        ensures batch { self.new.batch ≡ self.old.batch }
+        ensures keeps { CommitKeeps K.Keeper (is_err result) self.old self.new }
     {
         commits_are_events();
         changes_fit();

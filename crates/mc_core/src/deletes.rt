@@ -1,20 +1,15 @@
 // Deletes: all their blocks are made first, and then taken up one after another.
-ghost use Rattle.mc_core.specs.Words.{Continues};
 ghost use Rattle.mc_keep.specs.Calls.{Reads};
 ghost use Rattle.std.specs.Prelude.{◌≡◌, ◌≤◌, ◌^◌, nat_lt, ◌++◌, ◌∷◌, [], true, false, None, IfOk, IfSome, IfErr, OnOk};
 ghost use Rattle.std.specs.List.{list_all};
-ghost use Rattle.mc_base.specs.Causes.{Rose};
-ghost use Rattle.mc_base.specs.Told.{Told};
 ghost use Rattle.mc_model.specs.Kept.{is_stored};
 ghost use Rattle.mc_model.specs.Made.{made_bytes, made_cid};
-ghost use Rattle.mc_keep.specs.Causes.{IfTold, StaysQuiet, OnFailed};
-ghost use Rattle.mc_core.specs.Calls.{Call};
+ghost use Rattle.mc_keep.specs.Causes.{IfTold};
 ghost use Rattle.mc_core.specs.Deletes.{AreMade, AreNext, DeleteKeptRefusal, DeletePlan, DeleteRefusal, DeleteShort, DeltasRefusal, IsDelete, IsMade, IsNextMade, IsOutside, ShortKeeps, Takes, TakesOne, chain_clash, has_made, is_left, with_all};
 ghost use Rattle.mc_core.specs.Plans.{IsNew, IsPlan, IsShaped, plan_rows};
 ghost use Rattle.mc_core.specs.Puts.{next_links};
-ghost use Rattle.mc_core.specs.Refusals.{CoreCause, Is, IsDue, clash_refusal, key_refusal, OnFault};
-ghost use Rattle.mc_core.specs.Reports.{StaysCounted};
-ghost use Rattle.mc_core.specs.Replica.{replica_state};
+ghost use Rattle.mc_core.specs.Refusals.{Is, IsDue, clash_refusal, is_fault, key_refusal};
+ghost use Rattle.mc_core.specs.Words.{Acts, Becomes, CommitKeeps, Continues};
 
 use crate::commits::is_sound;
 use crate::error::stops;
@@ -24,7 +19,7 @@ use crate::puts::check_key;
 use crate::{CoreError, Replica};
 use mc_base::{Bytes, Cid, Failed, List};
 use mc_block::write_block;
-use mc_keep::{KeepError, Keeper, changes_fit, commits_are_events};
+use mc_keep::{Keeper, changes_fit, commits_are_events};
 use mc_key::Key;
 use mc_model::{Block, Delta, kept_is_durable};
 use mc_write::delete_deltas;
@@ -52,10 +47,10 @@ impl<K: Keeper> Replica<K> {
     /// `BlockTooLarge`, `Clash`; these leave the replica as it was. After `Memory` some first blocks, but not all, may have
     /// been processed, and the key has the value that it had.
     pub fn delete(&mut self, alloc: Global, key: &str) -> Result<Deleted, CoreError>
-        ensures call { Told (replica_state K.told K.fuse self.old) (replica_state K.told K.fuse self.new) (λ s new.
-            Call (DeleteRefusal s key.now) (DeletePlan s key.now) (DeleteShort s key.now) (Rose (K.own self.old.keeper) (K.own self.new.keeper)) result s new) }
+        ensures call { Acts K.Keeper (λ s. DeleteRefusal s key.now) (λ s. DeletePlan s key.now)
+            (λ s. DeleteShort s key.now) result self.old self.new }
         ensures keeps { Continues K.Keeper (is_fault result) self.old self.new }
-        ensures short { Told (replica_state K.told K.fuse self.old) (replica_state K.told K.fuse self.new) (ShortKeeps key.now result) }
+        ensures short { Becomes K.Keeper (λ rose. ShortKeeps key.now result) self.old self.new }
     {
         kept_is_durable();
         commits_are_events();
@@ -77,8 +72,7 @@ impl<K: Keeper> Replica<K> {
     fn take_up_all(&mut self, alloc: Global, blocks: List<MadeBlock>) -> Result<Deleted, CoreError>
         requires up { self.old.stopped ≡ false }
         requires next { IfSome (K.told self.old.keeper) (λ kept. AreNext kept blocks) }
-        ensures takes { Told (replica_state K.told K.fuse self.old) (replica_state K.told K.fuse self.new) (λ s new.
-            Takes blocks (Rose (K.own self.old.keeper) (K.own self.new.keeper)) result s new) }
+        ensures takes { Becomes K.Keeper (λ rose. Takes blocks rose result) self.old self.new }
         ensures keeps { Continues K.Keeper (is_fault result) self.old self.new }
     {
         kept_is_durable();
@@ -97,13 +91,9 @@ impl<K: Keeper> Replica<K> {
         requires up { self.old.stopped ≡ false }
         requires new { IfSome (K.told self.old.keeper) (λ kept. IsNew kept made.block made.bytes) }
         requires stored { IfSome (K.told self.old.keeper) (λ kept. made.known ≡ is_stored kept.graph made.block.cid) }
-        ensures takes { Told (replica_state K.told K.fuse self.old) (replica_state K.told K.fuse self.new) (λ s new.
-            TakesOne made (Rose (K.own self.old.keeper) (K.own self.new.keeper)) result s new) }
-        ensures silent { K.told self.old.keeper ≡ None → K.told self.new.keeper ≡ None }
+        ensures takes { Becomes K.Keeper (λ rose. TakesOne made rose result) self.old self.new }
         ensures up { OnOk result (self.new.stopped ≡ false) }
-        ensures whole { self.new.whole ≡ self.old.whole }
-        ensures batch { self.new.batch ≡ self.old.batch }
-        ensures keeps { Continues K.Keeper (is_fault result) self.old self.new }
+        ensures keeps { CommitKeeps K.Keeper (is_fault result) self.old self.new }
     {
         kept_is_durable();
         match plan_one(&mut self.keeper, alloc, made, self.whole) {
@@ -151,7 +141,8 @@ fn make_delete<K: Keeper>(
 ) -> Result<List<MadeBlock>, CoreError>
     ensures made { IfTold (K.told keeper.old) result (λ kept blocks. IsDelete kept key.now blocks) }
     ensures allowed { OnOk result (key_refusal key.now ≡ None) }
-    ensures refused { IfSome (K.told keeper.old) (λ kept. IfErr result (IsDue (DeleteKeptRefusal kept key.now (key_refusal key.now)))) }
+    ensures refused { IfSome (K.told keeper.old) (λ kept.
+        IfErr result (IsDue (DeleteKeptRefusal kept key.now (key_refusal key.now)))) }
     ensures reads { Reads K.Keeper (is_fault result) keeper.old keeper.new }
 {
     let key = check_key(key)?;
@@ -196,7 +187,7 @@ fn has_priority(priority: u64)
 }
 
 // The links to the heads.
-fn first_links<K: Keeper>(keeper: &mut K, alloc: Global) -> Result<List<Cid>, KeepError>
+fn first_links<K: Keeper>(keeper: &mut K, alloc: Global) -> Result<List<Cid>, CoreError>
     ensures links { IfTold (K.told keeper.old) result (λ kept links. links ≡ next_links kept) }
     ensures reads { Reads K.Keeper (is_fault result) keeper.old keeper.new }
 {
@@ -235,8 +226,10 @@ fn make_next<K: Keeper>(
     links: List<Cid>,
     delta: Delta,
 ) -> Result<List<Cid>, CoreError>
-    ensures made { IfTold (K.told keeper.old) result (λ kept next. IsNextMade kept blocks.old links delta blocks.new next) }
-    ensures refused { IfSome (K.told keeper.old) (λ kept. IfErr result (IsDue (Is (clash_refusal (with_all kept blocks.old) (made_cid links delta) (made_bytes links delta))))) }
+    ensures made { IfTold (K.told keeper.old) result (λ kept next.
+        IsNextMade kept blocks.old links delta blocks.new next) }
+    ensures refused { IfSome (K.told keeper.old) (λ kept. IfErr result (IsDue (Is (
+        clash_refusal (with_all kept blocks.old) (made_cid links delta) (made_bytes links delta))))) }
     ensures reads { Reads K.Keeper (is_fault result) keeper.old keeper.new }
 {
     let made = match make_one(keeper, alloc, blocks.as_slice(), links, delta) {
@@ -272,7 +265,8 @@ fn make_one<K: Keeper>(
     delta: Delta,
 ) -> Result<MadeBlock, CoreError>
     ensures made { IfTold (K.told keeper.old) result (λ kept made. IsMade (with_all kept before.now) links delta made) }
-    ensures refused { IfSome (K.told keeper.old) (λ kept. IfErr result (IsDue (Is (clash_refusal (with_all kept before.now) (made_cid links delta) (made_bytes links delta))))) }
+    ensures refused { IfSome (K.told keeper.old) (λ kept. IfErr result (IsDue (Is (
+        clash_refusal (with_all kept before.now) (made_cid links delta) (made_bytes links delta))))) }
     ensures reads { Reads K.Keeper (is_fault result) keeper.old keeper.new }
 {
     let made = write_block(alloc, links.as_slice(), &delta)?;

@@ -14,14 +14,17 @@ use mc_model::order_and_store_grow;
 /// No call takes a block out of the processed ones, or changes its position; nor takes one out of the stored ones, or
 /// changes its bytes: whether all its events happened, or were cut short.
 pub fn replicas_only_grow()
-    ensures goes { (events : List Event) (s new : ReplicaState) → Goes events s new → GoesOn s.state.durable new.state.durable }
-    ensures breaks { (events : List Event) (before now : ℕ) (s new : ReplicaState) → Breaks events (Rose before now) s new → GoesOn s.state.durable new.state.durable }
+    ensures goes { (events : List Event) (s new : ReplicaState) →
+        Goes events s new → GoesOn s.state.durable new.state.durable }
+    ensures breaks { (events : List Event) (before now : ℕ) (s new : ReplicaState) →
+        Breaks events (Rose before now) s new → GoesOn s.state.durable new.state.durable }
 {
     order_and_store_grow();
 }
 
 /// A made block that was taken up stands at the position that was answered for it.
 pub fn written_blocks_stand()
-    ensures { (kept : Kept) (links : List Cid) (delta : Delta) (s new : ReplicaState) → kept ≡ kept_of s.state.durable → Goes (made_events kept links delta) s new →
+    ensures { (kept : Kept) (links : List Cid) (delta : Delta) (s new : ReplicaState) →
+        kept ≡ kept_of s.state.durable → Goes (made_events kept links delta) s new →
         slice_get new.state.durable.order (written_of kept links delta).position ≡ Some (written_of kept links delta).cid }
 {}

@@ -1,7 +1,8 @@
 // Blocks that a replica makes.
 ghost use Rattle.mc_keep.specs.Calls.{Reads};
-ghost use Rattle.std.specs.Prelude.{◌≡◌, ◌≤◌, None, Some, true, false, IfOk, IfSome, IfErr, OnOk, is_some, OnErr};
+ghost use Rattle.std.specs.Prelude.{◌≡◌, ◌≤◌, None, Some, true, false, IfOk, IfSome, IfErr, OnOk};
 ghost use Rattle.std.specs.List.{list_all};
+ghost use Rattle.std.specs.Result.{is_err};
 ghost use Rattle.mc_model.specs.Front.{is_among};
 ghost use Rattle.mc_model.specs.Kept.{processed, is_stored};
 ghost use Rattle.mc_model.specs.Made.{next_priority};
@@ -9,7 +10,7 @@ ghost use Rattle.mc_keep.specs.Causes.{IfTold};
 ghost use Rattle.mc_write.specs.Seen.{row_cids};
 ghost use Rattle.mc_core.specs.Plans.{IsShaped, plan_rows};
 ghost use Rattle.mc_core.specs.Puts.{IsPlanned, next_links};
-ghost use Rattle.mc_core.specs.Refusals.{Is, IsDue, clash_refusal, made_refusal, other_refusal, priority_refusal, size_refusal, OnFault};
+ghost use Rattle.mc_core.specs.Refusals.{Is, IsDue, clash_refusal, is_fault, made_refusal, other_refusal, priority_refusal, size_refusal};
 
 use crate::CoreError;
 use crate::plan::{Plan, plan_block};
@@ -49,7 +50,8 @@ pub(crate) struct Next {
 
 // The links to the heads, and one more than their greatest height.
 pub(crate) fn next_block<K: Keeper>(keeper: &mut K, alloc: Global) -> Result<Next, CoreError>
-    ensures next { IfTold (K.told keeper.old) result (λ kept next. (next.links ≡ next_links kept) × (next.priority ≡ next_priority (processed kept))) }
+    ensures next { IfTold (K.told keeper.old) result (λ kept next.
+        (next.links ≡ next_links kept) × (next.priority ≡ next_priority (processed kept))) }
     ensures left { IfTold (K.told keeper.old) result (λ kept next. priority_refusal kept ≡ None) }
     ensures refused { IfSome (K.told keeper.old) (λ kept. IfErr result (IsDue (Is (priority_refusal kept)))) }
     ensures reads { Reads K.Keeper (is_fault result) keeper.old keeper.new }
@@ -111,7 +113,8 @@ pub(crate) fn check_clash<K: Keeper>(
 ) -> Result<bool, CoreError>
     ensures known { IfTold (K.told keeper.old) result (λ kept known. known ≡ is_stored kept.graph cid.now) }
     ensures allowed { IfTold (K.told keeper.old) result (λ kept known. clash_refusal kept cid.now bytes.now ≡ None) }
-    ensures refused { IfSome (K.told keeper.old) (λ kept. IfErr result (IsDue (Is (clash_refusal kept cid.now bytes.now)))) }
+    ensures refused { IfSome (K.told keeper.old) (λ kept.
+        IfErr result (IsDue (Is (clash_refusal kept cid.now bytes.now)))) }
     ensures reads { Reads K.Keeper (is_fault result) keeper.old keeper.new }
 {
     if is_processed(keeper, cid)? {

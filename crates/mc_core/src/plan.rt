@@ -3,7 +3,8 @@ ghost use Rattle.mc_keep.specs.Calls.{Reads};
 ghost use Rattle.std.specs.Prelude.{◌≡◌, ◌≤◌, ◌∷◌, [], Ok, true, false, map, List, IfSome, IfOk};
 ghost use Rattle.mc_model.specs.declared.block.Block.{Block};
 ghost use Rattle.mc_model.specs.Kept.{is_stored};
-ghost use Rattle.mc_keep.specs.Causes.{IfTold, OnFailed};
+ghost use Rattle.mc_keep.specs.Causes.{IfTold};
+ghost use Rattle.mc_keep.specs.Plan.{is_fault};
 ghost use Rattle.mc_keep.specs.Changes.{no_changes};
 ghost use Rattle.mc_keep.specs.New.{AreNew};
 ghost use Rattle.mc_core.specs.Plans.{IsNew, IsPlan, IsShaped, Processes, plan_rows};
@@ -31,7 +32,8 @@ pub(crate) fn process_changes<K: Keeper>(
     whole: bool,
 ) -> Result<Changes, KeepError>
     requires { IfSome (K.told keeper.old) (λ kept. AreNew kept blocks.now) }
-    ensures process { IfTold (K.told keeper.old) result (λ kept changes. Processes kept whole blocks.now (map (λ (block : Block). block.cid) blocks.now) changes) }
+    ensures process { IfTold (K.told keeper.old) result (λ kept changes.
+        Processes kept whole blocks.now (map (λ (block : Block). block.cid) blocks.now) changes) }
     ensures only { IfOk result (λ changes. changes.store ≡ []) }
     ensures marks { IfOk result (λ changes. changes.marks ≡ map (λ (block : Block). block.cid) blocks.now) }
     ensures reads { Reads K.Keeper (is_fault result) keeper.old keeper.new }
@@ -50,7 +52,8 @@ fn store_changes(
     known: bool,
 ) -> Result<Option<Changes>, AllocError>
     ensures stored { known ≡ true → IfOk result (λ store. store ≡ Rattle.std.specs.Prelude.None) }
-    ensures new { known ≡ false → IfOk result (λ store. store ≡ Rattle.std.specs.Prelude.Some (record no_changes { store = record { cid = cid; bytes = bytes } ∷ [] })) }
+    ensures new { known ≡ false → IfOk result (λ store. store ≡ Rattle.std.specs.Prelude.Some
+        (record no_changes { store = record { cid = cid; bytes = bytes } ∷ [] })) }
 {
     if known {
         return Ok(None);
@@ -59,7 +62,8 @@ fn store_changes(
 }
 
 pub(crate) fn store_of(alloc: Global, cid: Cid, bytes: Bytes) -> Result<Changes, AllocError>
-    ensures { IfOk result (λ changes. changes ≡ record no_changes { store = record { cid = cid; bytes = bytes } ∷ [] }) }
+    ensures { IfOk result (λ changes.
+        changes ≡ record no_changes { store = record { cid = cid; bytes = bytes } ∷ [] }) }
 {
     let mut changes = Changes::new(alloc);
     changes.store.push(Stored { cid, bytes })?;

@@ -4,7 +4,7 @@ ghost use Rattle.std.specs.Prelude.{◌≡◌, ◌≤◌, None, Some, IfOk, IfSo
 ghost use Rattle.mc_keep.specs.Causes.{IfTold};
 ghost use Rattle.mc_core.specs.Plans.{IsShaped, plan_rows};
 ghost use Rattle.mc_core.specs.Puts.{IsPlanned, next_links, delta_of_put, put_made_refusal, put_kept_refusal};
-ghost use Rattle.mc_core.specs.Refusals.{Is, IsDue, key_refusal, value_refusal, OnFault};
+ghost use Rattle.mc_core.specs.Refusals.{Is, IsDue, is_fault, key_refusal, value_refusal};
 
 use crate::CoreError;
 use crate::commits::is_sound;
@@ -47,9 +47,12 @@ fn plan_made_put<K: Keeper>(
     value: &[u8],
     whole: bool,
 ) -> Result<Planned, CoreError>
-    ensures allowed { IfTold (K.told keeper.old) result (λ kept planned. put_made_refusal kept key.now value.now ≡ None) }
-    ensures planned { IfTold (K.told keeper.old) result (λ kept planned. IsPlanned kept whole (next_links kept) (delta_of_put kept key.now value.now) planned) }
-    ensures refused { IfSome (K.told keeper.old) (λ kept. IfErr result (IsDue (Is (put_made_refusal kept key.now value.now)))) }
+    ensures allowed { IfTold (K.told keeper.old) result (λ kept planned.
+        put_made_refusal kept key.now value.now ≡ None) }
+    ensures planned { IfTold (K.told keeper.old) result (λ kept planned.
+        IsPlanned kept whole (next_links kept) (delta_of_put kept key.now value.now) planned) }
+    ensures refused { IfSome (K.told keeper.old) (λ kept.
+        IfErr result (IsDue (Is (put_made_refusal kept key.now value.now)))) }
     ensures shape { IfOk result (λ planned. IsShaped planned.plan) }
     ensures room { IfOk result (λ planned. plan_rows planned.plan ≤ K.spare keeper.new) }
     ensures reads { Reads K.Keeper (is_fault result) keeper.old keeper.new }
@@ -69,9 +72,12 @@ pub(crate) fn plan_put<K: Keeper>(
     value: &[u8],
     whole: bool,
 ) -> Result<Planned, CoreError>
-    ensures allowed { IfTold (K.told keeper.old) result (λ kept planned. put_kept_refusal kept key.now value.now ≡ None) }
-    ensures planned { IfTold (K.told keeper.old) result (λ kept planned. IsPlanned kept whole (next_links kept) (delta_of_put kept key.now value.now) planned) }
-    ensures refused { IfSome (K.told keeper.old) (λ kept. IfErr result (IsDue (Is (put_kept_refusal kept key.now value.now)))) }
+    ensures allowed { IfTold (K.told keeper.old) result (λ kept planned.
+        put_kept_refusal kept key.now value.now ≡ None) }
+    ensures planned { IfTold (K.told keeper.old) result (λ kept planned.
+        IsPlanned kept whole (next_links kept) (delta_of_put kept key.now value.now) planned) }
+    ensures refused { IfSome (K.told keeper.old) (λ kept.
+        IfErr result (IsDue (Is (put_kept_refusal kept key.now value.now)))) }
     ensures shape { IfOk result (λ planned. IsShaped planned.plan) }
     ensures room { IfOk result (λ planned. plan_rows planned.plan ≤ K.spare keeper.new) }
     ensures reads { Reads K.Keeper (is_fault result) keeper.old keeper.new }

@@ -1,9 +1,6 @@
 // The calls of a replica that only read.
-ghost use Rattle.mc_core.specs.Words.{Continues, Acts};
 ghost use Rattle.std.specs.Prelude.{◌≡◌, map, slice_get};
 ghost use Rattle.std.specs.List.{position};
-ghost use Rattle.mc_base.specs.Causes.{Rose};
-ghost use Rattle.mc_base.specs.Told.{Told};
 ghost use Rattle.mc_key.specs.Prefix.{is_under};
 ghost use Rattle.mc_model.specs.Answers as answers;
 ghost use Rattle.mc_model.specs.Answers.{has_value};
@@ -12,10 +9,8 @@ ghost use Rattle.mc_model.specs.Kept.{processed};
 ghost use Rattle.mc_model.specs.Live.{value};
 ghost use Rattle.mc_keep.specs.Changes.{heads_in_rows};
 ghost use Rattle.mc_query.specs.Places.{pair_of};
-ghost use Rattle.mc_core.specs.Calls.{Call};
-ghost use Rattle.mc_core.specs.Reads.{Reads, read_refusal};
-ghost use Rattle.mc_core.specs.Refusals.{Is, OnFault};
-ghost use Rattle.mc_core.specs.Replica.{replica_state};
+ghost use Rattle.mc_core.specs.Refusals.{is_fault};
+ghost use Rattle.mc_core.specs.Words.{Answers, Continues};
 
 use crate::error::stops;
 use crate::{CoreError, Replica};
@@ -28,7 +23,8 @@ use std::alloc::Global;
 impl<K: Keeper> Replica<K> {
     /// The value of a key over the processed blocks, or none where it has none. The key is any text. Refusals: `Stopped`.
     pub fn get(&mut self, alloc: Global, key: &str) -> Result<Option<Bytes>, CoreError>
-        ensures call { Acts K.Keeper (λ s. Is (read_refusal s)) (Reads (λ kept found. found ≡ value (processed kept) key.now)) (λ s left. left ≡ s) result self.old self.new }
+        ensures call { Answers K.Keeper (λ kept found.
+            found ≡ value (processed kept) key.now) result self.old self.new }
         ensures keeps { Continues K.Keeper (is_fault result) self.old self.new }
     {
         kept_is_durable();
@@ -47,8 +43,8 @@ impl<K: Keeper> Replica<K> {
 
     /// Whether a key has a value over the processed blocks. The key is any text. Takes no memory. Refusals: `Stopped`.
     pub fn has(&mut self, key: &str) -> Result<bool, CoreError>
-        ensures call { Told (replica_state K.told K.fuse self.old) (replica_state K.told K.fuse self.new) (λ s new.
-            Call (Is (read_refusal s)) (Reads (λ kept found. found ≡ has_value (processed kept) key.now) s) (λ left. left ≡ s) (Rose (K.own self.old.keeper) (K.own self.new.keeper)) result s new) }
+        ensures call { Answers K.Keeper (λ kept found.
+            found ≡ has_value (processed kept) key.now) result self.old self.new }
         ensures keeps { Continues K.Keeper (is_fault result) self.old self.new }
     {
         kept_is_durable();
@@ -74,8 +70,8 @@ impl<K: Keeper> Replica<K> {
         skip: u64,
         count: u64,
     ) -> Result<List<Pair>, CoreError>
-        ensures call { Told (replica_state K.told K.fuse self.old) (replica_state K.told K.fuse self.new) (λ s new.
-            Call (Is (read_refusal s)) (Reads (λ kept pairs. map pair_of pairs ≡ answers.query (processed kept) (is_under prefix.now) skip count) s) (λ left. left ≡ s) (Rose (K.own self.old.keeper) (K.own self.new.keeper)) result s new) }
+        ensures call { Answers K.Keeper (λ kept pairs.
+            map pair_of pairs ≡ answers.query (processed kept) (is_under prefix.now) skip count) result self.old self.new }
         ensures keeps { Continues K.Keeper (is_fault result) self.old self.new }
     {
         kept_is_durable();
@@ -94,8 +90,8 @@ impl<K: Keeper> Replica<K> {
 
     /// The heads, ascending by the digest, each with its height. Refusals: `Stopped`.
     pub fn heads(&mut self, alloc: Global) -> Result<List<HeadRow>, CoreError>
-        ensures call { Told (replica_state K.told K.fuse self.old) (replica_state K.told K.fuse self.new) (λ s new.
-            Call (Is (read_refusal s)) (Reads (λ kept rows. heads_in_rows rows ≡ heads (processed kept)) s) (λ left. left ≡ s) (Rose (K.own self.old.keeper) (K.own self.new.keeper)) result s new) }
+        ensures call { Answers K.Keeper (λ kept rows.
+            heads_in_rows rows ≡ heads (processed kept)) result self.old self.new }
         ensures keeps { Continues K.Keeper (is_fault result) self.old self.new }
     {
         kept_is_durable();
@@ -115,8 +111,8 @@ impl<K: Keeper> Replica<K> {
     /// The place of a block in the order of processing, from 0, or none where it is not processed. Takes no memory.
     /// Refusals: `Stopped`.
     pub fn position(&mut self, cid: &Cid) -> Result<Option<u64>, CoreError>
-        ensures call { Told (replica_state K.told K.fuse self.old) (replica_state K.told K.fuse self.new) (λ s new.
-            Call (Is (read_refusal s)) (Reads (λ kept place. place ≡ position (same_cid cid.now) kept.order) s) (λ left. left ≡ s) (Rose (K.own self.old.keeper) (K.own self.new.keeper)) result s new) }
+        ensures call { Answers K.Keeper (λ kept place.
+            place ≡ position (same_cid cid.now) kept.order) result self.old self.new }
         ensures keeps { Continues K.Keeper (is_fault result) self.old self.new }
     {
         kept_is_durable();
@@ -135,8 +131,7 @@ impl<K: Keeper> Replica<K> {
 
     /// The block at a place in the order of processing, or none past its end. Takes no memory. Refusals: `Stopped`.
     pub fn at(&mut self, position: u64) -> Result<Option<Cid>, CoreError>
-        ensures call { Told (replica_state K.told K.fuse self.old) (replica_state K.told K.fuse self.new) (λ s new.
-            Call (Is (read_refusal s)) (Reads (λ kept cid. cid ≡ slice_get kept.order position) s) (λ left. left ≡ s) (Rose (K.own self.old.keeper) (K.own self.new.keeper)) result s new) }
+        ensures call { Answers K.Keeper (λ kept cid. cid ≡ slice_get kept.order position) result self.old self.new }
         ensures keeps { Continues K.Keeper (is_fault result) self.old self.new }
     {
         kept_is_durable();

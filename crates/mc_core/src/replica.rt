@@ -1,7 +1,6 @@
 // One replica.
-ghost use Rattle.std.specs.Prelude.{◌≡◌, ◌≤◌, IfOk, IfErr};
-ghost use Rattle.mc_base.specs.Causes.{Rose};
-ghost use Rattle.mc_keep.specs.Causes.{StaysQuiet};
+ghost use Rattle.std.specs.Prelude.{◌≡◌, true, false, IfOk, IfErr};
+ghost use Rattle.mc_keep.specs.Calls.{Reads};
 ghost use Rattle.mc_core.specs.Reports.{IsCounted};
 ghost use Rattle.mc_core.specs.Replica.{replica_state, opened_state};
 
@@ -42,14 +41,11 @@ impl<K: Keeper> Replica<K> {
     /// Opens the replica of a keeper: nothing is wanted, and every gap counts as wanted exactly where the dirty mark is
     /// clear. Takes no memory.
     pub fn open(keeper: K) -> Result<Replica<K>, OpenError<K>>
-        ensures opened { IfOk result (λ replica. replica_state K.told K.fuse replica ≡ opened_state (K.told keeper) (K.fuse keeper)) }
+        ensures opened { IfOk result (λ replica.
+            replica_state K.told K.fuse replica ≡ opened_state (K.told keeper) (K.fuse keeper)) }
         ensures counted { IfOk result (λ replica. IsCounted (K.told replica.keeper) replica.numbers) }
-        ensures refused { IfErr result (λ error. (K.told error.keeper ≡ K.told keeper) × (K.fuse error.keeper ≡ K.fuse keeper)) }
-        ensures quiet { IfOk result (λ replica. StaysQuiet (K.quiet keeper) (K.quiet replica.keeper) (K.own keeper) (K.own replica.keeper)) }
-        ensures later { IfOk result (λ replica. K.faults keeper ≤ K.faults replica.keeper) }
-        ensures refused_quiet { IfErr result (λ error. StaysQuiet (K.quiet keeper) (K.quiet error.keeper) (K.own keeper) (K.own error.keeper)) }
-        ensures own { IfErr result (λ error. Rose (K.own keeper) (K.own error.keeper)) }
-        ensures cause { IfErr result (λ error. Rose (K.faults keeper) (K.faults error.keeper)) }
+        ensures reads { IfOk result (λ replica. Reads K.Keeper false keeper replica.keeper) }
+        ensures refused { IfErr result (λ error. Reads K.Keeper true keeper error.keeper) }
     {
         let mut keeper = keeper;
         match keeper.summary() {

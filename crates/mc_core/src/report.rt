@@ -32,7 +32,8 @@ impl<K: Keeper> Replica<K> {
     /// counted, which an opening makes and every call keeps. Refusals: `Stopped`, and exactly where an earlier call
     /// answered `KeeperFault`.
     pub fn report(&self) -> Result<Report, CoreError>
-        ensures report { IfOk result (λ report. IsCounted (K.told self.now.keeper) self.now.numbers → IfSome (K.told self.now.keeper) (λ kept. IsReport kept self.now.whole report)) }
+        ensures report { IfOk result (λ report. IsCounted (K.told self.now.keeper) self.now.numbers →
+            IfSome (K.told self.now.keeper) (λ kept. IsReport kept self.now.whole report)) }
         ensures refused { IfErr result (λ error. (error ≡ Refused.Stopped) × (self.now.stopped ≡ true)) }
         ensures stopped { self.now.stopped ≡ true → IfOk result (λ report. ⊥) }
     {

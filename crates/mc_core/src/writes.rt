@@ -1,15 +1,12 @@
 // The calls of a replica that make one block.
-ghost use Rattle.mc_core.specs.Words.{Continues, Acts};
 ghost use Rattle.std.specs.Prelude.{◌≡◌, ◌≤◌, false, IfOk, IfErr, IfSome};
-ghost use Rattle.mc_base.specs.Causes.{Rose};
-ghost use Rattle.mc_base.specs.Told.{Told};
 ghost use Rattle.mc_core.specs.declared.error.CoreError.{CoreError as Refused};
-ghost use Rattle.mc_core.specs.Calls.{Call};
+ghost use Rattle.mc_core.specs.Calls.{Stays};
 ghost use Rattle.mc_core.specs.Events.{Part};
 ghost use Rattle.mc_core.specs.Plans.{IsShaped, IsSomePlan, plan_events, plan_rows};
 ghost use Rattle.mc_core.specs.Puts.{PutPlan, put_refusal};
-ghost use Rattle.mc_core.specs.Refusals.{Is, OnFault};
-ghost use Rattle.mc_core.specs.Replica.{replica_state};
+ghost use Rattle.mc_core.specs.Refusals.{Is, is_fault};
+ghost use Rattle.mc_core.specs.Words.{Acts, Becomes, CommitKeeps, Continues};
 
 use crate::error::stops;
 use crate::made::{Planned, Written};
@@ -25,7 +22,8 @@ impl<K: Keeper> Replica<K> {
     /// memory is taken before the first commit. Refusals in their order: `Stopped`, `BadKey`, `ValueTooLong`,
     /// `PriorityFull`, `BlockTooLarge`, `Clash`; these and `Memory` leave the replica as it was.
     pub fn put(&mut self, alloc: Global, key: &str, value: &[u8]) -> Result<Written, CoreError>
-        ensures call { Acts K.Keeper (λ s. Is (put_refusal s key.now value.now)) (λ s. PutPlan s key.now value.now) (λ s left. left ≡ s) result self.old self.new }
+        ensures call { Acts K.Keeper (λ s. Is (put_refusal s key.now value.now)) (λ s. PutPlan s key.now value.now)
+            Stays result self.old self.new }
         ensures keeps { Continues K.Keeper (is_fault result) self.old self.new }
     {
         kept_is_durable();
@@ -47,14 +45,11 @@ impl<K: Keeper> Replica<K> {
         requires room { plan_rows planned.plan ≤ K.spare self.old.keeper }
         requires shape { IsShaped planned.plan }
         requires plan { IfSome (K.told self.old.keeper) (λ kept. IsSomePlan kept self.old.whole planned.plan) }
-        ensures part { Told (replica_state K.told K.fuse self.old) (replica_state K.told K.fuse self.new) (λ s new.
-            Part (plan_events planned.plan) (Rose (K.own self.old.keeper) (K.own self.new.keeper)) result s new) }
+        ensures part { Becomes K.Keeper (λ rose. Part (plan_events planned.plan) rose result) self.old self.new }
         ensures answer { IfOk result (λ written. written ≡ planned.written) }
         ensures only { IfErr result (λ error. error ≡ Refused.KeeperFault) }
         ensures up { IfOk result (λ written. self.new.stopped ≡ false) }
-        ensures whole { self.new.whole ≡ self.old.whole }
-        ensures batch { self.new.batch ≡ self.old.batch }
-        ensures keeps { Continues K.Keeper (is_fault result) self.old self.new }
+        ensures keeps { CommitKeeps K.Keeper (is_fault result) self.old self.new }
     {
         let Planned { plan, written } = planned;
         match self.carry_out(plan) {

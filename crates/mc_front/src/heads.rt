@@ -1,8 +1,10 @@
 // The new heads of a group of blocks.
-ghost use Rattle.std.specs.Prelude.{◌≡◌, OnErr};
+ghost use Rattle.std.specs.Prelude.{◌≡◌};
+ghost use Rattle.std.specs.Result.{is_err};
 ghost use Rattle.mc_model.specs.Kept.{processed};
 ghost use Rattle.mc_keep.specs.Calls.{Reads};
-ghost use Rattle.mc_keep.specs.Causes.{IfTold, OnFailed};
+ghost use Rattle.mc_keep.specs.Causes.{IfTold};
+ghost use Rattle.mc_keep.specs.Plan.{is_fault};
 ghost use Rattle.mc_front.specs.Steps.{leads_to, rows_of_heads};
 ghost use Rattle.mc_front.specs.Front.{head_row};
 
@@ -20,7 +22,8 @@ pub(crate) fn new_heads<K: Keeper>(
     blocks: &[Block],
     links: &IndexSet<Cid>,
 ) -> Result<List<HeadRow>, KeepError>
-    ensures heads { IfTold (K.told keeper.old) result (λ kept heads. heads ≡ rows_of_heads (processed kept) links.now.keys blocks.now) }
+    ensures heads { IfTold (K.told keeper.old) result (λ kept heads.
+        heads ≡ rows_of_heads (processed kept) links.now.keys blocks.now) }
     ensures reads { Reads K.Keeper (is_fault result) keeper.old keeper.new }
 {
     let mut heads = List::new(alloc);
@@ -42,7 +45,8 @@ fn head_of(block: &Block) -> HeadRow
 }
 
 fn is_led_to<K: Keeper>(keeper: &mut K, links: &IndexSet<Cid>, cid: &Cid) -> Result<bool, Failed>
-    ensures found { IfTold (K.told keeper.old) result (λ kept found. found ≡ leads_to (processed kept) links.now.keys cid.now) }
+    ensures found { IfTold (K.told keeper.old) result (λ kept found.
+        found ≡ leads_to (processed kept) links.now.keys cid.now) }
     ensures reads { Reads K.Keeper (is_err result) keeper.old keeper.new }
 {
     if links.contains(cid) {

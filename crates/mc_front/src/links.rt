@@ -1,10 +1,12 @@
 // The links of a group of blocks, and those of them that are new.
-ghost use Rattle.std.specs.Prelude.{◌≡◌, IfOk, OnOk, fold, filter, OnErr};
+ghost use Rattle.std.specs.Prelude.{◌≡◌, IfOk, OnOk, fold, filter};
+ghost use Rattle.std.specs.Result.{is_err};
 ghost use Rattle.indexmap.specs.IndexSet.{insert_key};
 ghost use Rattle.mc_model.specs.Front.{same_cid, is_among};
 ghost use Rattle.mc_model.specs.Kept.{processed};
 ghost use Rattle.mc_keep.specs.Calls.{Reads};
-ghost use Rattle.mc_keep.specs.Causes.{IfTold, OnFailed};
+ghost use Rattle.mc_keep.specs.Causes.{IfTold};
+ghost use Rattle.mc_keep.specs.Plan.{is_fault};
 ghost use Rattle.mc_front.specs.Steps.{with_links, different_links, unlinked};
 
 use crate::adding::add;

@@ -44,9 +44,12 @@ selected prefix (Some row) = if is_under prefix row.key then Some row else None
 -- the first of these keys with its value, or none where there are none
 abbrev pub IsNextUnder : List Block → List ℕ → List ℕ → Bool → Option ValueRow → Type 0
 IsNextUnder blocks prefix bound inclusive None = left_of blocks prefix bound inclusive ≡ []
-IsNextUnder blocks prefix bound inclusive (Some row) = (left_of blocks prefix bound inclusive ≡ row.key ∷ left_of blocks prefix row.key false) × (value blocks row.key ≡ Some row.value)
+IsNextUnder blocks prefix bound inclusive (Some row) =
+    (left_of blocks prefix bound inclusive ≡ row.key ∷ left_of blocks prefix row.key false)
+    × (value blocks row.key ≡ Some row.value)
 
 -- the place past the first keys that the prefix selects, or none where there are no more
 abbrev pub IsPassed : List Block → List ℕ → ℕ → Option Place → Type 0
 IsPassed blocks prefix skip None = drop skip (filter (is_under prefix) (valued_keys blocks)) ≡ []
-IsPassed blocks prefix skip (Some place) = left_of blocks prefix place.bound place.inclusive ≡ drop skip (filter (is_under prefix) (valued_keys blocks))
+IsPassed blocks prefix skip (Some place) =
+    left_of blocks prefix place.bound place.inclusive ≡ drop skip (filter (is_under prefix) (valued_keys blocks))

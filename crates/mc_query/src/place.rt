@@ -13,8 +13,8 @@ pub struct Place {
     pub inclusive: bool,
 }
 
-/// The least text at which a key that a prefix selects may stand: the prefix without the slashes at its end and with one
-/// more, or nothing where no text is left.
+/// The least text at which a key that a prefix selects may stand: the prefix without the slashes at its end and with
+/// one more, or nothing where no text is left.
 pub fn start_of(alloc: Global, prefix: &str) -> Result<Text, AllocError>
     ensures { IfOk result (λ start. start ≡ start_of prefix.now) }
 {

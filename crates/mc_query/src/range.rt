@@ -5,7 +5,7 @@ ghost use Rattle.mc_model.specs.Answers as answers;
 ghost use Rattle.mc_model.specs.Answers.{with_value};
 ghost use Rattle.mc_model.specs.Kept.{processed};
 ghost use Rattle.mc_keep.specs.Calls.{Reads};
-ghost use Rattle.mc_keep.specs.Causes.{IfTold, OnFailed};
+ghost use Rattle.mc_keep.specs.Causes.{IfTold};
 ghost use Rattle.mc_keep.specs.Next.{is_past};
 ghost use Rattle.mc_keep.specs.Plan.{ReadsAsPlanned, is_fault};
 ghost use Rattle.mc_query.specs.Reads.{ReadsWithin};
@@ -20,10 +20,10 @@ use mc_key::under;
 use mc_model::valued_keys_are_exact;
 use std::alloc::{AllocError, AllocFailed, Global};
 
-/// The keys with a value that a prefix selects, ascending by their bytes, each with its value: those after the first `skip`
-/// of them, and at most `count`. The slashes at the prefix's end don't count; a prefix of slashes alone, or of nothing, selects
-/// every key, and any other those that begin with it and a slash. It asks for at most `skip` and `count` rows together and
-/// ends at the first key that isn't selected. `Failed` comes only where the keeper failed.
+/// The keys with a value that a prefix selects, ascending by their bytes, each with its value: those after the first
+/// `skip` of them, and at most `count`. The slashes at the prefix's end don't count; a prefix of slashes alone, or of
+/// nothing, selects every key, and any other those that begin with it and a slash. It asks for at most `skip` and `count`
+/// rows together and ends at the first key that isn't selected. `Failed` comes only where the keeper failed.
 pub fn query<K: Keeper>(
     keeper: &mut K,
     alloc: Global,
@@ -31,7 +31,8 @@ pub fn query<K: Keeper>(
     skip: u64,
     count: u64,
 ) -> Result<List<Pair>, KeepError>
-    ensures rows { IfTold (K.told keeper.old) result (λ kept pairs. map pair_of pairs ≡ answers.query (processed kept) (is_under prefix.now) skip count) }
+    ensures rows { IfTold (K.told keeper.old) result (λ kept pairs.
+        map pair_of pairs ≡ answers.query (processed kept) (is_under prefix.now) skip count) }
     ensures reads { Reads K.Keeper (is_fault result) keeper.old keeper.new }
     ensures planned { ReadsWithin (skip + count) (K.schedule keeper.old) (K.schedule keeper.new) (is_fault result) }
 {
@@ -55,7 +56,8 @@ fn pass_over<K: Keeper>(
 ) -> Result<Option<Place>, KeepError>
     requires { start ≡ start_of prefix.now }
     ensures place { IfTold (K.told keeper.old) result (λ kept place. IsPassed (processed kept) prefix.now skip place) }
-    ensures past { IfOk result (λ place. IfSome place (λ place. is_past (start_of prefix.now) true place.bound ≡ true)) }
+    ensures past { IfOk result (λ place. IfSome place (λ place.
+        is_past (start_of prefix.now) true place.bound ≡ true)) }
     ensures reads { Reads K.Keeper (is_fault result) keeper.old keeper.new }
     ensures planned { ReadsWithin skip (K.schedule keeper.old) (K.schedule keeper.new) (is_fault result) }
 {
@@ -87,7 +89,8 @@ fn take_rows<K: Keeper>(
 ) -> Result<List<Pair>, KeepError>
     requires { is_past (start_of prefix.now) true place.now.bound ≡ true }
     ensures rows { IfTold (K.told keeper.old) result (λ kept pairs.
-        map pair_of pairs ≡ map (with_value (processed kept)) (take count (left_of (processed kept) prefix.now place.now.bound place.now.inclusive))) }
+        map pair_of pairs ≡ map (with_value (processed kept))
+        (take count (left_of (processed kept) prefix.now place.now.bound place.now.inclusive))) }
     ensures reads { Reads K.Keeper (is_fault result) keeper.old keeper.new }
     ensures planned { ReadsWithin count (K.schedule keeper.old) (K.schedule keeper.new) (is_fault result) }
 {
@@ -121,7 +124,8 @@ fn next_under<K: Keeper>(
     inclusive: bool,
 ) -> Result<Option<ValueRow>, KeepError>
     requires { is_past (start_of prefix.now) true bound.now ≡ true }
-    ensures row { IfTold (K.told keeper.old) result (λ kept row. IsNextUnder (processed kept) prefix.now bound.now inclusive row) }
+    ensures row { IfTold (K.told keeper.old) result (λ kept row.
+        IsNextUnder (processed kept) prefix.now bound.now inclusive row) }
     ensures past { IfOk result (λ row. IfSome row (λ row. is_past (start_of prefix.now) true row.key ≡ true)) }
     ensures reads { Reads K.Keeper (is_fault result) keeper.old keeper.new }
     ensures planned { ReadsAsPlanned (K.schedule keeper.old) (K.schedule keeper.new) (is_fault result) }

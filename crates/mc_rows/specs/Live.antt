@@ -42,7 +42,8 @@ new_row blocks elements tombs key = row_from blocks (rows_with elements key) tom
 
 -- the value row of a key is still that of its old rows
 abbrev pub Stands : List Block → List TombRow → List ℕ → Type 0
-Stands blocks tombs key = greatest (live_rows (hides blocks tombs key) (element_rows_of blocks key)) ≡ value_row blocks key
+Stands blocks tombs key =
+    greatest (live_rows (hides blocks tombs key) (element_rows_of blocks key)) ≡ value_row blocks key
 
 -- a new tombstone hides a block that holds the value of the key
 pub record HidesValue (blocks : List Block) (tombs : List TombRow) (key : List ℕ) : Type 0 where

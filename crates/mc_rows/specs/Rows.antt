@@ -20,7 +20,12 @@ blocks_of group = map (λ (named : NamedBlock). named.block.now) group
 
 -- the row of a borrowed element
 abbrev pub row_of : NewElement → ElementRow
-row_of element = record { key = element.key.now; cid = element.block.now.block.now.cid; priority = element.block.now.block.now.delta.priority; value = element.value.now }
+row_of element = record {
+  key = element.key.now;
+  cid = element.block.now.block.now.cid;
+  priority = element.block.now.block.now.delta.priority;
+  value = element.value.now;
+}
 
 abbrev pub rows_of : List NewElement → List ElementRow
 rows_of elements = map row_of elements
@@ -41,12 +46,16 @@ tombs_of tombs = map tomb_of tombs
 -- by the key, and then by the block, the value and the priority
 abbrev pub key_cmp : ElementRow → ElementRow → Ordering
 key_cmp =
-    then_cmp (then_cmp (then_cmp (on (λ (row : ElementRow). row.key) (slice_cmp nat_cmp)) (on (λ (row : ElementRow). row.cid.0) (slice_cmp nat_cmp))) (on (λ (row : ElementRow). row.value) (slice_cmp nat_cmp)))
+    then_cmp (then_cmp (then_cmp (on (λ (row : ElementRow). row.key) (slice_cmp nat_cmp))
+    (on (λ (row : ElementRow). row.cid.0) (slice_cmp nat_cmp)))
+    (on (λ (row : ElementRow). row.value) (slice_cmp nat_cmp)))
     (on (λ (row : ElementRow). row.priority) nat_cmp)
 
 pub key_total : IsTotalOrder key_cmp
 key_total =
-    then_total (then_total (then_total (on_total (λ (row : ElementRow). row.key) nat_list_cmp_total) (on_total (λ (row : ElementRow). row.cid.0) nat_list_cmp_total)) (on_total (λ (row : ElementRow). row.value) nat_list_cmp_total))
+    then_total (then_total (then_total (on_total (λ (row : ElementRow). row.key) nat_list_cmp_total)
+    (on_total (λ (row : ElementRow). row.cid.0) nat_list_cmp_total))
+    (on_total (λ (row : ElementRow). row.value) nat_list_cmp_total))
     (on_total (λ (row : ElementRow). row.priority) nat_cmp_total)
 
 abbrev pub new_element_cmp : NewElement → NewElement → Ordering
@@ -57,10 +66,13 @@ new_element_total = on_total row_of key_total
 
 -- by the key, and then by the id
 abbrev pub tomb_cmp : TombRow → TombRow → Ordering
-tomb_cmp = then_cmp (on (λ (row : TombRow). row.key) (slice_cmp nat_cmp)) (on (λ (row : TombRow). row.id) (slice_cmp nat_cmp))
+tomb_cmp =
+    then_cmp (on (λ (row : TombRow). row.key) (slice_cmp nat_cmp)) (on (λ (row : TombRow). row.id) (slice_cmp nat_cmp))
 
 pub tomb_total : IsTotalOrder tomb_cmp
-tomb_total = then_total (on_total (λ (row : TombRow). row.key) nat_list_cmp_total) (on_total (λ (row : TombRow). row.id) nat_list_cmp_total)
+tomb_total =
+    then_total (on_total (λ (row : TombRow). row.key) nat_list_cmp_total)
+    (on_total (λ (row : TombRow). row.id) nat_list_cmp_total)
 
 abbrev pub new_tomb_cmp : NewTomb → NewTomb → Ordering
 new_tomb_cmp = on tomb_of tomb_cmp

@@ -16,8 +16,10 @@ pub(crate) struct Best<'a> {
 
 // Whether the next one is above the best.
 pub(crate) fn is_above(best: Option<Best<'_>>, next: Best<'_>) -> bool
-    ensures above { result ≡ true → greater (ranked_best best.entry) (next.entry.priority, next.entry.value.now) ≡ ranked_best (Some next.entry) }
-    ensures below { result ≡ false → greater (ranked_best best.entry) (next.entry.priority, next.entry.value.now) ≡ ranked_best best.entry }
+    ensures above { result ≡ true →
+        greater (ranked_best best.entry) (next.entry.priority, next.entry.value.now) ≡ ranked_best (Some next.entry) }
+    ensures below { result ≡ false →
+        greater (ranked_best best.entry) (next.entry.priority, next.entry.value.now) ≡ ranked_best best.entry }
 {
     match best {
         Some(best) => compare(best, next).is_lt(),

@@ -40,7 +40,10 @@ impl<'a> NewElement<'a> {
 impl<'a> PartialEq for NewElement<'a> {
     ghost eq = { eq_by_cmp new_element_cmp };
 
-    ghost laws = { record { symm = (eq_by_cmp_equiv new_element_total).symm; trans = λ x y z e f. (eq_by_cmp_equiv new_element_total).congr x y z e ∙ f } };
+    ghost laws = { record {
+      symm = (eq_by_cmp_equiv new_element_total).symm;
+      trans = λ x y z e f. (eq_by_cmp_equiv new_element_total).congr x y z e ∙ f;
+    } };
 
     fn eq(&self, other: &NewElement<'a>) -> bool {
         self.cmp(other).is_eq()
@@ -87,7 +90,8 @@ pub(crate) fn new_elements<'a>(
     group: &'a [NamedBlock<'a>],
 ) -> Result<Vec<NewElement<'a>>, AllocError>
     ensures sorted { IfOk result (λ elements. IsStrictlySortedBy new_element_cmp elements.items) }
-    ensures members { IfOk result (λ elements. SameMembers (rows_of elements.items) (element_rows (blocks_of group.now))) }
+    ensures members { IfOk result (λ elements.
+        SameMembers (rows_of elements.items) (element_rows (blocks_of group.now))) }
 {
     let mut elements = gather(alloc, group)?;
     elements.sort_unstable();
@@ -109,7 +113,8 @@ fn gather_of<'a>(
     named: &'a NamedBlock<'a>,
     elements: &mut Vec<NewElement<'a>>,
 ) -> Result<(), AllocError>
-    ensures { OnOk result (rows_of elements.new.items ≡ rows_of elements.old.items ++ map (element_row named.now.block.now) named.now.block.now.delta.elements) }
+    ensures { OnOk result (rows_of elements.new.items ≡
+        rows_of elements.old.items ++ map (element_row named.now.block.now) named.now.block.now.delta.elements) }
 {
     for element in named.block.delta.elements.as_slice() {
         elements.push(NewElement {

@@ -20,7 +20,8 @@ pub(crate) fn keys_of<'a>(
     tombs: &[NewTomb<'a>],
 ) -> Result<Vec<&'a str>, AllocError>
     ensures sorted { IfOk result (λ keys. IsStrictlySortedBy (λ x y. slice_cmp nat_cmp x.now y.now) keys.items) }
-    ensures members { IfOk result (λ keys. (key : List ℕ) → has_key keys.items key ≡ (has_element_of (rows_of elements.now) key || has_tomb_of (tombs_of tombs.now) key)) }
+    ensures members { IfOk result (λ keys. (key : List ℕ) → has_key keys.items key ≡
+        (has_element_of (rows_of elements.now) key || has_tomb_of (tombs_of tombs.now) key)) }
 {
     let mut keys = Vec::new(alloc);
     add_element_keys(elements, &mut keys)?;

@@ -1,10 +1,12 @@
 // The greatest of the rows of a key that no tombstone hides.
-ghost use Rattle.std.specs.Prelude.{◌≡◌, fold, IfSome, IfOk, Some, OnErr};
+ghost use Rattle.std.specs.Prelude.{◌≡◌, fold, IfSome, IfOk, Some};
+ghost use Rattle.std.specs.Result.{is_err};
 ghost use Rattle.std.specs.List.Sorted.{IsStrictlySortedBy};
 ghost use Rattle.mc_model.specs.Kept.{processed};
 ghost use Rattle.mc_model.specs.Rank.{greater, greatest};
 ghost use Rattle.mc_keep.specs.Calls.{Reads};
-ghost use Rattle.mc_keep.specs.Causes.{IfTold, OnFailed};
+ghost use Rattle.mc_keep.specs.Causes.{IfTold};
+ghost use Rattle.mc_keep.specs.Plan.{is_fault};
 ghost use Rattle.mc_rows.specs.Rows.{new_tomb_cmp, rows_of, tombs_of};
 ghost use Rattle.mc_keep.specs.Live.{live_rows};
 ghost use Rattle.mc_rows.specs.Live.{hides};
@@ -28,7 +30,8 @@ fn is_hidden<K: Keeper>(
     tombs: &[NewTomb<'_>],
 ) -> Result<bool, Failed>
     requires sorted { IsStrictlySortedBy new_tomb_cmp tombs.now }
-    ensures hidden { IfTold (K.told keeper.old) result (λ kept hidden. hidden ≡ hides (processed kept) (tombs_of tombs.now) key.now id.now) }
+    ensures hidden { IfTold (K.told keeper.old) result (λ kept hidden.
+        hidden ≡ hides (processed kept) (tombs_of tombs.now) key.now id.now) }
     ensures reads { Reads K.Keeper (is_err result) keeper.old keeper.new }
 {
     if has_tomb(tombs, key, id) {
@@ -55,7 +58,8 @@ fn see<K: Keeper>(
 ) -> Result<Seen, KeepError>
     requires sorted { IsStrictlySortedBy new_tomb_cmp tombs.now }
     requires last { IfSome (K.told keeper.old) (λ kept. SeenFits (processed kept) (tombs_of tombs.now) key.now last) }
-    ensures seen { IfTold (K.told keeper.old) result (λ kept seen. SeenFits (processed kept) (tombs_of tombs.now) key.now (Some seen)) }
+    ensures seen { IfTold (K.told keeper.old) result (λ kept seen.
+        SeenFits (processed kept) (tombs_of tombs.now) key.now (Some seen)) }
     ensures cid { IfOk result (λ seen. seen.cid ≡ cid.now) }
     ensures reads { Reads K.Keeper (is_fault result) keeper.old keeper.new }
 {
@@ -72,8 +76,8 @@ fn see<K: Keeper>(
     Ok(Seen { cid: *cid, hidden })
 }
 
-// The greatest of these rows of the key, which are of processed blocks. Just those above all before are looked for in the
-// tombstones.
+// The greatest of these rows of the key, which are of processed blocks. Just those above all before are looked for in
+// the tombstones.
 pub(crate) fn best_of_old<'a, K: Keeper>(
     keeper: &mut K,
     alloc: Global,
@@ -82,7 +86,8 @@ pub(crate) fn best_of_old<'a, K: Keeper>(
     tombs: &[NewTomb<'_>],
 ) -> Result<Option<Best<'a>>, KeepError>
     requires sorted { IsStrictlySortedBy new_tomb_cmp tombs.now }
-    ensures best { IfTold (K.told keeper.old) result (λ kept best. ranked_best best ≡ greatest (live_rows (hides (processed kept) (tombs_of tombs.now) key.now) rows.now)) }
+    ensures best { IfTold (K.told keeper.old) result (λ kept best.
+        ranked_best best ≡ greatest (live_rows (hides (processed kept) (tombs_of tombs.now) key.now) rows.now)) }
     ensures reads { Reads K.Keeper (is_fault result) keeper.old keeper.new }
 {
     let mut best = None;
@@ -112,7 +117,9 @@ pub(crate) fn best_with_new<'a, K: Keeper>(
     best: Option<Best<'a>>,
 ) -> Result<Option<Best<'a>>, Failed>
     requires sorted { IsStrictlySortedBy new_tomb_cmp tombs.now }
-    ensures best { IfTold (K.told keeper.old) result (λ kept found. ranked_best found ≡ fold greater (ranked_best best.entry) (live_rows (hides (processed kept) (tombs_of tombs.now) key.now) (rows_of elements.now))) }
+    ensures best { IfTold (K.told keeper.old) result (λ kept found.
+        ranked_best found ≡ fold greater (ranked_best best.entry)
+        (live_rows (hides (processed kept) (tombs_of tombs.now) key.now) (rows_of elements.now))) }
     ensures reads { Reads K.Keeper (is_err result) keeper.old keeper.new }
 {
     let mut best = best;

@@ -5,7 +5,8 @@ ghost use Rattle.std.specs.Cmp.Lexicographic.{slice_cmp};
 ghost use Rattle.std.specs.List.Sorted.{IsStrictlySortedBy};
 ghost use Rattle.mc_model.specs.Kept.{processed};
 ghost use Rattle.mc_keep.specs.Calls.{Reads};
-ghost use Rattle.mc_keep.specs.Causes.{IfTold, OnFailed};
+ghost use Rattle.mc_keep.specs.Causes.{IfTold};
+ghost use Rattle.mc_keep.specs.Plan.{is_fault};
 ghost use Rattle.mc_keep.specs.New.{AreNew};
 ghost use Rattle.mc_keep.specs.Tables.{RowsFit};
 ghost use Rattle.mc_rows.specs.Rows.{new_element_cmp, new_tomb_cmp, rows_of, tombs_of};
@@ -22,10 +23,10 @@ use mc_model::Block;
 use std::alloc::{AllocError, Global};
 
 /// Adds to the changes the element, tombstone and value rows by which the keeper, once these blocks are processed too,
-/// has the rows of all its blocks: every element, every tombstone that it does not have, each once, and the value row of
-/// each key whose greatest live element is another one now. The blocks are distinct, none is processed, and the changes
-/// have no such rows yet. On a refusal (`Failed` where the keeper's count rose, or want of memory) the changes stay as
-/// they were.
+/// has the rows of all its blocks: every element, every tombstone that it does not have, each once, and the value row
+/// of each key whose greatest live element is another one now. The blocks are distinct, none is processed, and the
+/// changes have no such rows yet. On a refusal (`Failed` where the keeper's count rose, or want of memory) the changes
+/// stay as they were.
 pub fn merge<K: Keeper>(
     keeper: &mut K,
     alloc: Global,
@@ -35,7 +36,11 @@ pub fn merge<K: Keeper>(
     requires fresh { (changes.old.elements ≡ []) × (changes.old.tombs ≡ []) × (changes.old.values ≡ []) }
     requires new { IfSome (K.told keeper.old) (λ kept. AreNew kept blocks.now) }
     ensures fit { OnOk result (IfSome (K.told keeper.old) (λ kept. RowsFit (processed kept) blocks.now changes.new)) }
-    ensures others { changes.new ≡ record changes.old { elements = changes.new.elements; tombs = changes.new.tombs; values = changes.new.values } }
+    ensures others { changes.new ≡ record changes.old {
+      elements = changes.new.elements;
+      tombs = changes.new.tombs;
+      values = changes.new.values;
+    } }
     ensures refused { OnErr result (changes.new ≡ changes.old) }
     ensures reads { Reads K.Keeper (is_fault result) keeper.old keeper.new }
 {
@@ -69,7 +74,8 @@ fn value_changes<K: Keeper>(
     requires keys { IsStrictlySortedBy (λ x y. slice_cmp nat_cmp x.now y.now) keys.now }
     requires elements { IsStrictlySortedBy new_element_cmp elements.now }
     requires tombs { IsStrictlySortedBy new_tomb_cmp tombs.now }
-    ensures fit { IfTold (K.told keeper.old) result (λ kept values. ValuesFit (processed kept) (rows_of elements.now) (tombs_of tombs.now) keys.now values) }
+    ensures fit { IfTold (K.told keeper.old) result (λ kept values.
+        ValuesFit (processed kept) (rows_of elements.now) (tombs_of tombs.now) keys.now values) }
     ensures reads { Reads K.Keeper (is_fault result) keeper.old keeper.new }
 {
     let mut values = List::new(alloc);

@@ -8,7 +8,8 @@ ghost use Rattle.std.proofs.lemmas.Cmp.{eq_by_cmp_equiv};
 ghost use Rattle.mc_model.specs.SameMembers.{SameMembers};
 ghost use Rattle.mc_model.specs.Kept.{processed};
 ghost use Rattle.mc_keep.specs.Calls.{Reads};
-ghost use Rattle.mc_keep.specs.Causes.{IfTold, OnFailed};
+ghost use Rattle.mc_keep.specs.Causes.{IfTold};
+ghost use Rattle.mc_keep.specs.Plan.{is_fault};
 ghost use Rattle.mc_rows.specs.Rows.{new_tomb_cmp, new_tomb_total, tomb_of, tombs_of, tomb_row, tomb_rows};
 ghost use Rattle.mc_rows.specs.Live.{is_unknown};
 
@@ -28,7 +29,10 @@ pub(crate) struct NewTomb<'a> {
 impl<'a> PartialEq for NewTomb<'a> {
     ghost eq = { eq_by_cmp new_tomb_cmp };
 
-    ghost laws = { record { symm = (eq_by_cmp_equiv new_tomb_total).symm; trans = λ x y z e f. (eq_by_cmp_equiv new_tomb_total).congr x y z e ∙ f } };
+    ghost laws = { record {
+      symm = (eq_by_cmp_equiv new_tomb_total).symm;
+      trans = λ x y z e f. (eq_by_cmp_equiv new_tomb_total).congr x y z e ∙ f;
+    } };
 
     fn eq(&self, other: &NewTomb<'a>) -> bool {
         self.cmp(other).is_eq()
@@ -74,7 +78,8 @@ pub(crate) fn new_tombs<'a, K: Keeper>(
     blocks: &'a [Block],
 ) -> Result<Vec<NewTomb<'a>>, KeepError>
     ensures sorted { IfOk result (λ tombs. IsStrictlySortedBy new_tomb_cmp tombs.items) }
-    ensures members { IfTold (K.told keeper.old) result (λ kept tombs. SameMembers (tombs_of tombs.items) (filter (is_unknown (processed kept)) (tomb_rows blocks.now))) }
+    ensures members { IfTold (K.told keeper.old) result (λ kept tombs.
+        SameMembers (tombs_of tombs.items) (filter (is_unknown (processed kept)) (tomb_rows blocks.now))) }
     ensures reads { Reads K.Keeper (is_fault result) keeper.old keeper.new }
 {
     let mut tombs = gather(keeper, alloc, blocks)?;
@@ -88,7 +93,8 @@ fn gather<'a, K: Keeper>(
     alloc: Global,
     blocks: &'a [Block],
 ) -> Result<Vec<NewTomb<'a>>, KeepError>
-    ensures rows { IfTold (K.told keeper.old) result (λ kept tombs. tombs_of tombs.items ≡ filter (is_unknown (processed kept)) (tomb_rows blocks.now)) }
+    ensures rows { IfTold (K.told keeper.old) result (λ kept tombs.
+        tombs_of tombs.items ≡ filter (is_unknown (processed kept)) (tomb_rows blocks.now)) }
     ensures reads { Reads K.Keeper (is_fault result) keeper.old keeper.new }
 {
     let mut tombs = Vec::new(alloc);
@@ -103,7 +109,8 @@ fn gather_of<'a, K: Keeper>(
     tombstones: &'a [Tomb],
     tombs: &mut Vec<NewTomb<'a>>,
 ) -> Result<(), KeepError>
-    ensures rows { OnOk result (IfSome (K.told keeper.old) (λ kept. tombs_of tombs.new.items ≡ tombs_of tombs.old.items ++ filter (is_unknown (processed kept)) (map tomb_row tombstones.now))) }
+    ensures rows { OnOk result (IfSome (K.told keeper.old) (λ kept. tombs_of tombs.new.items ≡
+        tombs_of tombs.old.items ++ filter (is_unknown (processed kept)) (map tomb_row tombstones.now))) }
     ensures reads { Reads K.Keeper (is_fault result) keeper.old keeper.new }
 {
     for tomb in tombstones {
@@ -117,7 +124,8 @@ fn gather_one<'a, K: Keeper>(
     tomb: &'a Tomb,
     tombs: &mut Vec<NewTomb<'a>>,
 ) -> Result<(), KeepError>
-    ensures rows { OnOk result (IfSome (K.told keeper.old) (λ kept. tombs_of tombs.new.items ≡ tombs_of tombs.old.items ++ filter (is_unknown (processed kept)) (tomb_row tomb.now ∷ []))) }
+    ensures rows { OnOk result (IfSome (K.told keeper.old) (λ kept. tombs_of tombs.new.items ≡
+        tombs_of tombs.old.items ++ filter (is_unknown (processed kept)) (tomb_row tomb.now ∷ []))) }
     ensures reads { Reads K.Keeper (is_fault result) keeper.old keeper.new }
 {
     if keeper.hidden(tomb.key.as_str(), tomb.id.as_str())? {

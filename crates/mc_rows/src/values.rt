@@ -4,7 +4,8 @@ ghost use Rattle.std.specs.List.Sorted.{IsStrictlySortedBy};
 ghost use Rattle.mc_model.specs.Kept.{processed};
 ghost use Rattle.mc_model.specs.Live.{value_row};
 ghost use Rattle.mc_keep.specs.Calls.{Reads};
-ghost use Rattle.mc_keep.specs.Causes.{IfTold, OnFailed};
+ghost use Rattle.mc_keep.specs.Causes.{IfTold};
+ghost use Rattle.mc_keep.specs.Plan.{is_fault};
 ghost use Rattle.mc_keep.specs.Changes.{ranked_row};
 ghost use Rattle.mc_keep.specs.Tables.{IsValueRow};
 ghost use Rattle.mc_rows.specs.Rows.{new_element_cmp, new_tomb_cmp, rows_of, tombs_of};
@@ -31,7 +32,9 @@ pub(crate) fn change_of<K: Keeper>(
 ) -> Result<Option<ValueChange>, KeepError>
     requires elements { IsStrictlySortedBy new_element_cmp elements.now }
     requires tombs { IsStrictlySortedBy new_tomb_cmp tombs.now }
-    ensures change { IfTold (K.told keeper.old) result (λ kept change. IsChange key.now (value_row (processed kept) key.now) (new_row (processed kept) (rows_of elements.now) (tombs_of tombs.now) key.now) change) }
+    ensures change { IfTold (K.told keeper.old) result (λ kept change.
+        IsChange key.now (value_row (processed kept) key.now)
+        (new_row (processed kept) (rows_of elements.now) (tombs_of tombs.now) key.now) change) }
     ensures reads { Reads K.Keeper (is_fault result) keeper.old keeper.new }
 {
     let old = keeper.value(alloc, key)?;
@@ -42,7 +45,8 @@ pub(crate) fn change_of<K: Keeper>(
     change_on(keeper, alloc, key, elements, tombs, &old)
 }
 
-// Whether a new tombstone hides the block of the key's value. Where it says no, the value is still that of the old rows.
+// Whether a new tombstone hides the block of the key's value. Where it says no, the value is still that of the old
+// rows.
 fn is_hidden_anew<K: Keeper>(
     keeper: &mut K,
     alloc: Global,
@@ -52,8 +56,10 @@ fn is_hidden_anew<K: Keeper>(
 ) -> Result<bool, KeepError>
     requires tombs { IsStrictlySortedBy new_tomb_cmp tombs.now }
     requires old { IfSome (K.told keeper.old) (λ kept. IsValueRow (processed kept) key.now old.now) }
-    ensures hides { IfTold (K.told keeper.old) result (λ kept hidden. hidden ≡ true → HidesValue (processed kept) (tombs_of tombs.now) key.now) }
-    ensures stands { IfTold (K.told keeper.old) result (λ kept hidden. hidden ≡ false → Stands (processed kept) (tombs_of tombs.now) key.now) }
+    ensures hides { IfTold (K.told keeper.old) result (λ kept hidden.
+        hidden ≡ true → HidesValue (processed kept) (tombs_of tombs.now) key.now) }
+    ensures stands { IfTold (K.told keeper.old) result (λ kept hidden.
+        hidden ≡ false → Stands (processed kept) (tombs_of tombs.now) key.now) }
     ensures reads { Reads K.Keeper (is_fault result) keeper.old keeper.new }
 {
     if old.is_none() {
@@ -69,7 +75,8 @@ fn is_hidden_anew<K: Keeper>(
     Ok(has_tomb(tombs, key, id.as_str()))
 }
 
-// The change where a new tombstone hides what was the value: all rows of the key are looked at. Nothing else reads them.
+// The change where a new tombstone hides what was the value: all rows of the key are looked at. Nothing else reads
+// them.
 fn change_anew<K: Keeper>(
     keeper: &mut K,
     alloc: Global,
@@ -81,7 +88,9 @@ fn change_anew<K: Keeper>(
     requires tombs { IsStrictlySortedBy new_tomb_cmp tombs.now }
     requires old { IfSome (K.told keeper.old) (λ kept. IsValueRow (processed kept) key.now old.now) }
     requires hides { IfSome (K.told keeper.old) (λ kept. HidesValue (processed kept) (tombs_of tombs.now) key.now) }
-    ensures change { IfTold (K.told keeper.old) result (λ kept change. IsChange key.now (value_row (processed kept) key.now) (row_from (processed kept) (rows_of elements.now) (tombs_of tombs.now) key.now) change) }
+    ensures change { IfTold (K.told keeper.old) result (λ kept change.
+        IsChange key.now (value_row (processed kept) key.now)
+        (row_from (processed kept) (rows_of elements.now) (tombs_of tombs.now) key.now) change) }
     ensures reads { Reads K.Keeper (is_fault result) keeper.old keeper.new }
 {
     let rows = keeper.elements(alloc, key)?;
@@ -102,7 +111,9 @@ fn change_on<K: Keeper>(
     requires tombs { IsStrictlySortedBy new_tomb_cmp tombs.now }
     requires old { IfSome (K.told keeper.old) (λ kept. IsValueRow (processed kept) key.now old.now) }
     requires stands { IfSome (K.told keeper.old) (λ kept. Stands (processed kept) (tombs_of tombs.now) key.now) }
-    ensures change { IfTold (K.told keeper.old) result (λ kept change. IsChange key.now (value_row (processed kept) key.now) (row_from (processed kept) (rows_of elements.now) (tombs_of tombs.now) key.now) change) }
+    ensures change { IfTold (K.told keeper.old) result (λ kept change.
+        IsChange key.now (value_row (processed kept) key.now)
+        (row_from (processed kept) (rows_of elements.now) (tombs_of tombs.now) key.now) change) }
     ensures reads { Reads K.Keeper (is_fault result) keeper.old keeper.new }
 {
     let found = best_with_new(keeper, key, elements, tombs, best_of(old))?;
@@ -139,7 +150,8 @@ fn change_with(alloc: Global, key: &str, best: Option<Best<'_>>) -> Result<Value
 }
 
 fn row_with(alloc: Global, key: &str, best: Best<'_>) -> Result<ValueRow, AllocError>
-    ensures { IfOk result (λ row. (row.key ≡ key.now) × (row.priority ≡ best.entry.priority) × (row.value ≡ best.entry.value.now)) }
+    ensures { IfOk result (λ row.
+        (row.key ≡ key.now) × (row.priority ≡ best.entry.priority) × (row.value ≡ best.entry.value.now)) }
 {
     Ok(ValueRow {
         key: Text::from_text(alloc, key)?,

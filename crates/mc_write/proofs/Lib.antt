@@ -1,6 +1,5 @@
 pub mod BatchFacts
 pub mod CutFacts
-pub mod DeleteFacts
 pub mod DroppedFacts
 pub mod ElementFacts
 pub mod LengthFacts

@@ -4,7 +4,7 @@ ghost use Rattle.mc_model.specs.Batch.{empty_batch, is_empty_batch, batch_put, b
 ghost use Rattle.mc_model.specs.Cuts.{pairs};
 ghost use Rattle.mc_model.specs.Kept.{processed};
 ghost use Rattle.mc_keep.specs.Calls.{Reads};
-ghost use Rattle.mc_keep.specs.Causes.{OnFailed};
+ghost use Rattle.mc_keep.specs.Plan.{is_fault};
 
 use crate::dropped::{add_pairs, tombs_of_dropped};
 use crate::elements::{drop_element, elements_of_puts, put_element};
@@ -64,7 +64,8 @@ impl Batch {
     /// Drops the batch's element of the key, and adds the blocks with a live element of it that a delete would take now. A
     /// refusal leaves the batch unchanged.
     pub fn delete<K: Keeper>(&mut self, key: &Key<'_>, keeper: &mut K) -> Result<(), KeepError>
-        ensures ok { OnOk result (IfSome (K.told keeper.old) (λ kept. self.new ≡ batch_delete key.now (pairs (processed kept) key.now) self.old)) }
+        ensures ok { OnOk result (IfSome (K.told keeper.old) (λ kept.
+            self.new ≡ batch_delete key.now (pairs (processed kept) key.now) self.old)) }
         ensures err { OnErr result (self.new ≡ self.old) }
         ensures reads { Reads K.Keeper (is_fault result) keeper.old keeper.new }
     {

@@ -1,5 +1,5 @@
 // The deltas into which the tombstones of a delete are cut.
-ghost use Rattle.std.specs.Prelude.{◌≡◌, ◌≢◌, ◌+◌, ◌<◌, ◌≤◌, ◌++◌, ◌∷◌, ◌^◌, [], length, map, drop, true, IfOk, IfErr, OnOk};
+ghost use Rattle.std.specs.Prelude.{◌≡◌, ◌≢◌, ◌+◌, ◌<◌, ◌≤◌, ◌++◌, ◌∷◌, ◌^◌, [], length, map, drop, true, false, IfOk, IfErr, OnOk};
 ghost use Rattle.std.specs.Prelude as prelude;
 ghost use Rattle.mc_base.specs.declared.cid.Cid.{Cid as Link};
 ghost use Rattle.mc_model.specs.Cuts.{IsCuts, pair_tomb};
@@ -7,7 +7,7 @@ ghost use Rattle.mc_keep.specs.Changes.{heads_in_rows};
 ghost use Rattle.mc_model.specs.Made.{greatest_height};
 ghost use Rattle.mc_write.specs.Cutting.{number, IsNext, NextRefused, CutsRefused};
 ghost use Rattle.mc_write.specs.Lengths.{capped, links_length, IsTombLen};
-ghost use Rattle.mc_write.specs.Refusals.{OnFault};
+ghost use Rattle.mc_write.specs.Refusals.{is_fault};
 ghost use Rattle.mc_write.specs.Seen.{all_seen, have_digests};
 
 use crate::WriteError;
@@ -29,9 +29,11 @@ pub(crate) fn cut(
     pairs: &[Pair],
 ) -> Result<List<Delta>, WriteError>
     requires { have_digests (all_seen pairs.now) ≡ true }
-    ensures cuts { IfOk result (λ deltas. (cids : prelude.List Link) → links ≡ capped (links_length cids) → IsCuts cids (number priority) key.now (all_seen pairs.now) deltas) }
-    ensures refused { IfErr result (λ error. (cids : prelude.List Link) → links ≡ capped (links_length cids) → CutsRefused cids (number priority) key.now (all_seen pairs.now) error) }
-    ensures keeper { OnFault result ⊥ }
+    ensures cuts { IfOk result (λ deltas. (cids : prelude.List Link) →
+        links ≡ capped (links_length cids) → IsCuts cids (number priority) key.now (all_seen pairs.now) deltas) }
+    ensures refused { IfErr result (λ error. (cids : prelude.List Link) →
+        links ≡ capped (links_length cids) → CutsRefused cids (number priority) key.now (all_seen pairs.now) error) }
+    ensures keeper { is_fault result ≡ false }
 {
     let mut deltas = List::new(alloc);
     let mut rest = pairs;
@@ -76,10 +78,13 @@ fn next_delta(
     requires tomb { IsTombLen key.now tomb }
     requires some { 0 < length pairs.now }
     requires digests { have_digests (all_seen pairs.now) ≡ true }
-    ensures within { IfOk result (λ delta. (0 < length delta.tombstones) × (length delta.tombstones ≤ length pairs.now)) }
-    ensures cut { IfOk result (λ delta. (cids : prelude.List Link) → links ≡ capped (links_length cids) → IsNext cids (number priority) key.now (all_seen pairs.now) delta) }
-    ensures refused { IfErr result (λ error. (cids : prelude.List Link) → links ≡ capped (links_length cids) → NextRefused cids (number priority) key.now (all_seen pairs.now) error) }
-    ensures keeper { OnFault result ⊥ }
+    ensures within { IfOk result (λ delta.
+        (0 < length delta.tombstones) × (length delta.tombstones ≤ length pairs.now)) }
+    ensures cut { IfOk result (λ delta. (cids : prelude.List Link) →
+        links ≡ capped (links_length cids) → IsNext cids (number priority) key.now (all_seen pairs.now) delta) }
+    ensures refused { IfErr result (λ error. (cids : prelude.List Link) →
+        links ≡ capped (links_length cids) → NextRefused cids (number priority) key.now (all_seen pairs.now) error) }
+    ensures keeper { is_fault result ≡ false }
 {
     let Some(priority) = priority else {
         return Err(WriteError::PriorityFull);

@@ -6,7 +6,7 @@ ghost use Rattle.mc_model.specs.Made.{head_cids, next_priority};
 ghost use Rattle.mc_keep.specs.Calls.{Reads};
 ghost use Rattle.mc_keep.specs.Causes.{IfTold};
 ghost use Rattle.mc_write.specs.Cutting.{CutsRefused};
-ghost use Rattle.mc_write.specs.Refusals.{OnFault};
+ghost use Rattle.mc_write.specs.Refusals.{is_fault};
 
 use crate::WriteError;
 use crate::cut::{cut, next_priority};

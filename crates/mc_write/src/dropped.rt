@@ -26,7 +26,8 @@ pub(crate) fn add_pairs(
 ) -> Result<(), AllocError>
     requires ordered { IsOrdered string_cmp dropped.old }
     requires held { AreHeld dropped.old.entries }
-    ensures ok { OnOk result (deleted_in dropped.new.entries ≡ ascending deleted_cmp (deleted_in dropped.old.entries ++ map (λ (pair : Taken). (key.now, pair.cid)) (all_seen pairs.now))) }
+    ensures ok { OnOk result (deleted_in dropped.new.entries ≡ ascending deleted_cmp
+        (deleted_in dropped.old.entries ++ map (λ (pair : Taken). (key.now, pair.cid)) (all_seen pairs.now))) }
     ensures err { OnErr result (deleted_in dropped.new.entries ≡ deleted_in dropped.old.entries) }
     ensures ordered { IsOrdered string_cmp dropped.new }
     ensures held { AreHeld dropped.new.entries }
@@ -54,7 +55,8 @@ fn held_of<'a>(dropped: &'a BTreeMap<String, List<Cid>>, key: &str) -> &'a [Cid]
 
 // Both in order, each once.
 fn merged(alloc: Global, held: &[Cid], pairs: &[Pair]) -> Result<List<Cid>, AllocError>
-    ensures { IfOk result (λ cids. Ascends cid_cmp cids (held.now ++ map (λ (pair : Taken). pair.cid) (all_seen pairs.now))) }
+    ensures { IfOk result (λ cids.
+        Ascends cid_cmp cids (held.now ++ map (λ (pair : Taken). pair.cid) (all_seen pairs.now))) }
 {
     let mut cids = joined(alloc, held, pairs)?;
     cids.sort_unstable();

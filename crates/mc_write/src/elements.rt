@@ -18,7 +18,8 @@ pub(crate) fn put_element(
     key: String,
     value: Bytes,
 ) -> Result<(), AllocError>
-    ensures ok { OnOk result (elements_in elements.new.entries ≡ put_element (record { key = string_bytes key; value = value }) (elements_in elements.old.entries)) }
+    ensures ok { OnOk result (elements_in elements.new.entries ≡
+        put_element (record { key = string_bytes key; value = value }) (elements_in elements.old.entries)) }
     ensures err { OnErr result (elements_in elements.new.entries ≡ elements_in elements.old.entries) }
     ensures ordered { IsOrdered string_cmp elements.new }
 {
@@ -31,7 +32,8 @@ pub(crate) fn put_element(
 /// Drops the element of a key, where there is one.
 pub(crate) fn drop_element(elements: &mut BTreeMap<String, Bytes>, key: &str)
     requires { IsOrdered string_cmp elements.old }
-    ensures elements { elements_in elements.new.entries ≡ filter (λ (element : Seen). not (bytes_eq element.key key.now)) (elements_in elements.old.entries) }
+    ensures elements { elements_in elements.new.entries ≡
+        filter (λ (element : Seen). not (bytes_eq element.key key.now)) (elements_in elements.old.entries) }
     ensures ordered { IsOrdered string_cmp elements.new }
 {
     elements.remove(key);

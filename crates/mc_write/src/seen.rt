@@ -3,7 +3,8 @@ ghost use Rattle.std.specs.Prelude.{◌≡◌, ◌++◌, ◌∷◌, [], IfOk, On
 ghost use Rattle.mc_model.specs.Cuts.{pairs};
 ghost use Rattle.mc_model.specs.Kept.{processed};
 ghost use Rattle.mc_keep.specs.Calls.{Reads};
-ghost use Rattle.mc_keep.specs.Causes.{IfTold, OnFailed};
+ghost use Rattle.mc_keep.specs.Causes.{IfTold};
+ghost use Rattle.mc_keep.specs.Plan.{is_fault};
 ghost use Rattle.mc_write.specs.Rows.{last_rows, is_shown};
 ghost use Rattle.mc_write.specs.Seen.{seen, all_seen, row_pair, has_digest, have_digests};
 
@@ -18,7 +19,8 @@ pub(crate) fn seen_pairs<K: Keeper>(
     alloc: Global,
     key: &str,
 ) -> Result<Vec<Pair>, KeepError>
-    ensures row { IfTold (K.told keeper.old) result (λ kept found. all_seen found.items ≡ pairs (processed kept) key.now) }
+    ensures row { IfTold (K.told keeper.old) result (λ kept found.
+        all_seen found.items ≡ pairs (processed kept) key.now) }
     ensures digests { IfOk result (λ found. have_digests (all_seen found.items) ≡ true) }
     ensures reads { Reads K.Keeper (is_fault result) keeper.old keeper.new }
 {
@@ -45,7 +47,8 @@ fn shown_pairs<K: Keeper>(
     key: &str,
     rows: Vec<ElementRow>,
 ) -> Result<Vec<Pair>, KeepError>
-    ensures row { IfTold (K.told keeper.old) result (λ kept found. all_seen found.items ≡ map row_pair (filter (is_shown (processed kept) key.now) rows.items)) }
+    ensures row { IfTold (K.told keeper.old) result (λ kept found.
+        all_seen found.items ≡ map row_pair (filter (is_shown (processed kept) key.now) rows.items)) }
     ensures digests { IfOk result (λ found. have_digests (all_seen found.items) ≡ true) }
     ensures reads { Reads K.Keeper (is_fault result) keeper.old keeper.new }
 {
@@ -62,7 +65,8 @@ fn shown_pairs<K: Keeper>(
 // Adds the pair of a row.
 pub(crate) fn push_pair(pairs: &mut Vec<Pair>, row: ElementRow) -> Result<(), AllocError>
     ensures pairs { OnOk result (all_seen pairs.new.items ≡ all_seen pairs.old.items ++ row_pair row ∷ []) }
-    ensures digests { OnOk result (have_digests (all_seen pairs.old.items) ≡ true → have_digests (all_seen pairs.new.items) ≡ true) }
+    ensures digests { OnOk result (have_digests (all_seen pairs.old.items) ≡ true →
+        have_digests (all_seen pairs.new.items) ≡ true) }
 {
     pairs.push(pair_of(row))?;
     Ok(())

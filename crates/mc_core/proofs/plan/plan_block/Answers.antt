@@ -1,5 +1,6 @@
 use Rattle.std.proofs.lemmas.Result.{err_from_is_err_and}
-use Rattle.mc_core.proofs.Keeps.{read_reserved}
+use Rattle.std.proofs.Common.{refl}
+use Rattle.mc_keep.proofs.Frames.{read_reserved}
 use Rattle.mc_core.proofs.PlanFacts.{plan_is, plan_shape}
 use Rattle.mc_core.proofs.plan.plan_block.Goals as goal
 
@@ -14,4 +15,4 @@ returns-clause-shape g c =
 pub returns-in_err-reserve-clause-reads : goal.returns-in_err-reserve-clause-reads
 returns-in_err-reserve-clause-reads g c =
     let p = err_from_is_err_and c.from_residual-in_err-reserve.result c.from_residual-in_err-reserve.ensures.1 in
-    rw (p.1, p.2) (read_reserved c.in_ok-process.ensures.reads c.reserve.ensures.reserves)
+    rw (p.1, p.2) (read_reserved c.in_ok-process.ensures.reads c.reserve.ensures.reserves refl)

@@ -3,7 +3,7 @@ use Rattle.mc_core.proofs.ShortFacts.{short_call, short_early}
 use Rattle.mc_core.proofs.replica.Replica.delete.Goals as goal
 
 pub take_up_all-requires-clause-next : goal.take_up_all-requires-clause-next
-take_up_all-requires-clause-next g c κs within =
+take_up_all-requires-clause-next g c =
     delete_next c.kept_is_durable.ensures.made_links _ _ c.args.key.now _ c.in-Ok.ensures.reads.told_same c.is_sound.ensures c.in-Ok.ensures.made
 
 pub returns-in-Ok-clause-call : goal.returns-in-Ok-clause-call

@@ -1,14 +1,13 @@
-use Rattle.std.proofs.Common.{◌≡◌, None, false}
+use Rattle.std.proofs.Common.{◌≡◌, false}
 use Rattle.mc_base.specs.Told.{Told}
 use Rattle.mc_core.specs.Replica.{replica_state}
-use Rattle.mc_core.specs.Words.{HasContinued}
+use Rattle.mc_core.specs.Words.{HasCommitted}
 use Rattle.mc_core.proofs.TakenFacts.{Taken}
 use Rattle.mc_core.proofs.replica.Replica.take_up_all.Given as goal
 
 abbrev pub invariant-loop-made : goal.invariant-loop-made
 invariant-loop-made g l = record {
   taken : Told (replica_state g.K.Keeper.told g.K.Keeper.fuse l.fn.self) (replica_state g.K.Keeper.told g.K.Keeper.fuse l.self) (Taken l.yielded);
-  silent : g.K.Keeper.told l.fn.self.keeper ≡ None → g.K.Keeper.told l.self.keeper ≡ None;
   up : l.self.stopped ≡ false;
-  keeps : HasContinued g.K.Keeper g.K.Counted l.fn.self l.self;
+  keeps : HasCommitted g.K.Keeper g.K.Counted l.fn.self l.self;
 }
