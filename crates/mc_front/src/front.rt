@@ -41,8 +41,7 @@ pub fn front_changes<K: Keeper>(
     whole: bool,
     changes: &mut Changes,
 ) -> Result<u64, KeepError>
-    requires fresh {
-        (changes.old.marks ≡ []) × (changes.old.links ≡ [])
+    requires fresh { (changes.old.marks ≡ []) × (changes.old.links ≡ [])
         × (changes.old.heads_in ≡ []) × (changes.old.heads_out ≡ []) × (changes.old.mark ≡ None) }
     requires new { IfSome (K.told keeper.old) (λ kept. AreNew kept blocks.now) }
     ensures marks { OnOk result (changes.new.marks ≡ map (λ (block : Block). block.cid) blocks.now) }
@@ -55,8 +54,7 @@ pub fn front_changes<K: Keeper>(
         count ≡ length (gaps (processed kept ++ blocks.now))) }
     ensures mark { OnOk result (IfSome (K.told keeper.old) (λ kept.
         MarkFits whole kept.mark (processed kept ++ blocks.now) changes.new.mark)) }
-    ensures others {
-        (changes.new.store ≡ changes.old.store) × (changes.new.elements ≡ changes.old.elements)
+    ensures others { (changes.new.store ≡ changes.old.store) × (changes.new.elements ≡ changes.old.elements)
         × (changes.new.tombs ≡ changes.old.tombs) × (changes.new.values ≡ changes.old.values) }
     ensures refused { OnErr result (changes.new ≡ changes.old) }
     ensures reads { Reads K.Keeper (is_fault result) keeper.old keeper.new }

@@ -83,7 +83,7 @@ pub trait Keeper: Counted {
         ensures planned { DeskReadsAsPlanned (desk_schedule desk.old) (desk_schedule desk.new) (is_fault result) }
         ensures quiet { quiet self.now ≡ true →
             StaysQuiet (quiet_desk desk.old) (quiet_desk desk.new)
-                (Self.Desk.faults desk.old) (Self.Desk.faults desk.new) }
+            (Self.Desk.faults desk.old) (Self.Desk.faults desk.new) }
         ensures cause { KeepCause (Self.Desk.faults desk.old) (Self.Desk.faults desk.new) result };
 
     /// How many blocks are processed and stored, how many gaps there are, and the mark.
