@@ -1,6 +1,6 @@
 // The commits that take up a block, with all their memory taken.
 ghost use Rattle.mc_keep.specs.Calls.{Reads};
-ghost use Rattle.std.specs.Prelude.{◌≡◌, ◌≤◌, ◌∷◌, [], Ok, true, false, map, List, IfSome, IfOk};
+ghost use Rattle.std.specs.Prelude.{◌≡◌, ◌≤◌, ◌∷◌, [], true, false, map, IfSome, IfOk};
 ghost use Rattle.mc_model.specs.declared.block.Block.{Block};
 ghost use Rattle.mc_model.specs.Kept.{is_stored};
 ghost use Rattle.mc_keep.specs.Causes.{IfTold};

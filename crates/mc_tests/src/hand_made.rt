@@ -1,5 +1,10 @@
+<<<<<<< HEAD:crates/mc_tests/src/hand_made.rt
 // A keeper with rows made by hand, which tells nothing.
 ghost use Rattle.std.specs.Prelude.{◌≡◌, None, false};
+=======
+// A keeper for tests with element rows and a head alone, which tells nothing.
+ghost use Rattle.std.specs.Prelude.{None, false};
+>>>>>>> 1433ffee160b41e753e88d0decd6a8b826933878:crates/mc_write/src/fake.rt
 
 use mc_base::{Bytes, Cid, Counted, Failed, List, Text};
 use mc_keep::{Changes, ElementRow, HeadRow, KeepError, Keeper, Summary, ValueRow};

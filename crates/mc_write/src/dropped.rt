@@ -1,5 +1,5 @@
 // The deleted keys of a batch, each with the blocks that had live elements of it.
-ghost use Rattle.std.specs.Prelude.{◌≡◌, ◌++◌, IfOk, OnOk, OnErr, map, string_bytes};
+ghost use Rattle.std.specs.Prelude.{◌≡◌, ◌++◌, IfOk, OnOk, OnErr, map};
 ghost use Rattle.std.specs.Prelude as prelude;
 ghost use Rattle.std.specs.BTreeMap.{IsOrdered, get_by_text};
 ghost use Rattle.std.specs.Option.{unwrap_or};

@@ -1,5 +1,5 @@
 // The lengths of blocks.
-ghost use Rattle.std.specs.Prelude.{◌≡◌, ◌+◌, ◌*◌, ◌<◌, ◌≤◌, ◌^◌, ℕ, length};
+ghost use Rattle.std.specs.Prelude.{◌≡◌, ◌+◌, ◌<◌, ◌≤◌, ◌^◌, length};
 ghost use Rattle.mc_base.specs.Node.{link_bytes};
 ghost use Rattle.mc_model.specs.DeltaText.{priority_bytes};
 ghost use Rattle.mc_write.specs.Lengths.{capped, links_length, field_length, block_length, IsTombLen, IsRoom};

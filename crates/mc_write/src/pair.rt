@@ -1,5 +1,5 @@
 // A block with a live element of a key.
-ghost use Rattle.std.specs.Prelude.{◌≡◌, IfOk, OnOk, true, refl, length};
+ghost use Rattle.std.specs.Prelude.{◌≡◌, true, refl};
 ghost use Rattle.std.proofs.Common.{◌∙◌};
 ghost use Rattle.std.specs.Ordering.{eq_by_cmp, as_partial_cmp};
 ghost use Rattle.std.specs.Cmp.{partial_order_from_own_ties};
