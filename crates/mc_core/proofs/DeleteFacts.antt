@@ -1,9 +1,8 @@
 -- The blocks of a delete, made one after another.
 use Rattle.std.proofs.Common.{◌≡◌, ◌≤◌, ℕ, Bool, true, false, cond, ◌||◌, List, [], ◌∷◌, ◌++◌, length, map, take, drop, get_or, ◌+◌, ◌<◌, Option, Some, None, Result, Ok, Err, refl, sym, ◌∙◌, ap, subst, inl, inr}
-use Rattle.std.specs.Prelude.{IfSome, IfErr, find, is_some, ⊤}
+use Rattle.std.specs.Prelude.{IfSome, IfErr, find, is_some}
 use Rattle.std.specs.List.{list_all}
 use Rattle.std.specs.Option.{option_map, option_or}
-use Rattle.std.specs.Str.{bytes_eq}
 use Rattle.std.proofs.lemmas.List.Folds.{list_any-append}
 use Rattle.std.proofs.lemmas.List.{take-append-drop, drop_more, map-id}
 use Rattle.std.proofs.lemmas.Bool.{or_right, or_left, or_parts}
@@ -20,7 +19,7 @@ use Rattle.mc_write.specs.declared.error.WriteError.{WriteError}
 use Rattle.mc_write.specs.declared.error.WriteError.TheVariants as write
 use Rattle.mc_core.specs.declared.deletes.MadeBlock.{MadeBlock}
 use Rattle.mc_core.specs.declared.error.CoreError.{CoreError}
-use Rattle.mc_core.specs.declared.error.CoreError.TheVariants.{BlockTooLarge, PriorityFull, Clash}
+use Rattle.mc_core.specs.declared.error.CoreError.TheVariants.{Clash}
 use Rattle.mc_core.specs.Deletes.{with_made, with_block, with_all, has_made, links_after, chain_clash, is_left, IsDeltas, IsDelete, DeltasRefusal, IsMade, AreMade, IsNextMade}
 use Rattle.mc_core.specs.Puts.{made_block, next_links}
 use Rattle.mc_core.specs.Refusals.{Is, IsDue, OfDelete, kind_of, clash_refusal, other_refusal}

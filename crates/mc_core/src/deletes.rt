@@ -5,6 +5,7 @@ ghost use Rattle.std.specs.List.{list_all};
 ghost use Rattle.mc_model.specs.Kept.{is_stored};
 ghost use Rattle.mc_model.specs.Made.{made_bytes, made_cid};
 ghost use Rattle.mc_keep.specs.Causes.{IfTold};
+ghost use Rattle.mc_keep.specs.Plan.{is_fault as keeper_failed};
 ghost use Rattle.mc_core.specs.Deletes.{AreMade, AreNext, DeleteKeptRefusal, DeletePlan, DeleteRefusal, DeleteShort, DeltasRefusal, IsDelete, IsMade, IsNextMade, IsOutside, ShortKeeps, Takes, TakesOne, chain_clash, has_made, is_left, with_all};
 ghost use Rattle.mc_core.specs.Plans.{IsNew, IsPlan, IsShaped, plan_rows};
 ghost use Rattle.mc_core.specs.Puts.{next_links};
@@ -19,7 +20,7 @@ use crate::puts::check_key;
 use crate::{CoreError, Replica};
 use mc_base::{Bytes, Cid, Failed, List};
 use mc_block::write_block;
-use mc_keep::{Keeper, changes_fit, commits_are_events};
+use mc_keep::{KeepError, Keeper, changes_fit, commits_are_events};
 use mc_key::Key;
 use mc_model::{Block, Delta, kept_is_durable};
 use mc_write::delete_deltas;
@@ -187,9 +188,9 @@ fn has_priority(priority: u64)
 }
 
 // The links to the heads.
-fn first_links<K: Keeper>(keeper: &mut K, alloc: Global) -> Result<List<Cid>, CoreError>
+fn first_links<K: Keeper>(keeper: &mut K, alloc: Global) -> Result<List<Cid>, KeepError>
     ensures links { IfTold (K.told keeper.old) result (λ kept links. links ≡ next_links kept) }
-    ensures reads { Reads K.Keeper (is_fault result) keeper.old keeper.new }
+    ensures reads { Reads K.Keeper (keeper_failed result) keeper.old keeper.new }
 {
     let heads = keeper.heads(alloc)?;
     let links = cids_of(alloc, heads.as_slice())?;

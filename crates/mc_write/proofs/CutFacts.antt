@@ -1,5 +1,5 @@
 -- One cut after another.
-use Rattle.std.proofs.Common.{◌≡◌, ◌≢◌, ◌⊎◌, inl, inr, ℕ, suc, ◌+◌, ◌-◌, ◌*◌, ◌^◌, ◌<◌, ◌≤◌, Bool, true, false, ◌&&◌, List, [], ◌∷◌, ◌++◌, length, map, take, drop, min, refl, ap, sym, ◌∙◌, subst, arith, length-append, append_assoc}
+use Rattle.std.proofs.Common.{◌≡◌, ◌≢◌, ◌⊎◌, inl, inr, ℕ, suc, ◌+◌, ◌-◌, ◌*◌, ◌^◌, ◌<◌, ◌≤◌, true, false, List, [], ◌∷◌, ◌++◌, length, map, take, drop, refl, ap, sym, ◌∙◌, subst, arith, length-append, append_assoc}
 use Rattle.std.specs.Prelude.{nat_le}
 use Rattle.std.proofs.lemmas.List.{append-nil, take_all, take-append-drop, take-map, drop-map, length-map, length-take-le, length-drop}
 use Rattle.std.proofs.lemmas.Bool.{leb-true, leb-false, and_from, and_parts}
@@ -7,9 +7,9 @@ use Rattle.mc_base.specs.declared.cid.Cid.{Cid}
 use Rattle.mc_model.specs.declared.delta.Delta.{Delta}
 use Rattle.mc_model.specs.declared.delta.Element.{Element}
 use Rattle.mc_model.specs.declared.delta.Tomb.{Tomb}
-use Rattle.mc_model.specs.Cuts.{Pair, pair_tomb, tombs_delta, tombs_size, IsFull, IsCut, IsCuts, IsTooLarge, IsPriorityFull}
+use Rattle.mc_model.specs.Cuts.{Pair, pair_tomb, tombs_delta, tombs_size, IsFull, IsCut, IsCuts, IsTooLarge}
 use Rattle.mc_model.specs.DeltaText.{priority_bytes}
-use Rattle.mc_model.specs.Made.{made_bytes, made_cid}
+use Rattle.mc_model.specs.Made.{made_cid}
 use Rattle.mc_model.specs.Offer.{block_max}
 use Rattle.mc_write.specs.declared.error.WriteError.{WriteError}
 use Rattle.mc_write.specs.declared.error.WriteError.TheVariants.{BlockTooLarge, PriorityFull, Failed, Memory}

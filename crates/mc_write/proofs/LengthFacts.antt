@@ -1,13 +1,13 @@
 -- The lengths of the blocks of deletes.
-use Rattle.std.proofs.Common.{◌≡◌, ◌≢◌, ℕ, zero, suc, ◌+◌, ◌-◌, ◌*◌, ◌/◌, ◌%◌, ◌^◌, ◌<◌, ◌≤◌, Bool, true, false, not, ◌&&◌, ◌==◌, List, [], ◌∷◌, ◌++◌, length, map, min, refl, ap, sym, ◌∙◌, subst, arith, length-append, append_assoc}
+use Rattle.std.proofs.Common.{◌≡◌, ℕ, zero, suc, ◌+◌, ◌*◌, ◌/◌, ◌^◌, ◌<◌, ◌≤◌, true, false, not, ◌&&◌, ◌==◌, List, [], ◌∷◌, ◌++◌, length, map, refl, ap, sym, ◌∙◌, arith, length-append}
 use Rattle.std.proofs.lemmas.List.{length-map, append-nil}
 use Rattle.std.specs.Prelude.{nat_le, codes}
-use Rattle.std.proofs.Math.Dec.{ltb, leb}
-use Rattle.std.proofs.lemmas.Bool.{leb-true, leb-false, ltb-true, ltb-false, eqb-true, ne_eqb, and_parts}
+use Rattle.std.proofs.Math.Dec.{ltb}
+use Rattle.std.proofs.lemmas.Bool.{leb-true, ltb-true, ltb-false, eqb-true, ne_eqb, and_parts}
 use Rattle.std.specs.List.{flat_map, list_all, slice_index}
 use Rattle.mc_base.proofs.Digest.{digest_length}
 use Rattle.mc_base.specs.Base32.{byte_bits, fives, base32_of, alphabet32}
-use Rattle.mc_base.specs.Node.{link_bytes, node_bytes}
+use Rattle.mc_base.specs.Node.{link_bytes}
 use Rattle.mc_base.specs.Wire.{varint_bytes, part_field_bytes}
 use Rattle.mc_base.specs.declared.base32.Case.TheVariants.{Upper}
 use Rattle.mc_base.specs.declared.cid.Cid.{Cid}
@@ -22,7 +22,7 @@ use Rattle.mc_model.specs.Offer.{block_max}
 use Rattle.mc_delta.specs.Lengths.{entry_length}
 use Rattle.mc_delta.proofs.LengthFacts.{tomb_bytes_len, priority_bytes_len}
 use Rattle.mc_key.specs.KeyRule.{is_key, begins, segments, is_empty, is_dots}
-use Rattle.mc_write.specs.Lengths.{capped, links_length, field_length, block_length, tomb_length}
+use Rattle.mc_write.specs.Lengths.{links_length, field_length, block_length, tomb_length}
 use Rattle.mc_write.specs.Seen.{has_digest, have_digests}
 
 -- the length of an id

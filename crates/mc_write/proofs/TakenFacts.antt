@@ -3,12 +3,11 @@ use Rattle.std.proofs.Common.{◌≡◌, ℕ, Bool, true, false, cond, not, ◌|
 use Rattle.std.specs.Prelude.{fold, filter, reverse, IfSome}
 use Rattle.std.proofs.lemmas.List.{append-nil}
 use Rattle.std.proofs.lemmas.List.Folds.{list_any-append}
-use Rattle.std.specs.List.{list_any, dedup, dedup_from, flat_map, filter_map}
-use Rattle.std.specs.List.Sorted.{IsStrictlySortedBy}
+use Rattle.std.specs.List.{list_any, dedup, filter_map}
 use Rattle.std.specs.Option.{option_map}
 use Rattle.std.specs.Str.{bytes_eq}
 use Rattle.std.specs.Cmp.Lexicographic.{slice_cmp}
-use Rattle.std.specs.Ordering.{eq_by_cmp, is_eq, is_gt, is_lt, nat_cmp, ordering_then, ordering_reverse}
+use Rattle.std.specs.Ordering.{eq_by_cmp, is_eq, is_gt, is_lt, nat_cmp, ordering_then}
 use Rattle.std.specs.declared.cmp.Ordering.{Ordering}
 use Rattle.std.specs.declared.cmp.Ordering.TheVariants.{Less, Equal, Greater}
 use Rattle.std.proofs.lemmas.Cmp.{nat_cmp_total, tied_itself}
@@ -24,7 +23,7 @@ use Rattle.mc_model.specs.Cuts.{Pair, pair_cmp, pair_in, pairs}
 use Rattle.mc_model.specs.Front.{same_cid}
 use Rattle.mc_model.specs.Id.{id_text}
 use Rattle.mc_model.specs.Kept.{Kept, processed, block_in, blocks_in}
-use Rattle.mc_model.specs.Live.{has_tomb, is_hidden, ranked_in, live_among}
+use Rattle.mc_model.specs.Live.{has_tomb, is_hidden, ranked_in}
 use Rattle.mc_model.specs.Rank.{Ranked, rank_cmp, greater, greatest}
 use Rattle.mc_model.specs.SameMembers.{SameMembers}
 use Rattle.mc_model.proofs.Ascending.{ascends_is}
@@ -38,9 +37,9 @@ use Rattle.mc_keep.proofs.ElementTies.{element_tied}
 use Rattle.mc_write.specs.PairOrder.{pair_total}
 use Rattle.mc_write.specs.Rows.{same_block, last_rows, is_shown}
 use Rattle.mc_write.specs.Seen.{row_pair}
-use Rattle.mc_write.proofs.Membership.{In, Passing, any_from_in, in_from_any, in_same, in_map, from_map, in_filter, from_filter, in_flat_map, from_flat_map, in_filter_map, from_filter_map}
+use Rattle.mc_write.proofs.Membership.{In, any_from_in, in_from_any, in_same, in_map, from_map, in_filter, from_filter, in_flat_map, from_flat_map, in_filter_map, from_filter_map}
 use Rattle.mc_write.proofs.PairFacts.{pair_tied}
-use Rattle.mc_write.proofs.RowOrder.{Descends, Under, UpTo, reverse_cons, reverse_descends, in_dedup, last_of_block, has_last, value_up_to}
+use Rattle.mc_write.proofs.RowOrder.{Descends, UpTo, reverse_cons, reverse_descends, in_dedup, last_of_block, has_last, value_up_to}
 
 -- the greatest of ranked values
 

@@ -1,5 +1,5 @@
 -- How the definitions see the pairs and the rows of heads.
-use Rattle.std.specs.Prelude.{ℕ, ◌==◌, Bool, List, length, map}
+use Rattle.std.specs.Prelude.{◌==◌, Bool, List, length, map}
 use Rattle.std.specs.List.{list_all}
 use Rattle.mc_base.specs.declared.cid.Cid.{Cid}
 use Rattle.mc_keep.specs.declared.rows.ElementRow.{ElementRow}

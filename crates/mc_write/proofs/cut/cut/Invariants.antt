@@ -1,4 +1,4 @@
-use Rattle.std.proofs.Common.{◌≡◌, ◌≤◌, true, length, List}
+use Rattle.std.proofs.Common.{◌≡◌, true, length, List}
 use Rattle.mc_base.specs.declared.cid.Cid.{Cid}
 use Rattle.mc_write.specs.Cutting.{number}
 use Rattle.mc_write.specs.Lengths.{capped, links_length}

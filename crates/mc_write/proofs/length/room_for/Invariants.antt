@@ -1,4 +1,4 @@
-use Rattle.std.proofs.Common.{◌≡◌, ◌+◌, ◌*◌, ◌<◌, ◌≤◌, ℕ, ◌-◌}
+use Rattle.std.proofs.Common.{◌≡◌, ◌+◌, ◌*◌, ◌<◌, ◌≤◌, ◌-◌}
 use Rattle.mc_model.specs.Offer.{block_max}
 use Rattle.mc_write.specs.Lengths.{block_length}
 use Rattle.mc_write.proofs.length.room_for.Given as goal

@@ -1,4 +1,3 @@
-use Rattle.std.proofs.Common.{length, ◌≡◌}
 use Rattle.mc_write.proofs.DroppedFacts.{both_empty}
 use Rattle.mc_write.proofs.batch.Batch.is_empty.Goals as goal
 
