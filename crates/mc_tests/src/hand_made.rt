@@ -1,10 +1,5 @@
-<<<<<<< HEAD:crates/mc_tests/src/hand_made.rt
 // A keeper with rows made by hand, which tells nothing.
 ghost use Rattle.std.specs.Prelude.{◌≡◌, None, false};
-=======
-// A keeper for tests with element rows and a head alone, which tells nothing.
-ghost use Rattle.std.specs.Prelude.{None, false};
->>>>>>> 1433ffee160b41e753e88d0decd6a8b826933878:crates/mc_write/src/fake.rt
 
 use mc_base::{Bytes, Cid, Counted, Failed, List, Text};
 use mc_keep::{Changes, ElementRow, HeadRow, KeepError, Keeper, Summary, ValueRow};
@@ -12,6 +7,7 @@ use mc_query::Pair;
 use std::alloc::{AllocError, Global};
 use std::sync::Wait;
 
+/// A desk that finds nothing.
 #[derive(Drop)]
 pub struct HandMadeDesk {
     faults: u64,
@@ -25,9 +21,9 @@ impl Counted for HandMadeDesk {
     }
 }
 
-/// Value rows in ascending order of their keys, of which so many are given before memory is short. Every key has one element
-/// of each of a chain of blocks, of which each but the first links to the one before it; the element of the block with the
-/// id is hidden.
+/// Value rows in ascending order of their keys, of which so many are given before memory is short. Every key has one
+/// element of each of a chain of blocks, of which each but the first links to the one before it; the element of the
+/// block with the id is hidden.
 #[derive(Drop)]
 pub struct HandMade {
     rows: List<Pair>,
