@@ -19,6 +19,7 @@ use Rattle.std.specs.Prelude.{is_some, unwrap_or}
 use Rattle.mc_keep.specs.declared.changes.Changes.{Changes}
 use Rattle.mc_keep.specs.declared.fuse.Fuse.{Fuse}
 use Rattle.mc_model.specs.Batch.{is_empty_batch}
+use Rattle.mc_model.proofs.Prefix.{goes_on_then}
 use Rattle.mc_core.specs.Batches.{OfRun, OfBatch, BatchBecomes, delta_of_batch}
 use Rattle.mc_core.specs.Deletes.{chain_events, with_made}
 use Rattle.mc_core.specs.Plans.{with_store}
@@ -26,7 +27,7 @@ use Rattle.mc_core.specs.declared.made.Written.{Written}
 use Rattle.mc_core.proofs.EventFacts.{all_happen-append}
 use Rattle.mc_core.specs.Events.{ReplicaState, Goes, MayHappen, goes_on, all_happen}
 use Rattle.mc_core.specs.Puts.{made_events, next_links, delta_of_put}
-use Rattle.mc_core.proofs.GrowthFacts.{GrowLaw, same_goes, goes_then, goes_grows, breaks_grows}
+use Rattle.mc_core.proofs.GrowthFacts.{GrowLaw, same_goes, goes_grows, breaks_grows}
 use Rattle.mc_core.specs.declared.error.CoreError.{CoreError}
 use Rattle.mc_core.specs.declared.error.CoreError.TheVariants as core
 use Rattle.mc_script.specs.Line.{line_of}
@@ -51,7 +52,7 @@ grows_then : (a b c : Option ReplicaState) → Grows a b → Grows b c → Grows
 grows_then None b c g h = tt
 grows_then (Some a) None c g h = absurd g
 grows_then (Some a) (Some b) None g h = absurd h
-grows_then (Some a) (Some b) (Some c) g h = goes_then a.state.durable b.state.durable c.state.durable g h
+grows_then (Some a) (Some b) (Some c) g h = goes_on_then a.state.durable b.state.durable c.state.durable g h
 
 or_else : ReplicaState → Option ReplicaState → ReplicaState
 or_else s None = s

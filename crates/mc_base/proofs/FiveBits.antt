@@ -105,3 +105,8 @@ pub push_step : (table text rest group new target : List ℕ) → 5 ≤ length r
 push_step table text rest group new target len added is before =
     let whole = take_all (length rest - 5) (drop 5 rest) (omega (arith, length-drop 5 rest)) in
     rw (whole, added, is, append_assoc, ← digits_step table rest len) before
+
+-- a byte has eight bits
+pub bits_length : (bytes : List ℕ) → length (flat_map byte_bits bytes) ≡ 8 * length bytes
+bits_length [] = refl
+bits_length (byte ∷ bytes) = let rest = bits_length bytes in omega arith

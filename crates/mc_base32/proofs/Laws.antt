@@ -6,6 +6,7 @@ use Rattle.std.proofs.lemmas.Bool.{and_parts, eqb-true}
 use Rattle.std.proofs.lemmas.Bool.Decides.{nat_tests}
 use Rattle.mc_base.specs.Base32.{alphabet32, base32_of, byte_bits, five, fives}
 use Rattle.mc_base.specs.declared.base32.Case.{Case}
+use Rattle.mc_base.proofs.FiveBits.{bits_length}
 use Rattle.mc_base32.specs.declared.fault.Base32Fault.{Base32Fault}
 use Rattle.mc_base32.specs.declared.fault.Base32Fault.TheVariants.{BadChar, BadLength, TailBits}
 use Rattle.mc_base32.specs.Reading.{decode32, digit_value, eights, first_bad, five_bits, is_cut, is_digit32, text_bits, unused}
@@ -54,10 +55,6 @@ fives_length (a ∷ b ∷ c ∷ []) = refl
 fives_length (a ∷ b ∷ c ∷ d ∷ []) = refl
 fives_length (a ∷ b ∷ c ∷ d ∷ e ∷ bits) = let rest = fives_length bits in omega arith
 
-bytes_length : (bytes : List ℕ) → length (flat_map byte_bits bytes) ≡ 8 * length bytes
-bytes_length [] = refl
-bytes_length (byte ∷ bytes) = let rest = bytes_length bytes in omega arith
-
 not_cut : (n m r : ℕ) → 5 * n ≡ 8 * m + r → r < 5 → is_cut (n % 8) ≡ false
 not_cut n m r e h =
     let h1 : n % 8 ≢ 1 = λ (k : n % 8 ≡ 1). omega arith in
@@ -77,7 +74,7 @@ written_is_read case bytes h =
     let spread : text_bits case (base32_of case bytes) ≡ flat_map byte_bits bytes ++ fill (flat_map byte_bits bytes) = rw good.1 (fives_spread (flat_map byte_bits bytes) bits) in
     let back = eights_of_bytes bytes (fill (flat_map byte_bits bytes)) h in
     let len : length (base32_of case bytes) ≡ length (fives (flat_map byte_bits bytes)) = length-map (fives (flat_map byte_bits bytes)) (slice_index (alphabet32 case)) in
-    let whole : is_cut (length (base32_of case bytes) % 8) ≡ false = rw len (not_cut (length (fives (flat_map byte_bits bytes))) (length bytes) (length (fill (flat_map byte_bits bytes))) (fives_length (flat_map byte_bits bytes) ∙ ap (λ (n : ℕ). n + length (fill (flat_map byte_bits bytes))) (bytes_length bytes)) filled.2) in
+    let whole : is_cut (length (base32_of case bytes) % 8) ≡ false = rw len (not_cut (length (fives (flat_map byte_bits bytes))) (length bytes) (length (fill (flat_map byte_bits bytes))) (fives_length (flat_map byte_bits bytes) ∙ ap (λ (n : ℕ). n + length (fill (flat_map byte_bits bytes))) (bits_length bytes)) filled.2) in
     let zeros : list_all (λ bit. bit == 0) (unused (flat_map byte_bits bytes ++ fill (flat_map byte_bits bytes))) ≡ true = rw back.1 filled.1 in
     read_good case (base32_of case bytes) (flat_map byte_bits bytes ++ fill (flat_map byte_bits bytes)) good.0 whole spread zeros ∙ ap (λ (xs : List ℕ). Ok xs) (back.0 ∙ rw (filled.0, append-nil) refl)
 
@@ -140,7 +137,7 @@ fives_of_bytes values small whole zeros =
     let count = values_length values in
     let few = cut_no (length values % 8) whole in
     let whole_fives = fives_length front in
-    let bytes = bytes_length (eights bits) in
+    let bytes = bits_length (eights bits) in
     let same : unused bits ≡ fill front = zeros_same (unused bits) (fill front) zeros filled.3 (omega (arith, len, count, few, filled.2, whole_fives, bytes)) in
     sym (fives_filled front) ∙ ap (λ (rest : List ℕ). fives (front ++ rest)) (sym same) ∙ ap fives parts ∙ spread_fives values small
 

@@ -1,6 +1,6 @@
 -- What is made is offered as what it was made of.
-use Rattle.std.proofs.Common.{◌≡◌, ℕ, ◌+◌, ◌*◌, ◌<◌, ◌≤◌, ◌^◌, List, [], ◌∷◌, length, map, Bool, true, false, refl, ap, sym, ◌∙◌, subst, arith, Some, Ok, ◌&&◌}
-use Rattle.std.proofs.lemmas.Bool.{eqb-true, false≢true}
+use Rattle.std.proofs.Common.{◌≡◌, ℕ, ◌+◌, ◌*◌, ◌<◌, ◌≤◌, ◌^◌, List, [], ◌∷◌, length, map, true, refl, ap, sym, ◌∙◌, subst, arith, Some, Ok}
+use Rattle.std.proofs.lemmas.Bool.{eqb-true, and_parts}
 use Rattle.std.proofs.lemmas.Slice.Eq.{bytes_eq-Decides}
 use Rattle.std.specs.List.{list_all}
 use Rattle.std.specs.Prelude.{IsTrue}
@@ -32,17 +32,13 @@ NodesHaveLength = (links : List Cid) (payload : List ℕ) → IsTrue (list_all h
 abbrev pub DeltasAreRead : Type 0
 DeltasAreRead = (delta : Delta) → IsWritable delta → delta_of (delta_bytes delta) ≡ Some delta
 
-both : (one two : Bool) → (one && two) ≡ true → (one ≡ true) × (two ≡ true)
-both true two e = (refl, e)
-both false two e = absurd (false≢true e)
-
 cid_named : CidsAreRead → (cid : Cid) → has_digest cid ≡ true → cid_of_bytes (cid_bytes cid) ≡ Some cid
 cid_named read cid digest = rw (read cid.0 (eqb-true (length cid.0) 32 digest)) refl
 
 named : CidsAreRead → (links : List Cid) → list_all has_digest links ≡ true → Named (map cid_bytes links) links
 named read [] digests = tt
 named read (cid ∷ links) digests =
-    let parts = both (has_digest cid) (list_all has_digest links) digests in
+    let parts = and_parts (has_digest cid) (list_all has_digest links) digests in
     (cid_named read cid parts.0, named read links parts.1)
 
 module _ (cids : CidsAreRead) (nodes : NodesAreRead) (lengths : NodesHaveLength) (deltas : DeltasAreRead) where

@@ -1,7 +1,8 @@
 -- What is kept of the heads that were read.
-use Rattle.std.proofs.Common.{◌≡◌, ℕ, ◌+◌, true, false, List, [], ◌∷◌, ◌++◌, length, map, Option, None, Some, refl, sym, ap, ◌∙◌, arith}
+use Rattle.std.proofs.Common.{◌≡◌, ℕ, ◌+◌, true, false, List, [], ◌∷◌, ◌++◌, length, map, Option, None, Some, sym, ap, ◌∙◌, arith}
 use Rattle.std.specs.Prelude.{IfSome, is_some}
 use Rattle.mc_base.specs.declared.cid.Cid.{Cid}
+use Rattle.mc_base.proofs.Booleans.{none_there}
 use Rattle.mc_cast.specs.declared.message.Heads.{Heads}
 use Rattle.mc_cast.specs.Cast.{first_unnamed}
 use Rattle.mc_cast.specs.Steps.{StandFor, digests_of}
@@ -35,13 +36,9 @@ named_then_none at (cid ∷ cids) = named_then_none (at + 1) cids ∙ ap (λ (in
 absurd_none : (index : ℕ) → ◌≡◌ {A = Option ℕ} (Some index) None → ⊥
 absurd_none index e = cc
 
-none_of : (unnamed : Option ℕ) → is_some unnamed ≡ false → unnamed ≡ None
-none_of None h = refl
-none_of (Some index) h = absurd (cc)
-
 -- the first unnamed head
 pub kept_first : (kept new : Heads) (heads : List (Option (List ℕ))) (next : Option (List ℕ)) (count : ℕ) → is_some kept.unnamed ≡ false → new.unnamed ≡ Some count → count ≡ length kept.cids → next ≡ None → StandFor kept heads → StandFor new (heads ++ next ∷ [])
 kept_first kept new heads next count named first counted none stands = record {
   all_named = λ other. absurd (absurd_none count (sym first ∙ other));
-  unnamed = rw (first, none, counted, stands.all_named (none_of kept.unnamed named)) (named_then_none 0 kept.cids ∙ ap (λ (index : ℕ). Some index) (omega arith));
+  unnamed = rw (first, none, counted, stands.all_named (none_there kept.unnamed named)) (named_then_none 0 kept.cids ∙ ap (λ (index : ℕ). Some index) (omega arith));
 }

@@ -24,6 +24,7 @@ use Rattle.mc_core.specs.Refusals.{Is, IsDue, OfKeeper, kind_of, stops, key_refu
 use Rattle.mc_core.specs.Replica.{run_of}
 use Rattle.mc_core.proofs.CallFacts.{at, Calls, early_call}
 use Rattle.mc_core.proofs.PutFacts.{BackLaw, plan_is_made}
+use Rattle.mc_core.proofs.RefusalFacts.{told_always}
 
 -- the batch changes, and nothing else
 pub batch_goes : (kept : Kept) (fuse : Option Fuse) (batch after : Option OpenBatch) (whole : Bool) → Goes (Batch after ∷ []) (at kept fuse (run_of false batch whole)) (at kept fuse (run_of false after whole))
@@ -56,10 +57,6 @@ early_batch Refusal Plan told told_new fuse fuse_new stop stop_new batch after w
     subst (λ b. Told (state_of told fuse (run_of stop batch whole)) (state_of told_new fuse_new (run_of stop_new b whole)) (Calls Refusal Plan rose (Err error))) (sym same)
     (early_call Refusal Plan told told_new fuse fuse_new stop stop_new batch whole rose error up e f g r due)
 
-told_all : (told : Option Kept) (P : Kept → Type 0) → ((kept : Kept) → P kept) → IfSome told P
-told_all None P p = tt
-told_all (Some kept) P p = p kept
-
 none_after : (first second : Option CoreError) → first ≡ None → second ≡ None → None ≡ option_or first second
 none_after first second e f = sym (ap (λ x. option_or x second) e ∙ f)
 
@@ -71,7 +68,7 @@ PutsInto told fuse held after whole key value answer =
 pub put_into : {T : Type 0} (told : Option Kept) (fuse : Option Fuse) (held : Option OpenBatch) (batch after : OpenBatch) (whole : Bool) (key value : List ℕ) (answer : T) → held ≡ Some batch → key_refusal key ≡ None → value_refusal value ≡ None
     → after ≡ batch_put key value batch → PutsInto told fuse held after whole key value answer
 put_into told fuse held batch after whole key value answer e f g is =
-    subst (λ o. PutsInto told fuse o after whole key value answer) (sym e) (told_all told _ (λ kept. (none_after (key_refusal key) (value_refusal value) f g, ap (λ b. Batch (Some b) ∷ []) is)))
+    subst (λ o. PutsInto told fuse o after whole key value answer) (sym e) (told_always told _ (λ kept. (none_after (key_refusal key) (value_refusal value) f g, ap (λ b. Batch (Some b) ∷ []) is)))
 
 -- a delete into the batch
 abbrev DeletesInto : {T : Type 0} → Option Kept → Option Fuse → Option OpenBatch → OpenBatch → Bool → List ℕ → T → Type 0
@@ -88,8 +85,8 @@ delete_into back told fuse held batch after whole key answer e f is = subst (λ 
 
 pub delete_due : (told : Option Kept) (fuse : Option Fuse) (held : Option OpenBatch) (whole : Bool) (key : List ℕ) (keep : KeepError) (error : CoreError) → OfKeeper keep error
     → IfSome told (λ kept. IsDue (Is (batch_delete_refusal (at kept fuse (run_of false held whole)) key)) error)
-delete_due told fuse held whole key Failed error of = told_all told _ (λ kept. subst (λ e. IsDue (Is (batch_delete_refusal (at kept fuse (run_of false held whole)) key)) e) (sym of) tt)
-delete_due told fuse held whole key Memory error of = told_all told _ (λ kept. subst (λ e. IsDue (Is (batch_delete_refusal (at kept fuse (run_of false held whole)) key)) e) (sym of) tt)
+delete_due told fuse held whole key Failed error of = told_always told _ (λ kept. subst (λ e. IsDue (Is (batch_delete_refusal (at kept fuse (run_of false held whole)) key)) e) (sym of) tt)
+delete_due told fuse held whole key Memory error of = told_always told _ (λ kept. subst (λ e. IsDue (Is (batch_delete_refusal (at kept fuse (run_of false held whole)) key)) e) (sym of) tt)
 
 pub keeper_rose : (keep : KeepError) (error : CoreError) (rose : Type 0) → OfKeeper keep error → (is_fault {T = ⊤} (Err keep) ≡ true → rose) → is_fault_kind (kind_of error) ≡ true → rose
 keeper_rose Failed error rose of r e = r refl
@@ -132,4 +129,4 @@ pub commit_empty : (told : Option Kept) (fuse : Option Fuse) (held : Option Open
     → PlannedAt told fuse held whole (Batch None ∷ []) None
 commit_empty told fuse held batch whole e empty =
     subst (λ o. PlannedAt told fuse o whole (Batch None ∷ []) None) (sym e)
-    (told_all told _ (λ kept. subst (λ b. Both (kept_of (durable_of kept)) batch b (Batch None ∷ []) None) empty (refl, (refl, refl))))
+    (told_always told _ (λ kept. subst (λ b. Both (kept_of (durable_of kept)) batch b (Batch None ∷ []) None) empty (refl, (refl, refl))))

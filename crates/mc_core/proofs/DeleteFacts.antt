@@ -5,6 +5,7 @@ use Rattle.std.specs.List.{list_all}
 use Rattle.std.specs.Option.{option_map, option_or}
 use Rattle.std.proofs.lemmas.List.Folds.{list_any-append}
 use Rattle.std.proofs.lemmas.List.{take-append-drop, drop_more, map-id}
+use Rattle.std.proofs.lemmas.Bool.{or_right, or_left, or_parts}
 use Rattle.mc_base.specs.declared.cid.Cid.{Cid}
 use Rattle.mc_model.specs.declared.block.Stored.{Stored}
 use Rattle.mc_model.specs.declared.delta.Delta.{Delta}
@@ -24,10 +25,6 @@ use Rattle.mc_core.specs.Puts.{made_block, next_links}
 use Rattle.mc_core.specs.Refusals.{Is, IsDue, OfDelete, kind_of, clash_refusal, other_refusal}
 use Rattle.mc_core.proofs.KindFacts.{by_kind}
 use Rattle.mc_core.proofs.RefusalFacts.{due_first}
-
-or_parts : (a b : Bool) → (a || b) ≡ false → (a ≡ false) × (b ≡ false)
-or_parts true b e = absurd (let f : true ≡ false = e in cc)
-or_parts false b e = (refl, e)
 
 -- what isn't the identifier of a block is processed, and stored, as it was before the block
 
@@ -62,13 +59,6 @@ at_all [] kept cid e = refl
 at_all (made ∷ blocks) kept cid e =
     let parts = or_parts (same_cid cid made.block.cid) (has_made blocks cid) e in
     at_all blocks (with_block kept made) cid parts.1 ∙ at_with kept cid made.block.cid made.bytes parts.0
-
-or_left : (a b : Bool) → a ≡ true → (a || b) ≡ true
-or_left a b e = ap (λ t. t || b) e
-
-or_right : (a b : Bool) → b ≡ true → (a || b) ≡ true
-or_right true b e = refl
-or_right false b e = e
 
 among_more : (cid last : Cid) (cids : List Cid) → is_among cids cid ≡ true → is_among (cids ++ last ∷ []) cid ≡ true
 among_more cid last cids e = list_any-append (same_cid cid) cids (last ∷ []) ∙ or_left (is_among cids cid) (is_among (last ∷ []) cid) e

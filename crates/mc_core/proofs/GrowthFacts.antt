@@ -1,7 +1,7 @@
 -- What is processed and stored only grows.
 use Rattle.std.proofs.Common.{◌≡◌, ℕ, Bool, true, false, cond, List, [], ◌∷◌, ◌++◌, length, Option, Some, None, refl, sym, ◌∙◌, ap, subst, inl, inr, arith, length-append}
 use Rattle.std.specs.Prelude.{slice_get}
-use Rattle.std.proofs.lemmas.List.{append_assoc, append-nil}
+use Rattle.std.proofs.lemmas.List.{append-nil}
 use Rattle.std.proofs.lemmas.Option.{slice_get_read}
 use Rattle.std.proofs.Math.Seq.{get_or-append_seam}
 use Rattle.mc_base.specs.declared.cid.Cid.{Cid}
@@ -10,6 +10,7 @@ use Rattle.mc_model.specs.Events.{Event, Process, GoesOn, after, happens}
 use Rattle.mc_model.specs.Kept.{Kept, is_stored}
 use Rattle.mc_model.specs.Made.{made_bytes, made_cid}
 use Rattle.mc_model.specs.State.{Durable, Running, State, kept_of}
+use Rattle.mc_model.proofs.Prefix.{goes_on_then}
 use Rattle.mc_keep.specs.declared.fuse.Fuse.{Fuse}
 use Rattle.mc_keep.specs.Causes.{fires, CommitFails}
 use Rattle.mc_core.specs.Events.{ReplicaState, goes_on, all_happen, MayHappen, Goes, IsCutShort, Breaks}
@@ -26,14 +27,6 @@ all_after (event ∷ events) s = all_after events (goes_on s event)
 
 pub same_goes : (d : Durable) → GoesOn d d
 same_goes d = record { processed = []; stored = []; order = sym (append-nil d.order); graph = sym (append-nil d.graph) }
-
-pub goes_then : (a b c : Durable) → GoesOn a b → GoesOn b c → GoesOn a c
-goes_then a b c g h = record {
-  processed = g.processed ++ h.processed;
-  stored = g.stored ++ h.stored;
-  order = h.order ∙ ap (λ (front : List Cid). front ++ h.processed) g.order ∙ append_assoc a.order g.processed h.processed;
-  graph = h.graph ∙ ap (λ front. front ++ h.stored) g.graph ∙ append_assoc a.graph g.stored h.stored;
-}
 
 -- a commit that fails leaves what was, or what it makes
 fails_goes : (fire : Option Bool) (rose : Type 0) (old whole left : Durable) → GoesOn old whole → CommitFails fire rose old whole left → GoesOn old left
@@ -56,7 +49,7 @@ module _ (law : GrowLaw) where
 
   pub breaks_grows : (events : List Event) (rose : Type 0) (s new : ReplicaState) → Breaks events rose s new → GoesOn s.state.durable new.state.durable
   breaks_grows events rose s new b =
-      goes_then s.state.durable (all_happen s b.so_far).state.durable new.state.durable
+      goes_on_then s.state.durable (all_happen s b.so_far).state.durable new.state.durable
       (subst (λ (x : State). GoesOn s.state.durable x.durable) (sym (all_after b.so_far s)) (law s.state b.so_far))
       (cut_grows b.rest rose (all_happen s b.so_far) new b.fate)
 

@@ -1,16 +1,14 @@
 -- Processed blocks with one id are one block: an id has all the bits of a digest.
-use Rattle.std.proofs.Common.{◌≡◌, ℕ, Bool, true, false, not, cond, List, [], ◌∷◌, length, drop, Option, Some, None, Err, refl, sym, ◌∙◌, ap, subst, arith, inl, inr}
-use Rattle.std.specs.Prelude.{nat_le, find, is_some}
+use Rattle.std.proofs.Common.{◌≡◌, ℕ, Bool, true, false, cond, List, [], ◌∷◌, drop, Option, Some, None, refl, sym, ◌∙◌, ap, subst, arith, inl, inr}
+use Rattle.std.specs.Prelude.{find, is_some}
 use Rattle.std.specs.List.{list_all}
 use Rattle.std.specs.Option.{option_map}
-use Rattle.std.specs.Result.{is_ok, result_ok}
-use Rattle.std.specs.Str.{bytes_eq}
+use Rattle.std.specs.Result.{result_ok}
 use Rattle.std.proofs.lemmas.Bool.{and_parts}
 use Rattle.std.proofs.lemmas.Slice.Eq.{bytes_eq-Decides}
 use Rattle.mc_base.specs.Base32.{base32_of}
 use Rattle.mc_base.proofs.Digest.{AreBytes, digest_bytes_below}
 use Rattle.mc_base.specs.Cid.{digest_of}
-use Rattle.mc_base.specs.NodeRead.{node_of}
 use Rattle.mc_base.specs.declared.base32.Case.TheVariants.{Upper}
 use Rattle.mc_base.specs.declared.cid.Cid.{Cid}
 use Rattle.mc_base32.specs.Reading.{decode32}
@@ -19,7 +17,8 @@ use Rattle.mc_model.specs.declared.block.Stored.{Stored}
 use Rattle.mc_model.specs.Front.{same_cid, is_among}
 use Rattle.mc_model.specs.Id.{id_text, multihash_of}
 use Rattle.mc_model.specs.Kept.{Kept, IsKept, is_stored}
-use Rattle.mc_model.specs.Offer.{TooLarge, WrongDigest, block_max, block_of_node, is_good, offer}
+use Rattle.mc_model.specs.Offer.{is_good}
+use Rattle.mc_model.proofs.Found.{good_digest}
 use Rattle.mc_write.proofs.Membership.{In, Passing, in_from_any}
 
 -- no two processed blocks have one id
@@ -41,17 +40,6 @@ unfolding id_text
 same_id a b ha hb e = ap (drop 2) (same_text (multihash_of a) (multihash_of b) (omega arith, (omega arith, ha)) (omega arith, (omega arith, hb)) (ap (drop 1) e))
 
 -- the identifier of a processed block is a digest
-
-good_digest : (cid : Cid) (bytes : List ℕ) → is_good cid bytes ≡ true → bytes_eq (digest_of bytes) cid.0 ≡ true
-unfolding offer
-good_digest cid bytes e =
-    elim (not (nat_le (length bytes) block_max)) as (λ t. is_ok (cond t (Err (TooLarge (length bytes))) (cond (not (bytes_eq (digest_of bytes) cid.0)) (Err (WrongDigest (digest_of bytes))) (block_of_node cid (node_of bytes)))) ≡ true → bytes_eq (digest_of bytes) cid.0 ≡ true) [
-      | true ↦ λ h. absurd (let f : false ≡ true = h in cc)
-      | false ↦ λ h. elim (bytes_eq (digest_of bytes) cid.0) as (λ t. is_ok (cond (not t) (Err (WrongDigest (digest_of bytes))) (block_of_node cid (node_of bytes))) ≡ true → t ≡ true) [
-        | true ↦ λ k. refl
-        | false ↦ λ k. absurd (let f : false ≡ true = k in cc)
-      ] h
-    ] e
 
 all_in : {X : Type 0} (test : X → Bool) (xs : List X) (x : X) → list_all test xs ≡ true → In x xs → test x ≡ true
 all_in test [] x e i = absurd i

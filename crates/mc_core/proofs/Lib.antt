@@ -8,6 +8,7 @@ pub mod GrowthFacts
 pub mod IdFacts
 pub mod Keeps
 pub mod KindFacts
+pub mod KnownFacts
 pub mod NumberFacts
 pub mod OpenFacts
 pub mod PartFacts

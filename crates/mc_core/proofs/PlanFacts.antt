@@ -4,8 +4,9 @@ use Rattle.std.specs.Prelude.{IfSome, unwrap_or, is_some, find, length, ◌==◌
 use Rattle.std.specs.List.{list_all}
 use Rattle.std.specs.Option.{option_map}
 use Rattle.std.specs.Result.{is_ok, result_ok}
-use Rattle.std.proofs.lemmas.List.{append-nil}
+use Rattle.std.proofs.lemmas.List.{append-nil, map-append}
 use Rattle.std.proofs.lemmas.Slice.Eq.{bytes_eq-Decides}
+use Rattle.std.proofs.lemmas.Bool.{and_parts}
 use Rattle.mc_base.specs.declared.cid.Cid.{Cid}
 use Rattle.mc_model.specs.declared.block.Block.{Block}
 use Rattle.mc_model.specs.declared.block.Stored.{Stored}
@@ -22,7 +23,8 @@ use Rattle.mc_keep.specs.New.{AreNew}
 use Rattle.mc_keep.specs.Tables.{StoreFits, MarksFit, RowsFit, FrontFits, ChangesFit}
 use Rattle.mc_front.specs.Front.{mark_over}
 use Rattle.mc_core.specs.declared.plan.Plan.{Plan}
-use Rattle.mc_core.specs.Plans.{IsNew, IsNoOther, Processes, IsPlan, IsSomePlan, IsReady, HasLinks, IsShaped, store_change}
+use Rattle.mc_core.specs.Plans.{IsNew, Processes, IsPlan, IsSomePlan, IsReady, HasLinks, IsShaped, store_change}
+use Rattle.mc_core.proofs.KnownFacts.{known_is}
 
 -- the laws of the crates below that are used here
 
@@ -40,10 +42,6 @@ MarkLaw = (kept : Kept) (cids : List Cid) → IsKept (record { graph = kept.grap
 
 abbrev pub LinksLaw : Type 0
 LinksLaw = (kept : Kept) (cids : List Cid) → list_all (is_stored kept.graph) cids ≡ true → all_links (durable_of kept).graph cids ≡ links (blocks_in kept.graph cids)
-
-map-both : {A B : Type 0} (f : A → B) (xs ys : List A) → map f (xs ++ ys) ≡ map f xs ++ map f ys
-map-both f [] ys = refl
-map-both f (x ∷ xs) ys = ap (λ z. f x ∷ z) (map-both f xs ys)
 
 abbrev with_order : Kept → List Stored → List Cid → Kept
 with_order kept graph cids = record { graph = graph; order = kept.order ++ cids; mark = kept.mark }
@@ -68,7 +66,7 @@ module _ (fit_law : FitLaw) (sound_law : SoundLaw) (mark_law : MarkLaw) (links_l
   mark_fits kept true blocks changes sound new stored are mark =
       let cids : List Cid = map (λ (block : Block). block.cid) blocks in
       mark
-      ∙ ap (λ b. not (length (gaps b) == 0)) (sym (map-both (block_in kept.graph) kept.order cids ∙ ap (λ b. processed kept ++ b) are))
+      ∙ ap (λ b. not (length (gaps b) == 0)) (sym (map-append (block_in kept.graph) kept.order cids ∙ ap (λ b. processed kept ++ b) are))
       ∙ sym (mark_law kept cids (more_processed kept blocks sound new stored))
 
   pub ready : (kept : Kept) (whole : Bool) (blocks : List Block) (changes : Changes) → IsKept kept → AreNew kept blocks
@@ -79,16 +77,9 @@ module _ (fit_law : FitLaw) (sound_law : SoundLaw) (mark_law : MarkLaw) (links_l
     mark = mark_fits kept whole blocks changes sound new stored are p.mark ∙ ap (λ cids. processed_mark whole (durable_of kept) (kept.order ++ cids)) (sym p.marks);
   }
 
-  or_true : (a b : Bool) → a ≡ true → (a || b) ≡ true
-  or_true a b e = ap (λ t. t || b) e
-
   has_more : (c : Cid) (xs ys : List Cid) → has c xs ≡ true → has c (xs ++ ys) ≡ true
   has_more c [] ys e = absurd (let f : false ≡ true = e in cc)
   has_more c (x ∷ xs) ys e = elim (same_cid c x) as (λ t. (t || has c xs) ≡ true → (t || has c (xs ++ ys)) ≡ true) [ true ↦ λ h. refl | false ↦ λ h. has_more c xs ys h ] e
-
-  and_parts : (a b : Bool) → (a && b) ≡ true → (a ≡ true) × (b ≡ true)
-  and_parts true b e = (refl, e)
-  and_parts false b e = absurd (let f : false ≡ true = e in cc)
 
   wants_none : (order more cids : List Cid) → list_all (is_among order) cids ≡ true → want_all (order ++ more) no_queue cids ≡ no_queue
   wants_none order more [] e = refl
@@ -153,10 +144,6 @@ process_of old new whole blocks cids changes mark same p = record {
 
 some_is : (x y : Changes) → Some x ≡ Some y → x ≡ y
 some_is x y e = ap (λ o. unwrap_or o no_changes) e
-
-known_is : (found : Option (List ℕ)) (bytes : List ℕ) → is_some found ≡ true → IsNoOther found bytes → found ≡ Some bytes
-known_is None bytes e known = absurd (let f : false ≡ true = e in cc)
-known_is (Some other) bytes e known = ap (λ b. Some b) known
 
 module _ (fit_law : FitLaw) (sound_law : SoundLaw) (mark_law : MarkLaw) (links_law : LinksLaw) (storing_law : StoringLaw) (stored_law : StoredLaw) (same_law : SameLaw) where
   -- a stored block that is to be processed

@@ -1,10 +1,9 @@
 -- What a delete leaves that was cut short by want of memory.
 use Rattle.std.proofs.Common.{◌≡◌, ◌<◌, ℕ, Bool, true, false, cond, ◌||◌, ◌&&◌, List, [], ◌∷◌, ◌++◌, length, map, take, suc, zero, Option, Some, None, Result, Ok, Err, refl, sym, ◌∙◌, ap, subst}
-use Rattle.std.specs.Prelude.{IfSome, is_some}
+use Rattle.std.specs.Prelude.{IfSome}
 use Rattle.std.specs.List.{list_all}
 use Rattle.std.specs.Result.{is_ok}
 use Rattle.std.proofs.lemmas.List.{append-nil, append_assoc, map-append}
-use Rattle.std.proofs.lemmas.Slice.Eq.{bytes_eq-Decides}
 use Rattle.mc_base.specs.Told.{Told}
 use Rattle.mc_base.specs.declared.cid.Cid.{Cid}
 use Rattle.mc_model.specs.declared.block.Block.{Block}
@@ -17,6 +16,7 @@ use Rattle.mc_model.specs.Live.{value}
 use Rattle.mc_model.specs.Made.{next_priority}
 use Rattle.mc_model.specs.State.{OpenBatch, Running, durable_of, kept_of, stored_of}
 use Rattle.mc_model.proofs.Blocks.{block_in_cid}
+use Rattle.mc_model.proofs.Counts.{cid_itself}
 use Rattle.mc_keep.specs.Changes.{no_changes}
 use Rattle.mc_keep.specs.declared.fuse.Fuse.{Fuse}
 use Rattle.mc_write.proofs.Membership.{In, any_from_in, from_map}
@@ -25,7 +25,7 @@ use Rattle.mc_core.specs.declared.deletes.MadeBlock.{MadeBlock}
 use Rattle.mc_core.specs.declared.error.CoreError.{CoreError}
 use Rattle.mc_core.specs.Deletes.{AreMade, AreNext, IsDelete, ShortKeeps, Takes, all_events, chain_blocks, with_all, with_block, with_made}
 use Rattle.mc_core.specs.Events.{ReplicaState, state_of, Goes}
-use Rattle.mc_core.specs.Plans.{IsNew, IsNoOther}
+use Rattle.mc_core.specs.Plans.{IsNew}
 use Rattle.mc_core.specs.Puts.{next_links}
 use Rattle.mc_core.specs.Refusals.{kind_of}
 use Rattle.mc_core.specs.Replica.{run_of, running_with}
@@ -36,10 +36,7 @@ use Rattle.mc_core.proofs.PlanFacts.{SoundLaw, SameLaw, StoredLaw, one_block, on
 use Rattle.mc_core.proofs.PutFacts.{BackLaw}
 use Rattle.mc_core.proofs.TakenFacts.{Follows, running, goes_follow, made_length, made_take, next_all}
 use Rattle.mc_core.proofs.ValueFacts.{AreOwn, HaveIds, value_of_part}
-
-known_is : (found : Option (List ℕ)) (bytes : List ℕ) → is_some found ≡ true → IsNoOther found bytes → found ≡ Some bytes
-known_is None bytes e known = absurd (let f : false ≡ true = e in cc)
-known_is (Some other) bytes e known = ap (λ b. Some b) known
+use Rattle.mc_core.proofs.KnownFacts.{known_is}
 
 -- what is kept after one more block
 
@@ -110,9 +107,6 @@ blocks_are (delta ∷ deltas) (made ∷ blocks) kept links are =
 
 -- the processed blocks are the ones that their identifiers name
 
-same_self : (cid : Cid) → same_cid cid cid ≡ true
-same_self cid = (bytes_eq-Decides cid.0 cid.0).1 refl
-
 are_own : (kept : Kept) → AreOwn (block_in kept.graph) (processed kept)
 are_own kept = λ block i.
     let from = from_map (block_in kept.graph) block kept.order i in
@@ -122,7 +116,7 @@ is_in_order : (kept : Kept) (block : Block) → In block (processed kept) → is
 is_in_order kept block i =
     let from = from_map (block_in kept.graph) block kept.order i in
     any_from_in (same_cid block.cid) from.item kept.order from.within
-    (ap (λ (b : Block). same_cid b.cid from.item) from.is ∙ ap (λ c. same_cid c from.item) (block_in_cid kept.graph from.item) ∙ same_self from.item)
+    (ap (λ (b : Block). same_cid b.cid from.item) from.is ∙ ap (λ c. same_cid c from.item) (block_in_cid kept.graph from.item) ∙ cid_itself from.item)
 
 have_ids : (kept : Kept) → AreApart kept → HaveIds (processed kept)
 have_ids kept apart = λ a b i j e. apart a.cid b.cid (is_in_order kept a i) (is_in_order kept b j) e

@@ -13,11 +13,12 @@ use Rattle.mc_model.specs.declared.block.Stored.{Stored}
 use Rattle.mc_model.specs.declared.delta.Delta.{Delta}
 use Rattle.mc_model.specs.Cuts.{Pair, IsCuts}
 use Rattle.mc_model.specs.Events.{Event, Process, with_blocks, with_processed, processed_queue}
-use Rattle.mc_model.specs.Front.{same_cid, is_among}
+use Rattle.mc_model.specs.Front.{is_among}
 use Rattle.mc_model.specs.Kept.{Kept, bytes_at, is_stored}
 use Rattle.mc_model.specs.Made.{made_bytes, made_cid}
 use Rattle.mc_model.specs.Offer.{block_max}
 use Rattle.mc_model.specs.State.{Durable, OpenBatch, Running, durable_of, kept_of, stored_of, vertex_of, vertices}
+use Rattle.mc_model.proofs.Counts.{cid_itself}
 use Rattle.mc_keep.specs.Causes.{burnt}
 use Rattle.mc_keep.specs.Changes.{no_changes}
 use Rattle.mc_keep.specs.declared.fuse.Fuse.{Fuse}
@@ -64,9 +65,6 @@ made_is_new kept links delta made is fits linked =
       linked = ap (λ (block : Block). list_all (is_among kept.order) block.links) is.is_block ∙ linked;
     }
 
-same_self : (cid : Cid) → same_cid cid cid ≡ true
-same_self cid = (bytes_eq-Decides cid.0 cid.0).1 refl
-
 pub next_all : (deltas : List Delta) (blocks : List MadeBlock) (kept : Kept) (links : List Cid) (priority : ℕ) (key : List ℕ) (pairs : List Pair) → IsCuts links priority key pairs deltas
     → AreMade kept links deltas blocks → list_all (is_among kept.order) links ≡ true → AreNext kept blocks
 next_all [] [] kept links priority key pairs cuts are linked = tt
@@ -77,7 +75,7 @@ next_all (delta ∷ deltas) (made ∷ blocks) kept links priority key pairs (tak
   are.0.stored,
   next_all deltas blocks (with_block kept made) (made.block.cid ∷ []) (priority + 1) key rest
       (subst (λ cid. IsCuts (cid ∷ []) (priority + 1) key rest deltas) (sym (is_cid kept links delta made are.0)) cuts) are.1
-      (ap (λ b. b && true) (among_here made.block.cid made.block.cid kept.order (same_self made.block.cid))),
+      (ap (λ b. b && true) (among_here made.block.cid made.block.cid kept.order (cid_itself made.block.cid))),
 )
 
 -- the events of made blocks are those of their deltas

@@ -12,6 +12,8 @@ use Rattle.std.proofs.lemmas.Cmp.{tied_itself, upto}
 use Rattle.std.proofs.lemmas.List.{append-nil, append_assoc}
 use Rattle.std.proofs.lemmas.List.Folds.{list_any-append}
 use Rattle.std.proofs.lemmas.Slice.Eq.{bytes_eq-Decides}
+use Rattle.std.proofs.lemmas.Bool.{false_from_ne_true, or_parts}
+use Rattle.std.specs.Cmp.{Equal-is}
 use Rattle.mc_base.specs.declared.cid.Cid.{Cid}
 use Rattle.mc_model.specs.declared.block.Block.{Block}
 use Rattle.mc_model.specs.declared.delta.Delta.{Delta}
@@ -22,7 +24,7 @@ use Rattle.mc_model.specs.Made.{made_cid}
 use Rattle.mc_model.specs.Rank.{Ranked, rank_cmp, greatest}
 use Rattle.mc_model.specs.Value.{ranked_elements}
 use Rattle.mc_model.proofs.Ascending.{ascending_ascends}
-use Rattle.mc_model.proofs.Greatest.{rank_total}
+use Rattle.mc_model.proofs.Greatest.{rank_total, not_gt_itself}
 use Rattle.mc_model.proofs.Live.{has_tomb-append, live_among-append}
 use Rattle.mc_write.specs.PairOrder.{pair_total}
 use Rattle.mc_write.proofs.Membership.{In, in_from_any, in_same, in_append_left, in_flat_map, from_flat_map, in_filter_map, from_filter_map}
@@ -99,16 +101,13 @@ turn o Greater e g = absurd (let f : false ≡ true = sym (ap is_gt e) ∙ g in 
 greatest_of : (ranked : List Ranked) (best : Ranked) → In best ranked → ((x : Ranked) → In x ranked → is_gt (rank_cmp x best) ≡ false) → Greatest ranked
 greatest_of ranked best i bound = record { best = best; is = greatest_is ranked best i bound; within = i; bound = bound }
 
-not_above_itself : (x : Ranked) → is_gt (rank_cmp x x) ≡ false
-not_above_itself x = ap is_gt (tied_itself rank_total x)
-
 some_greatest : (x : Ranked) (ranked : List Ranked) → Greatest (x ∷ ranked)
-some_greatest x [] = greatest_of (x ∷ []) x (inl refl) (λ y i. elim i [ inl same ↦ subst (λ z. is_gt (rank_cmp z x) ≡ false) (sym same) (not_above_itself x) | inr j ↦ absurd j ])
+some_greatest x [] = greatest_of (x ∷ []) x (inl refl) (λ y i. elim i [ inl same ↦ subst (λ z. is_gt (rank_cmp z x) ≡ false) (sym same) (not_gt_itself x) | inr j ↦ absurd j ])
 some_greatest x (y ∷ ranked) =
     let g : Greatest (y ∷ ranked) = some_greatest y ranked in
     elim (is_gt (rank_cmp x g.best)) as (λ t. is_gt (rank_cmp x g.best) ≡ t → Greatest (x ∷ y ∷ ranked)) [
       | true ↦ λ e. greatest_of (x ∷ y ∷ ranked) x (inl refl) (λ z i. elim i [
-        | inl same ↦ subst (λ w. is_gt (rank_cmp w x) ≡ false) (sym same) (not_above_itself x)
+        | inl same ↦ subst (λ w. is_gt (rank_cmp w x) ≡ false) (sym same) (not_gt_itself x)
         | inr j ↦ upto rank_total z g.best x (g.bound z j) (turn (rank_cmp x g.best) (rank_cmp g.best x) (rank_total.antisymm x g.best) e)
       ])
       | false ↦ λ e. greatest_of (x ∷ y ∷ ranked) g.best (inr g.within) (λ z i. elim i [
@@ -166,13 +165,8 @@ same_pair a b = is_eq (pair_cmp a b)
 same_itself : (x : Pair) → same_pair x x ≡ true
 same_itself x = ap is_eq (tied_itself pair_total x)
 
-equal_is : (o : Ordering) → is_eq o ≡ true → o ≡ Equal
-equal_is Less e = absurd (let f : false ≡ true = e in cc)
-equal_is Equal e = refl
-equal_is Greater e = absurd (let f : false ≡ true = e in cc)
-
 same_tied : (x y : Pair) → same_pair x y ≡ true → x ≡ y
-same_tied x y e = pair_tied x y (equal_is (pair_cmp x y) e)
+same_tied x y e = pair_tied x y ((Equal-is (pair_cmp x y)).0 e)
 
 to_pairs : (blocks : List Block) (key : List ℕ) (pair : Pair) → In pair (filter_map (pair_in blocks key) blocks) → In pair (pairs blocks key)
 to_pairs blocks key pair i =
@@ -218,17 +212,9 @@ AreOwn own blocks = (block : Block) → In block blocks → own block.cid ≡ bl
 abbrev pub HaveIds : List Block → Type 0
 HaveIds blocks = (a b : Block) → In a blocks → In b blocks → id_text a.cid.0 ≡ id_text b.cid.0 → a.cid ≡ b.cid
 
-or_parts : (a b : Bool) → (a || b) ≡ false → (a ≡ false) × (b ≡ false)
-or_parts true b e = absurd (let f : true ≡ false = e in cc)
-or_parts false b e = (refl, e)
-
-not_true : (b : Bool) → (b ≡ true → ⊥) → b ≡ false
-not_true true never = absurd (never refl)
-not_true false never = refl
-
 last_is_free : (own : Cid → Block) (blocks : List Block) (key : List ℕ) (first rest : List Pair) → AreOwn own blocks → HaveIds blocks → pairs blocks key ≡ first ++ rest → (t : Top first rest) (block : Block) → In block blocks
     → pair_in blocks key block ≡ Some t.last → hidden_by first (id_text block.cid.0) ≡ false
-last_is_free own blocks key first rest owned apart split t block within gives = not_true (hidden_by first (id_text block.cid.0)) (λ e.
+last_is_free own blocks key first rest owned apart split t block within gives = false_from_ne_true (hidden_by first (id_text block.cid.0)) (λ e.
     let found = in_from_any (λ (pair : Pair). bytes_eq (id_text pair.cid.0) (id_text block.cid.0)) first e in
     let given = from_filter_map (pair_in blocks key) found.item blocks (from_pairs blocks key found.item (subst (In found.item) (sym split) (in_append_left found.item first rest found.within))) in
     let pair = pair_of blocks key given.item found.item given.gives in

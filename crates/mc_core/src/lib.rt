@@ -20,6 +20,3 @@ pub use laws::{replicas_only_grow, written_blocks_stand};
 pub use made::Written;
 pub use replica::{OpenCause, OpenError, Replica};
 pub use report::Report;
-
-#[cfg(test)]
-mod tests;

@@ -7,5 +7,4 @@ pub mod NodeLaw
 pub mod NodeOrder
 pub mod NodeText
 pub mod StepFacts
-pub mod Utf8
 pub mod WrittenNode

@@ -1,7 +1,7 @@
 -- The Hash of a link.
 use Rattle.std.proofs.Common.{◌≡◌, ℕ, ◌≤◌, List, [], ◌∷◌, length, true, false, refl, arith, Option, Some, None, Result, Ok, ◌==◌}
 use Rattle.std.proofs.Math.Dec.{eqb}
-use Rattle.std.proofs.lemmas.Bool.{eqb-true, ne_eqb, false≢true}
+use Rattle.std.proofs.lemmas.Bool.{eqb-true, ne_eqb, false≢true, and_parts}
 use Rattle.std.specs.List.{list_all, cons_option}
 use Rattle.std.specs.Prelude.{IsTrue}
 use Rattle.mc_base.specs.Wire.{Field, Content, Varint, Fixed64, Part, Fixed32}
@@ -9,8 +9,9 @@ use Rattle.mc_base.specs.WireRead.{fronts_from}
 use Rattle.mc_base.specs.Node.{IsLink, Ascends, is_link_content}
 use Rattle.mc_base.specs.NodeRead.{NodeFault, link_of, link_fault, unless, hash_or, first_of, parts_in, part_of}
 use Rattle.mc_wire.proofs.FieldFacts.{fields_are_read, fields_found}
-use Rattle.mc_dagpb.proofs.FrontFields.{field_parts, parts_of_fields, none_is_no}
-use Rattle.mc_dagpb.proofs.LinkLaw.{link_fields, link_is_fine, is_allowed, both_are}
+use Rattle.mc_wire.proofs.AllFields.{none_is_no}
+use Rattle.mc_dagpb.proofs.FrontFields.{field_parts, parts_of_fields}
+use Rattle.mc_dagpb.proofs.LinkLaw.{link_fields, link_is_fine, is_allowed}
 use Rattle.mc_dagpb.proofs.StepFacts.{hash_read}
 
 -- no Hash after another field
@@ -37,7 +38,7 @@ hash_content number (Fixed32 bytes) fields hash one allowed found = absurd (fals
 hash_first : (fields : List Field) (hash : List ℕ) → Ascends 0 fields → IsTrue (list_all is_allowed fields) → first_of (field_parts 1 fields) ≡ Some hash → HashFirst fields hash
 hash_first [] hash ascending allowed found = none_is_no found
 hash_first (field ∷ fields) hash (above, ascending) allowed found = (elim (eqb field.number 1) as (λ b. eqb field.number 1 ≡ b → HashFirst (field ∷ fields) hash) [
-  | true ↦ λ one. hash_content field.number field.content fields hash (eqb-true field.number 1 one) (both_are (is_allowed field) (list_all is_allowed fields) allowed).0 (rw one at found)
+  | true ↦ λ one. hash_content field.number field.content fields hash (eqb-true field.number 1 one) (and_parts (is_allowed field) (list_all is_allowed fields) allowed).0 (rw one at found)
   | false ↦ λ other. none_is_no (rw (other, none_after field.number fields above ascending) at found)
 ]) refl
 

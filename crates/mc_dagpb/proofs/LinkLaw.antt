@@ -1,27 +1,17 @@
 -- A link by its bytes is the one that is read.
 use Rattle.std.proofs.Common.{◌≡◌, ℕ, ◌<◌, List, [], ◌∷◌, Bool, true, false, refl, arith, Option, Some, None, ◌==◌, ◌&&◌, ◌||◌, not}
 use Rattle.std.proofs.Math.Dec.{eqb}
-use Rattle.std.proofs.lemmas.Bool.{eqb-true, false≢true}
+use Rattle.std.proofs.lemmas.Bool.{eqb-true, false≢true, and_parts, and_from}
 use Rattle.std.proofs.lemmas.Bool.Decides.{nat_tests}
 use Rattle.std.specs.Bool.{if◌then◌else◌}
-use Rattle.std.specs.Option.{option_or}
 use Rattle.std.specs.Str.{is_utf8}
 use Rattle.mc_base.specs.Wire.{Field, Content, Varint, Fixed64, Part, Fixed32, wire_type}
 use Rattle.mc_base.specs.Node.{is_link_content, Ascends}
 use Rattle.mc_base.specs.NodeRead.{NodeFaultKind, NameText, wire_kind, link_key_fault, link_front_fault, link_fault, name_fault, fault_at}
-use Rattle.mc_dagpb.proofs.FrontFields.{all_fields, none_is_no}
 use Rattle.mc_base.specs.WireRead.{Front, NoKey, NoContent, Whole, Placed, fields_in, onto_fields}
 use Rattle.std.specs.List.{list_all}
 use Rattle.std.specs.Prelude.{IsTrue}
-
--- neither is a fault
-pub neither : {A : Type 0} (a b : Option A) → option_or a b ≡ None → (a ≡ None) × (b ≡ None)
-neither None None e = (refl, refl)
-neither None (Some b) e = absurd (cc)
-neither (Some a) b e = absurd (cc)
-
-pub no_fault : {A : Type 0} {x : A} {P : Type 0} → ◌≡◌ {A = Option A} (Some x) None → P
-no_fault e = absurd (cc)
+use Rattle.mc_wire.proofs.AllFields.{all_fields, none_is_no, some_is_no, neither}
 
 key_above : (before number wire : ℕ) → link_key_fault before number wire ≡ None → before < number
 key_above before number wire e = grind (arith, nat_tests)
@@ -48,7 +38,7 @@ part_stands before number above is = grind (arith, nat_tests)
 name_told : (one two text : Bool) → (one || two) ≡ true → (if two && not text then Some NameText else None) ≡ None → (one || (two && text)) ≡ true
 name_told true two text either named = refl
 name_told false true true either named = refl
-name_told false true false either named = no_fault named
+name_told false true false either named = some_is_no named
 name_told false false text either named = either
 
 name_stands : (number : ℕ) (text : Bool) → (number == 1 || (number == 2 && text)) ≡ true → ((number == 1 || number == 2) ≡ true) × ((if number == 2 && not text then Some NameText else None) ≡ None)
@@ -86,20 +76,17 @@ pub record LinkFields (before : ℕ) (fronts : List Placed) : Type 0 where
   pub ascending : Ascends before fields
   pub allowed : IsTrue (list_all is_allowed fields)
 
-both_true : (a b : Bool) → a ≡ true → b ≡ true → (a && b) ≡ true
-both_true a b first second = rw (first, second)
-
 pub no_fault_at : (at : ℕ) (kind : Option NodeFaultKind) → fault_at at kind ≡ None → kind ≡ None
 no_fault_at at None e = refl
-no_fault_at at (Some kind) e = no_fault e
+no_fault_at at (Some kind) e = some_is_no e
 
 link_fields_front : (before at : ℕ) (front : Front) (rest : List Placed) → link_fault before (record { at = at; front = front } ∷ rest) ≡ None →
     ((next : ℕ) → link_fault next rest ≡ None → LinkFields next rest) → LinkFields before (record { at = at; front = front } ∷ rest)
-link_fields_front before at (NoKey fault) rest e smaller = no_fault e
+link_fields_front before at (NoKey fault) rest e smaller = some_is_no e
 link_fields_front before at (NoContent number wire fault) rest e smaller =
     let front = neither (fault_at at (link_front_fault before (NoContent number wire fault))) (link_fault number rest) e in
     let parts = neither (link_key_fault before number wire) (Some (wire_kind fault)) (no_fault_at at (link_front_fault before (NoContent number wire fault)) front.0) in
-    no_fault parts.1
+    some_is_no parts.1
 link_fields_front before at (Whole field len) rest e smaller =
     let front = neither (fault_at at (link_front_fault before (Whole field len))) (link_fault field.number rest) e in
     let parts = neither (link_key_fault before field.number (wire_type field.content)) (name_fault field.number field.content) (no_fault_at at (link_front_fault before (Whole field len)) front.0) in
@@ -108,16 +95,12 @@ link_fields_front before at (Whole field len) rest e smaller =
       fields = field ∷ more.fields;
       read = rw more.read;
       ascending = (key_above before field.number (wire_type field.content) parts.0, more.ascending);
-      allowed = both_true (is_allowed field) (list_all is_allowed more.fields) (content_told before field.number field.content parts.0 parts.1) more.allowed;
+      allowed = and_from (is_allowed field) (list_all is_allowed more.fields) (content_told before field.number field.content parts.0 parts.1) more.allowed;
     }
 
 pub link_fields : (before : ℕ) (fronts : List Placed) → link_fault before fronts ≡ None → LinkFields before fronts
 link_fields before [] e = record { fields = []; read = refl; ascending = tt; allowed = refl }
 link_fields before (placed ∷ rest) e = link_fields_front before placed.at placed.front rest e (λ next. link_fields next rest)
-
-pub both_are : (a b : Bool) → (a && b) ≡ true → (a ≡ true) × (b ≡ true)
-both_are true b e = (refl, e)
-both_are false b e = absurd (false≢true e)
 
 link_is_fine_front : (before at : ℕ) (front : Front) (rest : List Placed) (fields : List Field) → onto_fields front (fields_in rest) ≡ Some fields → Ascends before fields → IsTrue (list_all is_allowed fields) →
     ((next : ℕ) (more : List Field) → fields_in rest ≡ Some more → Ascends next more → IsTrue (list_all is_allowed more) → link_fault next rest ≡ None) →
@@ -127,7 +110,7 @@ link_is_fine_front before at (NoContent number wire fault) rest fields e ascendi
 link_is_fine_front before at (Whole field len) rest fields e ascending allowed smaller =
     let all = all_fields field rest fields e in
     let above : (before < field.number) × Ascends field.number all.more = rw all.are at ascending in
-    let tests = both_are (is_allowed field) (list_all is_allowed all.more) (rw all.are at allowed) in
+    let tests = and_parts (is_allowed field) (list_all is_allowed all.more) (rw all.are at allowed) in
     let stands = content_stands before field.number field.content above.0 tests.0 in
     rw (stands.0, stands.1, smaller field.number all.more all.read above.1 tests.1)
 

@@ -6,10 +6,10 @@ use Rattle.mc_base.specs.Wire.{Field, Content, Varint, Fixed64, Part, Fixed32, w
 use Rattle.mc_base.specs.WireRead.{Front, NoKey, NoContent, Whole, Placed, fields_in, onto_fields}
 use Rattle.mc_base.specs.Node.{IsLink, link_field, data_field}
 use Rattle.mc_base.specs.NodeRead.{NodeFault, wire_kind, node_key_fault, node_front_fault, node_fault, body_fault, link_of, fault_in, fault_at}
+use Rattle.mc_wire.proofs.AllFields.{all_fields, none_is_no, neither, some_is_no}
 use Rattle.mc_dagpb.specs.Before.{has_data}
-use Rattle.mc_dagpb.proofs.FrontFields.{all_fields, none_is_no}
 use Rattle.mc_dagpb.proofs.LinkHash.{link_told, link_is_read}
-use Rattle.mc_dagpb.proofs.LinkLaw.{neither, no_fault, no_fault_at}
+use Rattle.mc_dagpb.proofs.LinkLaw.{no_fault_at}
 use Rattle.mc_dagpb.proofs.NodeFacts.{none_before}
 
 -- a Data where none stands before
@@ -44,12 +44,12 @@ part_key : (before : List ℕ) (number : ℕ) → node_key_fault before number 2
 part_key before number e = grind (arith, nat_tests)
 
 link_before : (before : List ℕ) → node_key_fault before 2 2 ≡ None → has_data (drop 1 before) ≡ false
-link_before before allowed = (elim (has_data (drop 1 before)) as (λ b. has_data (drop 1 before) ≡ b → b ≡ false) [ true ↦ λ e. no_fault (rw e at allowed) | false ↦ λ e. refl ]) refl
+link_before before allowed = (elim (has_data (drop 1 before)) as (λ b. has_data (drop 1 before) ≡ b → b ≡ false) [ true ↦ λ e. some_is_no (rw e at allowed) | false ↦ λ e. refl ]) refl
 
 -- a link without a fault
 link_fine : (before : List ℕ) (key from : ℕ) (field : Field) (body : List ℕ) → field ≡ link_field body → has_data (drop 1 before) ≡ false → (read : Result (List ℕ) NodeFault) → link_of key from body ≡ read → fault_in read ≡ None → MayLink before field
 link_fine before key from field body are fresh (Ok hash) read e = record { body = body; hash = hash; are = are; fresh = fresh; link = link_told key from body hash read }
-link_fine before key from field body are fresh (Err fault) read e = no_fault e
+link_fine before key from field body are fresh (Err fault) read e = some_is_no e
 
 part_fine : (before : List ℕ) (at len number : ℕ) (part : List ℕ) → (number ≡ 1) ⊎ (number ≡ 2) → node_key_fault before number 2 ≡ None → body_fault at len (record { number = number; content = Part part }) ≡ None →
     MayData before (record { number = number; content = Part part }) ⊎ MayLink before (record { number = number; content = Part part })
@@ -72,11 +72,11 @@ pub record FineFronts (before : List ℕ) (fronts : List Placed) : Type 0 where
 
 fine_front : (before : List ℕ) (at : ℕ) (front : Front) (rest : List Placed) → node_fault before (record { at = at; front = front } ∷ rest) ≡ None →
     ((next : List ℕ) → node_fault next rest ≡ None → FineFronts next rest) → FineFronts before (record { at = at; front = front } ∷ rest)
-fine_front before at (NoKey fault) rest e smaller = no_fault e
+fine_front before at (NoKey fault) rest e smaller = some_is_no e
 fine_front before at (NoContent number wire fault) rest e smaller =
     let front = neither (node_front_fault before at (NoContent number wire fault)) (node_fault (before ++ number ∷ []) rest) e in
     let parts = neither (node_key_fault before number wire) (Some (wire_kind fault)) (no_fault_at at (option_or (node_key_fault before number wire) (Some (wire_kind fault))) front.0) in
-    no_fault parts.1
+    some_is_no parts.1
 fine_front before at (Whole field len) rest e smaller =
     let front = neither (node_front_fault before at (Whole field len)) (node_fault (before ++ field.number ∷ []) rest) e in
     let parts = neither (fault_at at (node_key_fault before field.number (wire_type field.content))) (body_fault at len field) front.0 in

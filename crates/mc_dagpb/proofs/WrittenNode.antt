@@ -1,6 +1,6 @@
 -- What is written for a node is one.
 use Rattle.std.proofs.Common.{◌≡◌, ℕ, ◌+◌, ◌*◌, ◌<◌, ◌≤◌, ◌^◌, List, [], ◌∷◌, ◌++◌, length, map, true, refl, ap, sym, arith, append_assoc, length-append, Some, inr}
-use Rattle.std.proofs.lemmas.Bool.{eqb-true}
+use Rattle.std.proofs.lemmas.Bool.{eqb-true, and_parts}
 use Rattle.std.proofs.lemmas.List.{append-nil}
 use Rattle.std.proofs.lemmas.Str.{is_utf8-from_IsUtf8, IsUtf8-nil}
 use Rattle.std.specs.Str.{is_utf8}
@@ -11,7 +11,6 @@ use Rattle.mc_base.specs.Node.{IsLink, AreLinks, IsNode, link_field, data_field,
 use Rattle.mc_base.specs.declared.cid.Cid.{Cid}
 use Rattle.mc_wire.proofs.WrittenFacts.{part_field_is_written}
 use Rattle.mc_wire.proofs.Writing.{varint_bytes-one}
-use Rattle.mc_dagpb.proofs.LinkLaw.{both_are}
 use Rattle.mc_dagpb.specs.Written.{cid_bytes, has_digest}
 
 -- a varint of one byte
@@ -76,14 +75,14 @@ link_is_written cid digest =
 links_are_written : (links : List Cid) → IsTrue (list_all has_digest links) → AreLinks (map body_of links) (map cid_bytes links)
 links_are_written [] digests = tt
 links_are_written (cid ∷ links) digests =
-    let parts = both_are (has_digest cid) (list_all has_digest links) digests in
+    let parts = and_parts (has_digest cid) (list_all has_digest links) digests in
     (link_is_written cid parts.0, links_are_written links parts.1)
 
 fields_are_written : (links : List Cid) (payload : List ℕ) → IsTrue (list_all has_digest links) → length payload < 2 ^ 64 →
     Fields (node_bytes links payload) (map link_field (map body_of links) ++ data_field payload ∷ [])
 fields_are_written [] payload digests fits = (part_field_bytes 1 payload, [], sym (append-nil (part_field_bytes 1 payload)), part_field_is_written 1 payload (omega arith) (omega arith) fits, refl)
 fields_are_written (cid ∷ links) payload digests fits =
-    let parts = both_are (has_digest cid) (list_all has_digest links) digests in
+    let parts = and_parts (has_digest cid) (list_all has_digest links) digests in
     let len : 0x2a ≡ length (body_of cid) = sym (body_len cid parts.0) in (
       link_bytes cid,
       node_bytes links payload,
@@ -105,7 +104,7 @@ node_is_written links payload digests fits = record {
 links_len : (links : List Cid) → IsTrue (list_all has_digest links) → length (flat_map link_bytes links) ≡ 44 * length links
 links_len [] digests = refl
 links_len (cid ∷ links) digests =
-    let parts = both_are (has_digest cid) (list_all has_digest links) digests in
+    let parts = and_parts (has_digest cid) (list_all has_digest links) digests in
     omega (arith, length-append (link_bytes cid) (flat_map link_bytes links), body_len cid parts.0, links_len links parts.1)
 
 -- the length of the written node

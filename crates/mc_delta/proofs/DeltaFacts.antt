@@ -14,12 +14,13 @@ use Rattle.mc_wire.specs.Seen as wire
 use Rattle.mc_wire.specs.Seen.{FaultAt, FieldAt, fronts_at}
 use Rattle.mc_wire.specs.declared.fault.WireFaultAt.{WireFaultAt}
 use Rattle.mc_wire.specs.declared.field.Field.{Field as PlacedField}
+use Rattle.mc_wire.proofs.AllFields.{all_fields, none_is_no, nothing_is}
 use Rattle.mc_delta.specs.Deltas.{IsFault, IsFieldFault, element_in, tomb_in}
 use Rattle.mc_delta.specs.Seen.{fault_named, of_wire}
 use Rattle.mc_delta.specs.declared.fault.DeltaError.{DeltaError}
 use Rattle.mc_delta.specs.declared.fault.DeltaError.TheVariants.{Memory, Fault}
 use Rattle.mc_delta.proofs.DeltaLaw.{delta_fields, delta_of_fine, none_of_fault, entry_or_none}
-use Rattle.mc_delta.proofs.FrontFields.{all_fields, parts_of_fields, none_is_no, nothing_is}
+use Rattle.mc_delta.proofs.FrontFields.{parts_of_fields}
 
 -- the varint of a front of this number
 abbrev pub varint_in : ℕ → Front → Option ℕ

@@ -1,6 +1,6 @@
 -- A delta without a fault is the one that is read.
 use Rattle.std.proofs.Common.{◌≡◌, ℕ, ◌+◌, ◌-◌, List, [], ◌∷◌, length, map, Bool, true, false, refl, sym, ◌∙◌, arith, Option, Some, None, ◌==◌, ◌&&◌, ◌||◌, not}
-use Rattle.std.proofs.lemmas.Bool.{false≢true}
+use Rattle.std.proofs.lemmas.Bool.{false≢true, and_parts}
 use Rattle.std.specs.Bool.{if◌then◌else◌}
 use Rattle.std.specs.List.{list_all}
 use Rattle.std.specs.Option.{option_and_then, option_map}
@@ -10,9 +10,9 @@ use Rattle.mc_base.specs.WireRead.{Front, NoKey, NoContent, Whole, Placed, field
 use Rattle.mc_model.specs.DeltaText.{DeltaFault, delta_of, delta_of_fields, delta_with, delta_fault, delta_fault_in, entry_of, entry_fault, entry_part_fault, entries_of, all_some, parts_of}
 use Rattle.mc_model.specs.declared.delta.Delta.{Delta}
 use Rattle.mc_wire.proofs.FieldFacts.{fields_are_read, fields_found}
+use Rattle.mc_wire.proofs.AllFields.{all_fields, none_is_no, some_is_no, neither}
 use Rattle.mc_delta.specs.Deltas.{field_fault}
 use Rattle.mc_delta.proofs.EntryLaw.{are_texts, entry_fields, entry_is_fine}
-use Rattle.mc_delta.proofs.FrontFields.{all_fields, none_is_no, some_is_no, neither}
 use Rattle.mc_delta.proofs.Passing.{passes, field_passes, all_pass, pass_more, pass_less}
 
 -- whether bytes are an entry
@@ -111,15 +111,11 @@ all_there : (bodies : List (List ℕ)) → list_all has_entry bodies ≡ true �
 all_there [] there = refl
 all_there (body ∷ bodies) there = all_there_by body bodies (entry_of body) refl there (all_there bodies)
 
-both_pass : (one two : Bool) → (one && two) ≡ true → (one ≡ true) × (two ≡ true)
-both_pass true two e = (refl, e)
-both_pass false two e = absurd (false≢true e)
-
 -- the delta of fields whose entries are all there
 pub delta_there : (fields : List Field) → all_pass has_entry fields ≡ true →
     delta_of_fields fields ≡ Some (delta_with fields (map entry_or_none (parts_of 1 fields)) (map entry_or_none (parts_of 2 fields)))
 delta_there fields entries =
-    let parts = both_pass (list_all has_entry (parts_of 1 fields)) (list_all has_entry (parts_of 2 fields)) entries in
+    let parts = and_parts (list_all has_entry (parts_of 1 fields)) (list_all has_entry (parts_of 2 fields)) entries in
     rw (all_there (parts_of 1 fields) parts.0, all_there (parts_of 2 fields) parts.1)
 
 -- without a fault there is a delta

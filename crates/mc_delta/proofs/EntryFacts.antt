@@ -19,7 +19,8 @@ pub record IsReading (text : List ℕ) (from at : ℕ) (entry : Entry) : Type 0 
   pub id : last_or [] (parts_in 2 (fronts_at text from)) ≡ last_or entry.id.now (parts_in 2 (fronts_at text at))
   pub value : last_or [] (parts_in 3 (fronts_at text from)) ≡ last_or entry.value.now (parts_in 3 (fronts_at text at))
 
-entry_read : (text : List ℕ) (fields : List Field) → fields_of text ≡ Some fields → are_texts fields ≡ true → entry_of text ≡ Some fields
+-- fields that are all text are an entry
+pub entry_read : (text : List ℕ) (fields : List Field) → fields_of text ≡ Some fields → are_texts fields ≡ true → entry_of text ≡ Some fields
 entry_read text fields read texts = rw (read, texts)
 
 -- the fields that are read from an offset on are those of the text from there on

@@ -6,9 +6,9 @@ use Rattle.std.specs.List.{list_all}
 use Rattle.std.specs.Str.{is_utf8}
 use Rattle.mc_base.specs.Wire.{Field, Content, Varint, Fixed64, Part, Fixed32}
 use Rattle.mc_base.specs.WireRead.{Front, NoKey, NoContent, Whole, Placed, fields_in, onto_fields}
+use Rattle.mc_wire.proofs.AllFields.{all_fields, none_is_no, some_is_no, neither}
 use Rattle.mc_model.specs.DeltaText.{DeltaFault, TextFault, entry_fault, text_fault, is_text, parts_of}
 use Rattle.mc_delta.proofs.Passing.{passes, field_passes, pass_more, pass_less}
-use Rattle.mc_delta.proofs.FrontFields.{all_fields, none_is_no, some_is_no, neither}
 
 -- the keys and the ids of the fields are texts
 abbrev pub are_texts : List Field → Bool

@@ -6,7 +6,6 @@ pub mod FrontFields
 pub mod LengthFacts
 pub mod Passing
 pub mod TakeFacts
-pub mod Utf8
 pub mod WrittenDelta
 pub mod WrittenEntry
 pub mod WrittenRead

@@ -1,7 +1,6 @@
 -- What is written for a delta is read as it.
-use Rattle.std.proofs.Common.{◌≡◌, ℕ, ◌<◌, ◌≤◌, ◌^◌, List, [], ◌∷◌, ◌++◌, length, map, Bool, true, false, refl, arith, length-append, ◌&&◌, ◌==◌}
+use Rattle.std.proofs.Common.{◌≡◌, ℕ, ◌<◌, ◌≤◌, ◌^◌, List, [], ◌∷◌, ◌++◌, length, map, true, false, refl, arith, length-append, ◌==◌}
 use Rattle.std.proofs.Math.Dec.{eqb}
-use Rattle.std.proofs.lemmas.Bool.{false≢true}
 use Rattle.std.proofs.lemmas.Str.{is_utf8-from_IsUtf8, IsUtf8-nil}
 use Rattle.std.specs.Bool.{if◌then◌else◌}
 use Rattle.std.specs.List.{flat_map}
@@ -15,10 +14,6 @@ use Rattle.mc_wire.proofs.WrittenFacts.{part_field_is_written, varint_field_is_w
 use Rattle.mc_delta.specs.Written.{IsWritable}
 use Rattle.mc_delta.proofs.LengthFacts.{part_field_len}
 use Rattle.mc_delta.proofs.WrittenEntry.{fields_joined, one_field}
-
-pub both : (one two : Bool) → (one && two) ≡ true → (one ≡ true) × (two ≡ true)
-both true two e = (refl, e)
-both false two e = absurd (false≢true e)
 
 pub empty_text : is_utf8 [] ≡ true
 empty_text = is_utf8-from_IsUtf8 [] IsUtf8-nil

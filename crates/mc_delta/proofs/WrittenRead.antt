@@ -1,7 +1,7 @@
 -- The fields of a written delta make it again.
 use Rattle.std.proofs.Common.{◌≡◌, ℕ, ◌<◌, ◌^◌, List, [], ◌∷◌, ◌++◌, length, map, true, false, refl, ap, sym, ◌∙◌, arith, length-append, Some}
 use Rattle.std.proofs.Math.Dec.{eqb}
-use Rattle.std.proofs.lemmas.Bool.{eqb-true}
+use Rattle.std.proofs.lemmas.Bool.{eqb-true, and_parts}
 use Rattle.std.proofs.lemmas.List.{append-nil}
 use Rattle.std.proofs.lemmas.List.Elements.{filter_map-append}
 use Rattle.std.specs.Bool.{if◌then◌else◌}
@@ -15,7 +15,7 @@ use Rattle.mc_model.specs.declared.delta.Element.{Element}
 use Rattle.mc_model.specs.declared.delta.Tomb.{Tomb}
 use Rattle.mc_wire.proofs.FieldFacts.{fields_are_read}
 use Rattle.mc_delta.specs.Written.{IsWritable, element_has_text, tomb_has_text}
-use Rattle.mc_delta.proofs.WrittenDelta.{both, empty_text, element_entry, tomb_entry, element_field, tomb_field, priority_fields, fields_with, field_within, delta_fields_are}
+use Rattle.mc_delta.proofs.WrittenDelta.{empty_text, element_entry, tomb_entry, element_field, tomb_field, priority_fields, fields_with, field_within, delta_fields_are}
 use Rattle.mc_delta.proofs.WrittenEntry.{entry_fields_of, entry_is_read, last_key, last_id, last_value}
 
 element_parts : (elements : List Element) → parts_of 1 (map element_field elements) ≡ map element_entry elements
@@ -79,15 +79,15 @@ tomb_fields tomb = entry_fields_of tomb.key tomb.id []
 element_entries : (elements : List Element) → IsTrue (list_all element_has_text elements) → length (flat_map element_bytes elements) < 2 ^ 64 → all_some (map entry_of (map element_entry elements)) ≡ Some (map element_fields elements)
 element_entries [] texts fits = refl
 element_entries (element ∷ elements) texts fits =
-    let tests = both (element_has_text element) (list_all element_has_text elements) texts in
+    let tests = and_parts (element_has_text element) (list_all element_has_text elements) texts in
     let sizes = field_within 1 (element_entry element) (flat_map element_bytes elements) (omega arith) fits in
     rw (entry_is_read element.key [] element.value tests.0 empty_text sizes.0, element_entries elements tests.1 sizes.1)
 
 tomb_entries : (tombs : List Tomb) → IsTrue (list_all tomb_has_text tombs) → length (flat_map tomb_bytes tombs) < 2 ^ 64 → all_some (map entry_of (map tomb_entry tombs)) ≡ Some (map tomb_fields tombs)
 tomb_entries [] texts fits = refl
 tomb_entries (tomb ∷ tombs) texts fits =
-    let tests = both (tomb_has_text tomb) (list_all tomb_has_text tombs) texts in
-    let two = both (is_utf8 tomb.key) (is_utf8 tomb.id) tests.0 in
+    let tests = and_parts (tomb_has_text tomb) (list_all tomb_has_text tombs) texts in
+    let two = and_parts (is_utf8 tomb.key) (is_utf8 tomb.id) tests.0 in
     let sizes = field_within 2 (tomb_entry tomb) (flat_map tomb_bytes tombs) (omega arith) fits in
     rw (entry_is_read tomb.key tomb.id [] two.0 two.1 sizes.0, tomb_entries tombs tests.1 sizes.1)
 

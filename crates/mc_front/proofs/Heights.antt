@@ -3,11 +3,13 @@ use Rattle.std.proofs.Common.{◌≡◌, ℕ, Bool, true, false, not, cond, List
 use Rattle.std.specs.Prelude.{fold, is_some}
 use Rattle.std.specs.List.{list_any, find}
 use Rattle.std.specs.Option.{option_map}
+use Rattle.std.proofs.lemmas.Bool.{and_parts, not-true}
 use Rattle.mc_base.specs.declared.cid.Cid.{Cid}
+use Rattle.mc_base.proofs.Booleans.{none_there}
 use Rattle.mc_model.specs.declared.block.Block.{Block}
 use Rattle.mc_model.specs.Ascending.{is_once}
 use Rattle.mc_model.specs.Front.{same_cid, is_among, is_processed}
-use Rattle.mc_model.proofs.Counts.{cid_is, and_both, not_true}
+use Rattle.mc_model.proofs.Counts.{cid_is}
 use Rattle.mc_model.proofs.Members.{list_any-map}
 use Rattle.mc_keep.specs.declared.rows.HeadRow.{HeadRow}
 use Rattle.mc_keep.specs.Changes.{head_with, head_without}
@@ -38,10 +40,6 @@ height_there c (b ∷ xs) =
       | true ↦ refl
       | false ↦ height_there c xs
     ]
-
-none_there : (h : Option ℕ) → is_some h ≡ false → h ≡ None
-none_there None e = refl
-none_there (Some n) e = absurd (let f : true ≡ false = e in cc)
 
 pub height-append : (c : Cid) (xs ys : List Block) → height (xs ++ ys) c ≡ or_else (height xs c) (height ys c)
 height-append c [] ys = refl
@@ -84,12 +82,12 @@ map-filter keep (b ∷ xs) =
 pub rows_put : (c : Cid) (h : Option ℕ) (xs : List Block) → is_once same_cid (cids_of xs) ≡ true → fold (head_with c) h (map head_row xs) ≡ or_else (height xs c) h
 rows_put c h [] once = refl
 rows_put c h (b ∷ xs) once =
-    let parts = and_both (not (is_among (cids_of xs) b.cid)) (is_once same_cid (cids_of xs)) once in
+    let parts = and_parts (not (is_among (cids_of xs) b.cid)) (is_once same_cid (cids_of xs)) once in
     rows_put c (head_with c h (head_row b)) xs parts.1
     ∙ elim (same_cid c b.cid) as (λ s. same_cid c b.cid ≡ s → or_else (height xs c) (cond s (Some b.delta.priority) h)
     ≡ or_else (option_map (λ (block : Block). block.delta.priority) (cond s (Some b) (find (λ (block : Block). same_cid c block.cid) xs))) h) [
       | true ↦ λ s. ap (λ z. or_else z (Some b.delta.priority))
-          (none_there (height xs c) (height_there c xs ∙ sym (among_cids c xs) ∙ ap (λ (z : Cid). is_among (cids_of xs) z) (cid_is c b.cid s) ∙ not_true (is_among (cids_of xs) b.cid) parts.0))
+          (none_there (height xs c) (height_there c xs ∙ sym (among_cids c xs) ∙ ap (λ (z : Cid). is_among (cids_of xs) z) (cid_is c b.cid s) ∙ not-true (is_among (cids_of xs) b.cid) parts.0))
       | false ↦ λ s. refl
     ] refl
 

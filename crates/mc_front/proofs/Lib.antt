@@ -4,4 +4,3 @@ pub mod Linked
 pub mod Heights
 pub mod Rows
 pub mod Told
-pub mod FirstGroup

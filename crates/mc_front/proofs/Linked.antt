@@ -2,6 +2,7 @@
 use Rattle.std.proofs.Common.{◌≡◌, ◌+◌, ◌≤◌, Bool, true, false, cond, List, [], ◌∷◌, ◌++◌, ◌||◌, sym, refl, ap, ◌∙◌, arith, filter}
 use Rattle.std.specs.Prelude.{fold, if◌then◌else◌}
 use Rattle.std.proofs.lemmas.List.Folds.{list_any-append}
+use Rattle.std.proofs.Math.Bool.{or-false}
 use Rattle.indexmap.specs.IndexSet.{insert_key}
 use Rattle.mc_base.specs.declared.cid.Cid.{Cid}
 use Rattle.mc_model.specs.declared.block.Block.{Block}
@@ -18,18 +19,14 @@ or_join : (a b c : Bool) → ((a || b) || c) ≡ (a || (b || c))
 or_join true b c = refl
 or_join false b c = refl
 
-or_none : (a : Bool) → (a || false) ≡ a
-or_none true = refl
-or_none false = refl
-
 insert_among : (c : Cid) (keys : List Cid) (link : Cid) → is_among (insert_key same_cid keys link) c ≡ (is_among keys c || same_cid c link)
 insert_among c keys link =
     elim (is_among keys link) as (λ t. is_among keys link ≡ t → is_among (if t then keys else keys ++ link ∷ []) c ≡ (is_among keys c || same_cid c link)) [
       | true ↦ λ e. elim (same_cid c link) as (λ s. same_cid c link ≡ s → is_among keys c ≡ (is_among keys c || s)) [
         | true ↦ λ s. there s e
-        | false ↦ λ s. sym (or_none (is_among keys c))
+        | false ↦ λ s. sym (or-false (is_among keys c))
       ] refl
-      | false ↦ λ e. list_any-append (same_cid c) keys (link ∷ []) ∙ ap (λ t. is_among keys c || t) (or_none (same_cid c link))
+      | false ↦ λ e. list_any-append (same_cid c) keys (link ∷ []) ∙ ap (λ t. is_among keys c || t) (or-false (same_cid c link))
     ] refl
   where
     there : same_cid c link ≡ true → is_among keys link ≡ true → is_among keys c ≡ (is_among keys c || true)
@@ -38,14 +35,14 @@ insert_among c keys link =
         here ∙ sym (ap (λ t. t || true) here)
 
 fold_among : (c : Cid) (keys cids : List Cid) → is_among (fold (insert_key same_cid) keys cids) c ≡ (is_among keys c || is_among cids c)
-fold_among c keys [] = sym (or_none (is_among keys c))
+fold_among c keys [] = sym (or-false (is_among keys c))
 fold_among c keys (x ∷ cids) =
     fold_among c (insert_key same_cid keys x) cids
     ∙ ap (λ t. t || is_among cids c) (insert_among c keys x)
     ∙ or_join (is_among keys c) (same_cid c x) (is_among cids c)
 
 links_among : (c : Cid) (keys : List Cid) (blocks : List Block) → is_among (fold with_links keys blocks) c ≡ (is_among keys c || is_linked blocks c)
-links_among c keys [] = sym (or_none (is_among keys c))
+links_among c keys [] = sym (or-false (is_among keys c))
 links_among c keys (b ∷ blocks) =
     links_among c (with_links keys b) blocks
     ∙ ap (λ t. t || is_linked blocks c) (fold_among c keys b.links)

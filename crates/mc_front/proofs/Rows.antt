@@ -5,6 +5,7 @@ use Rattle.std.specs.List.{list_any}
 use Rattle.std.proofs.lemmas.List.Folds.{list_any-append}
 use Rattle.std.proofs.lemmas.List.Elements.{filter_agree}
 use Rattle.std.proofs.lemmas.List.{length-map}
+use Rattle.std.proofs.Math.Bool.{or_comm}
 use Rattle.mc_base.specs.declared.cid.Cid.{Cid}
 use Rattle.mc_model.specs.declared.block.Block.{Block}
 use Rattle.mc_model.specs.Ascending.{is_once}
@@ -30,12 +31,6 @@ either : (a b : Bool) → (a || b) ≡ (a || (b && not a))
 either true b = refl
 either false true = refl
 either false false = refl
-
-turned : (a b : Bool) → (a || b) ≡ (b || a)
-turned true true = refl
-turned true false = refl
-turned false true = refl
-turned false false = refl
 
 shifted : (m l p : Bool) → ((m && not l) && p) ≡ ((p && not l) && m)
 shifted true true true = refl
@@ -86,7 +81,7 @@ counted false false false false apart = refl
 pub leads : (blocks more : List Block) (c : Cid) → leads_to blocks (different_links more) c ≡ is_linked (blocks ++ more) c
 leads blocks more c =
     ap (λ t. t || is_linked blocks c) (linked_among more c)
-    ∙ turned (is_linked more c) (is_linked blocks c)
+    ∙ or_comm (is_linked more c) (is_linked blocks c)
     ∙ sym (list_any-append (λ (block : Block). is_among block.links c) blocks more)
 
 -- the rows are those of the heads

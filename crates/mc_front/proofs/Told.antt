@@ -3,12 +3,13 @@ use Rattle.std.proofs.Common.{◌≡◌, ℕ, ◌+◌, ◌-◌, ◌≤◌, Bool,
 use Rattle.std.specs.Prelude.{◌==◌, IfSome, unwrap_or, if◌then◌else◌}
 use Rattle.std.specs.List.{list_any}
 use Rattle.std.proofs.lemmas.List.{length-map}
+use Rattle.std.proofs.lemmas.Bool.{or_cases, or_parts}
 use Rattle.mc_base.specs.declared.cid.Cid.{Cid}
 use Rattle.mc_model.specs.declared.block.Block.{Block}
 use Rattle.mc_model.specs.Front.{same_cid, is_among, is_processed, is_linked, gaps}
 use Rattle.mc_model.specs.Kept.{Kept, processed}
 use Rattle.mc_model.proofs.Blocks.{is_processed_has}
-use Rattle.mc_model.proofs.Counts.{cid_is, or_cases, or_none}
+use Rattle.mc_model.proofs.Counts.{cid_is}
 use Rattle.mc_keep.specs.declared.rows.HeadRow.{HeadRow}
 use Rattle.mc_keep.specs.declared.rows.Summary.{Summary}
 use Rattle.mc_keep.specs.declared.changes.Changes.{Changes}
@@ -22,7 +23,7 @@ use Rattle.mc_front.proofs.Rows.{heads_are, heads_out, front_fits, gaps_count}
 none_of : (test : Cid → Bool) (xs : List Cid) → list_any test xs ≡ false → (c : Cid) → is_among xs c ≡ true → test c ≡ false
 none_of test [] e c h = absurd (let f : false ≡ true = h in cc)
 none_of test (x ∷ xs) e c h =
-    let parts = or_none (test x) (list_any test xs) e in
+    let parts = or_parts (test x) (list_any test xs) e in
     elim (or_cases (same_cid c x) (is_among xs c) h) [
       | inl s ↦ ap test (cid_is c x s) ∙ parts.0
       | inr k ↦ none_of test xs parts.1 c k

@@ -29,11 +29,11 @@ struct Rows {
 }
 
 /// Adds the marks, the link rows, the heads and the dirty mark by which the keeper, with the blocks processed, has the
-/// front of all its blocks, and answers the number of gaps afterwards. Where `whole`, every gap is wanted: the mark is set
-/// exactly where there is a gap. Else the mark stays. The mark and the blocks are in the same changes.
+/// front of all its blocks, and answers the number of gaps afterwards. Where `whole`, every gap is wanted: the mark is
+/// set exactly where there is a gap. Else the mark stays. The mark and the blocks are in the same changes.
 ///
-/// Each link is looked up once, and so is each block. `Failed` comes only where the keeper's count rose; a refusal leaves
-/// the changes as they were.
+/// Each link is looked up once, and so is each block. `Failed` comes only where the keeper's count rose; a refusal
+/// leaves the changes as they were.
 pub fn front_changes<K: Keeper>(
     keeper: &mut K,
     alloc: Global,
@@ -41,15 +41,21 @@ pub fn front_changes<K: Keeper>(
     whole: bool,
     changes: &mut Changes,
 ) -> Result<u64, KeepError>
-    requires fresh { (changes.old.marks ≡ []) × (changes.old.links ≡ []) × (changes.old.heads_in ≡ []) × (changes.old.heads_out ≡ []) × (changes.old.mark ≡ None) }
+    requires fresh { (changes.old.marks ≡ []) × (changes.old.links ≡ [])
+        × (changes.old.heads_in ≡ []) × (changes.old.heads_out ≡ []) × (changes.old.mark ≡ None) }
     requires new { IfSome (K.told keeper.old) (λ kept. AreNew kept blocks.now) }
     ensures marks { OnOk result (changes.new.marks ≡ map (λ (block : Block). block.cid) blocks.now) }
     ensures fit { OnOk result (IfSome (K.told keeper.old) (λ kept. FrontFits (processed kept) blocks.now changes.new)) }
-    ensures out { OnOk result (IfSome (K.told keeper.old) (λ kept. HeadsOut (processed kept) blocks.now changes.new.heads_out)) }
-    ensures heads { OnOk result (IfSome (K.told keeper.old) (λ kept. changes.new.heads_in ≡ heads_of (processed kept) blocks.now)) }
-    ensures gaps { IfTold (K.told keeper.old) result (λ kept count. count ≡ length (gaps (processed kept ++ blocks.now))) }
-    ensures mark { OnOk result (IfSome (K.told keeper.old) (λ kept. MarkFits whole kept.mark (processed kept ++ blocks.now) changes.new.mark)) }
-    ensures others { (changes.new.store ≡ changes.old.store) × (changes.new.elements ≡ changes.old.elements) × (changes.new.tombs ≡ changes.old.tombs) × (changes.new.values ≡ changes.old.values) }
+    ensures out { OnOk result (IfSome (K.told keeper.old) (λ kept.
+        HeadsOut (processed kept) blocks.now changes.new.heads_out)) }
+    ensures heads { OnOk result (IfSome (K.told keeper.old) (λ kept.
+        changes.new.heads_in ≡ heads_of (processed kept) blocks.now)) }
+    ensures gaps { IfTold (K.told keeper.old) result (λ kept count.
+        count ≡ length (gaps (processed kept ++ blocks.now))) }
+    ensures mark { OnOk result (IfSome (K.told keeper.old) (λ kept.
+        MarkFits whole kept.mark (processed kept ++ blocks.now) changes.new.mark)) }
+    ensures others { (changes.new.store ≡ changes.old.store) × (changes.new.elements ≡ changes.old.elements)
+        × (changes.new.tombs ≡ changes.old.tombs) × (changes.new.values ≡ changes.old.values) }
     ensures refused { OnErr result (changes.new ≡ changes.old) }
     ensures reads { Reads K.Keeper (is_fault result) keeper.old keeper.new }
 {
@@ -66,9 +72,12 @@ pub fn front_changes<K: Keeper>(
 
 fn rows_of<K: Keeper>(keeper: &mut K, alloc: Global, blocks: &[Block]) -> Result<Rows, KeepError>
     ensures marks { IfOk result (λ rows. rows.marks ≡ map (λ (block : Block). block.cid) blocks.now) }
-    ensures links { IfTold (K.told keeper.old) result (λ kept rows. rows.links ≡ unlinked (processed kept) (different_links blocks.now)) }
-    ensures heads_out { IfTold (K.told keeper.old) result (λ kept rows. rows.heads_out ≡ filter (is_among kept.order) rows.links) }
-    ensures heads_in { IfTold (K.told keeper.old) result (λ kept rows. rows.heads_in ≡ rows_of_heads (processed kept) (different_links blocks.now) blocks.now) }
+    ensures links { IfTold (K.told keeper.old) result (λ kept rows.
+        rows.links ≡ unlinked (processed kept) (different_links blocks.now)) }
+    ensures heads_out { IfTold (K.told keeper.old) result (λ kept rows.
+        rows.heads_out ≡ filter (is_among kept.order) rows.links) }
+    ensures heads_in { IfTold (K.told keeper.old) result (λ kept rows.
+        rows.heads_in ≡ rows_of_heads (processed kept) (different_links blocks.now) blocks.now) }
     ensures reads { Reads K.Keeper (is_fault result) keeper.old keeper.new }
 {
     let marks = marks_of(alloc, blocks)?;
@@ -94,11 +103,12 @@ fn marks_of(alloc: Global, blocks: &[Block]) -> Result<List<Cid>, AllocError>
     Ok(marks)
 }
 
-// How many gaps there are with the rows. A link is a gap, or leads to a processed block that is no head: so there are as
-// many more gaps as there are more links and heads, and as many less as there are more processed blocks.
+// How many gaps there are with the rows. A link is a gap, or leads to a processed block that is no head: so there are
+// as many more gaps as there are more links and heads, and as many less as there are more processed blocks.
 fn gaps_after(gaps: u64, rows: &Rows) -> u64
     requires { gaps < 2 ^ 63 }
-    ensures { result ≡ gaps + length rows.now.links - length rows.now.heads_out - (length rows.now.marks - length rows.now.heads_in) }
+    ensures { result ≡ gaps + length rows.now.links - length rows.now.heads_out
+        - (length rows.now.marks - length rows.now.heads_in) }
 {
     let linked = count_of(&rows.marks).saturating_sub(rows.heads_in.as_slice().len() as u64);
     (gaps + count_of(&rows.links))

@@ -22,7 +22,8 @@ pub(crate) fn new_heads<K: Keeper>(
     blocks: &[Block],
     links: &IndexSet<Cid>,
 ) -> Result<List<HeadRow>, KeepError>
-    ensures heads { IfTold (K.told keeper.old) result (λ kept heads. heads ≡ rows_of_heads (processed kept) links.now.keys blocks.now) }
+    ensures heads { IfTold (K.told keeper.old) result (λ kept heads.
+        heads ≡ rows_of_heads (processed kept) links.now.keys blocks.now) }
     ensures reads { Reads K.Keeper (is_fault result) keeper.old keeper.new }
 {
     let mut heads = List::new(alloc);
@@ -44,7 +45,8 @@ fn head_of(block: &Block) -> HeadRow
 }
 
 fn is_led_to<K: Keeper>(keeper: &mut K, links: &IndexSet<Cid>, cid: &Cid) -> Result<bool, Failed>
-    ensures found { IfTold (K.told keeper.old) result (λ kept found. found ≡ leads_to (processed kept) links.now.keys cid.now) }
+    ensures found { IfTold (K.told keeper.old) result (λ kept found.
+        found ≡ leads_to (processed kept) links.now.keys cid.now) }
     ensures reads { Reads K.Keeper (is_err result) keeper.old keeper.new }
 {
     if links.contains(cid) {

@@ -8,6 +8,3 @@ mod links;
 mod mark;
 
 pub use front::front_changes;
-
-#[cfg(test)]
-mod tests;

@@ -1,7 +1,8 @@
 -- Changes that only store and changes that only process fit.
-use Rattle.std.proofs.Common.{◌≡◌, Bool, true, false, List, [], ◌++◌, ◌||◌, map, sym, refl, ap, subst, ◌∙◌}
+use Rattle.std.proofs.Common.{◌≡◌, true, List, [], ◌++◌, map, sym, refl, ap, subst, ◌∙◌}
 use Rattle.std.specs.List.{list_any, list_all}
 use Rattle.std.proofs.lemmas.List.{append-nil}
+use Rattle.std.proofs.Math.Bool.{or-false}
 use Rattle.mc_base.specs.declared.cid.Cid.{Cid}
 use Rattle.mc_model.specs.declared.block.Block.{Block}
 use Rattle.mc_model.specs.declared.block.Stored.{Stored}
@@ -19,17 +20,13 @@ use Rattle.mc_keep.proofs.Processed.{processed_after}
 abbrev storing : List Stored → Changes
 storing blocks = record no_changes { store = blocks }
 
-or_false : (b : Bool) → b ≡ (b || false)
-or_false true = refl
-or_false false = refl
-
 -- nothing is processed, and no row changes
 
 no_rows : (blocks : List Block) (stored : List Stored) → RowsFit blocks [] (storing stored)
 no_rows blocks stored = record {
   elements = record { same = λ test. refl };
   elements_once = refl;
-  tombs = λ key id. ap (λ b. has_tomb b key id) (append-nil blocks) ∙ or_false (has_tomb blocks key id);
+  tombs = λ key id. ap (λ b. has_tomb b key id) (append-nil blocks) ∙ sym (or-false (has_tomb blocks key id));
   tombs_new = refl;
   tombs_once = refl;
   values = λ key. ap (λ b. value_row b key) (append-nil blocks);
@@ -39,7 +36,7 @@ no_rows blocks stored = record {
 
 no_front : (blocks : List Block) (stored : List Stored) → FrontFits blocks [] (storing stored)
 no_front blocks stored = record {
-  links = λ cid. ap (λ b. is_linked b cid) (append-nil blocks) ∙ or_false (is_linked blocks cid);
+  links = λ cid. ap (λ b. is_linked b cid) (append-nil blocks) ∙ sym (or-false (is_linked blocks cid));
   links_new = refl;
   links_once = refl;
   heads = λ cid. ap (λ b. head_at b cid) (append-nil blocks);

@@ -1,4 +1,3 @@
-pub mod Commits
 pub mod ElementTies
 pub mod Processed
 pub mod Fitting

@@ -6,6 +6,7 @@ use Rattle.std.specs.Str.{bytes_eq}
 use Rattle.std.proofs.lemmas.List.Folds.{list_any-append}
 use Rattle.std.proofs.lemmas.List.Concat.{flat_map-append}
 use Rattle.std.proofs.lemmas.List.Elements.{filter-append}
+use Rattle.std.proofs.Math.Bool.{or-false}
 use Rattle.mc_model.specs.declared.block.Block.{Block}
 use Rattle.mc_model.specs.declared.delta.Element.{Element}
 use Rattle.mc_model.specs.Id.{id_text}
@@ -52,8 +53,4 @@ live_rows_any hidden test (r ∷ rows) =
   where
     one : (b : Bool) → list_any test (cond b [] (ranked_of r ∷ [])) ≡ (not b && test (ranked_of r))
     one true = refl
-    one false = or_nothing (test (ranked_of r))
-      where
-        or_nothing : (b : Bool) → (b || false) ≡ b
-        or_nothing true = refl
-        or_nothing false = refl
+    one false = or-false (test (ranked_of r))

@@ -1,8 +1,10 @@
 -- What is processed after changes.
-use Rattle.std.proofs.Common.{◌≡◌, Bool, true, false, cond, List, [], ◌∷◌, ◌++◌, map, Some, ◌&&◌, refl, ap, ◌∙◌}
+use Rattle.std.proofs.Common.{◌≡◌, true, false, cond, List, [], ◌∷◌, ◌++◌, Some, refl, ap, ◌∙◌}
 use Rattle.std.specs.Prelude.{is_some, find}
 use Rattle.std.specs.List.{list_all}
 use Rattle.std.specs.Option.{option_map}
+use Rattle.std.proofs.lemmas.List.{map-append}
+use Rattle.std.proofs.lemmas.Bool.{and_parts}
 use Rattle.mc_base.specs.declared.cid.Cid.{Cid}
 use Rattle.mc_model.specs.declared.block.Stored.{Stored}
 use Rattle.mc_model.specs.Front.{same_cid}
@@ -21,21 +23,13 @@ found_still (s ∷ graph) more cid e =
       | false ↦ λ h. found_still graph more cid h
     ] e
 
-and_parts : (a b : Bool) → (a && b) ≡ true → (a ≡ true) × (b ≡ true)
-and_parts true b e = (refl, e)
-and_parts false b e = absurd (let f : false ≡ true = e in cc)
-
 pub blocks_still : (graph more : List Stored) (cids : List Cid) → list_all (is_stored graph) cids ≡ true → blocks_in (graph ++ more) cids ≡ blocks_in graph cids
 blocks_still graph more [] e = refl
 blocks_still graph more (cid ∷ cids) e =
     let parts = and_parts (is_stored graph cid) (list_all (is_stored graph) cids) e in
     ap (λ bytes. block_under cid bytes ∷ blocks_in (graph ++ more) cids) (found_still graph more cid parts.0) ∙ ap (λ rest. block_in graph cid ∷ rest) (blocks_still graph more cids parts.1)
 
-map-both : {A B : Type 0} (f : A → B) (xs ys : List A) → map f (xs ++ ys) ≡ map f xs ++ map f ys
-map-both f [] ys = refl
-map-both f (x ∷ xs) ys = ap (λ z. f x ∷ z) (map-both f xs ys)
-
 pub processed_after : (kept : Kept) (changes : Changes) → IsKept kept → processed (changed kept changes) ≡ processed kept ++ newly_processed kept changes
 processed_after kept changes sound =
-    map-both (block_in (kept.graph ++ changes.store)) kept.order changes.marks
+    map-append (block_in (kept.graph ++ changes.store)) kept.order changes.marks
     ∙ ap (λ z. z ++ newly_processed kept changes) (blocks_still kept.graph changes.store kept.order sound.stored)

@@ -6,8 +6,8 @@ use Rattle.mc_keep.specs.declared.error.KeepError.{KeepError}
 use Rattle.mc_keep.specs.declared.error.KeepError.TheVariants.{Failed, Memory}
 use Rattle.mc_keep.specs.declared.fuse.Fuse.{Fuse}
 
--- what an answer that is no Ok means: nothing was done, for a cause of the caller's or of the content; the keeper failed; or
--- memory was wanted
+-- what an answer that is no Ok means: nothing was done, for a cause of the caller's or of the content; the keeper
+-- failed; or memory was wanted
 pub data Kind : Type 0 where
   Refusal : Kind
   Fault : Kind

@@ -6,8 +6,9 @@ use Rattle.mc_keep.specs.declared.fuse.Fuse.{Fuse}
 use Rattle.mc_keep.specs.Causes.{StaysQuiet, burnt}
 use Rattle.mc_keep.specs.Plan.{Schedule}
 
--- After reads alone: what is told and the fuse are the same, room and counts don't fall, and what is quiet stays so. Where
--- the last one failed, both counts rose: `failed` is `is_fault result` or `is_err result`, and `false` between two reads.
+-- After reads alone: what is told and the fuse are the same, room and counts don't fall, and what is quiet stays so.
+-- Where the last one failed, both counts rose: `failed` is `is_fault result` or `is_err result`, and `false` between
+-- two reads.
 pub record ReadsAt {S : Type 0} (told : S → Option Kept) (fuse : S → Option Fuse) (spare own faults : S → ℕ) (quiet : S → Bool) (failed : Bool) (old new : S) : Type 0 where
   pub told_same : told new ≡ told old
   pub fuse_same : fuse new ≡ fuse old
@@ -28,7 +29,8 @@ pub record ReservesAt {S : Type 0} (told : S → Option Kept) (fuse : S → Opti
   pub schedule_same : schedule new ≡ schedule old
   pub faults_same : faults new ≡ faults old
 
--- After a commit of so many rows, apart from what is told. A commit that fails by its fuse alone is none of the own count.
+-- After a commit of so many rows, apart from what is told. A commit that fails by its fuse alone is none of the own
+-- count.
 pub record CommitsAt {S : Type 0} (told : S → Option Kept) (fuse : S → Option Fuse) (spare own faults : S → ℕ) (quiet : S → Bool) (rows : ℕ) (failed : Bool) (old new : S) : Type 0 where
   pub silent : told old ≡ None → told new ≡ None
   pub fuse_burnt : fuse new ≡ burnt (fuse old)

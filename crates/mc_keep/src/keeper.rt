@@ -1,5 +1,5 @@
 // Where the blocks of a replica and their rows are kept.
-ghost use Rattle.std.specs.Prelude.{◌≡◌, ◌≤◌, ◌+◌, ℕ, Bool, Option, None, true, IfSome, IfOk, OnOk, OnErr, is_some, slice_get};
+ghost use Rattle.std.specs.Prelude.{◌≡◌, ◌≤◌, ℕ, Bool, Option, None, true, IfSome, IfOk, OnOk, OnErr, is_some, slice_get};
 ghost use Rattle.std.specs.Result.{is_err};
 ghost use Rattle.std.specs.Option.{option_map};
 ghost use Rattle.std.specs.List.{position};
@@ -25,9 +25,10 @@ use std::sync::Wait;
 
 /// Where the blocks of a replica and the rows made of them are kept.
 ///
-/// A keeper that tells stands for the stored blocks, the order of the processed ones, and the dirty mark; its tables are
-/// then exactly those that the definitions give for these. A keeper that does not tell owes no content, and never tells. No call but
-/// `commit` changes what is told, also where it fails. `Failed` comes only where the keeper's count rose in the call.
+/// A keeper that tells stands for the stored blocks, the order of the processed ones, and the dirty mark; its tables
+/// are then exactly those that the definitions give for these. A keeper that does not tell owes no content, and never
+/// tells. No call but `commit` changes what is told, also where it fails. `Failed` comes only where the keeper's count
+/// rose in the call.
 pub trait Keeper: Counted {
     ghost use Rattle.mc_keep.specs.declared.fuse.Fuse.{Fuse};
 
@@ -71,7 +72,7 @@ pub trait Keeper: Counted {
 
     /// The bytes of a stored block, or none where it is not stored, read by another thread beside the owner's calls.
     /// `Failed` comes only where the desk's count rose.
-    fn peer_block<W: Wait + Sync>(
+    fn peer_block<W: Wait>(
         &self,
         alloc: Global,
         desk: &mut Self::Desk,
@@ -80,7 +81,9 @@ pub trait Keeper: Counted {
     ) -> Result<Option<Bytes>, KeepError>
         ensures row { IfTold (told self.now) result (λ kept bytes. bytes ≡ bytes_at kept.graph cid.now) }
         ensures planned { DeskReadsAsPlanned (desk_schedule desk.old) (desk_schedule desk.new) (is_fault result) }
-        ensures quiet { quiet self.now ≡ true → StaysQuiet (quiet_desk desk.old) (quiet_desk desk.new) (Self.Desk.faults desk.old) (Self.Desk.faults desk.new) }
+        ensures quiet { quiet self.now ≡ true →
+            StaysQuiet (quiet_desk desk.old) (quiet_desk desk.new)
+            (Self.Desk.faults desk.old) (Self.Desk.faults desk.new) }
         ensures cause { KeepCause (Self.Desk.faults desk.old) (Self.Desk.faults desk.new) result };
 
     /// How many blocks are processed and stored, how many gaps there are, and the mark.
@@ -128,7 +131,8 @@ pub trait Keeper: Counted {
 
     /// All element rows of a key, also of hidden elements, ascending by the block and then by the value.
     fn elements(&mut self, alloc: Global, key: &str) -> Result<List<ElementRow>, KeepError>
-        ensures row { IfTold (told self.old) result (λ kept rows. Ascends element_cmp rows (element_rows_of (processed kept) key.now)) }
+        ensures row { IfTold (told self.old) result (λ kept rows.
+            Ascends element_cmp rows (element_rows_of (processed kept) key.now)) }
         ensures reads { ReadsAt told fuse spare own Self.faults quiet (is_fault result) self.old self.new }
         ensures planned { ReadsAsPlanned (schedule self.old) (schedule self.new) (is_fault result) };
 
@@ -144,8 +148,8 @@ pub trait Keeper: Counted {
         ensures reads { ReadsAt told fuse spare own Self.faults quiet (is_fault result) self.old self.new }
         ensures planned { ReadsAsPlanned (schedule self.old) (schedule self.new) (is_fault result) };
 
-    /// A processed block with a live element of the key that has the value and the priority of the key's value row, or none
-    /// where the key has no value. Which of several it is, is the keeper's choice.
+    /// A processed block with a live element of the key that has the value and the priority of the key's value row, or
+    /// none where the key has no value. Which of several it is, is the keeper's choice.
     fn holder(&mut self, alloc: Global, key: &str) -> Result<Option<Cid>, KeepError>
         ensures row { IfTold (told self.old) result (λ kept cid. IsHolder (processed kept) key.now cid) }
         ensures reads { ReadsAt told fuse spare own Self.faults quiet (is_fault result) self.old self.new }
@@ -153,7 +157,8 @@ pub trait Keeper: Counted {
 
     /// Whether a key has a value.
     fn has(&mut self, key: &str) -> Result<bool, Failed>
-        ensures row { IfTold (told self.old) result (λ kept found. found ≡ is_some (value_row (processed kept) key.now)) }
+        ensures row { IfTold (told self.old) result (λ kept found.
+            found ≡ is_some (value_row (processed kept) key.now)) }
         ensures reads { ReadsAt told fuse spare own Self.faults quiet (is_err result) self.old self.new }
         ensures planned { ReadsAsPlanned (schedule self.old) (schedule self.new) (is_err result) };
 
@@ -173,9 +178,9 @@ pub trait Keeper: Counted {
         ensures ok { OnOk result (rows ≤ spare self.new) }
         ensures reserves { ReservesAt told fuse spare own Self.faults quiet schedule self.old self.new };
 
-    /// Makes the changes, or fails before or after them, wholly or not at all. It takes no memory. The changes are those
-    /// that the definitions give: the blocks to store are good and new, those to process are stored and not processed, and
-    /// the rows turn the tables of the processed blocks into those with the new ones.
+    /// Makes the changes, or fails before or after them, wholly or not at all. It takes no memory. The changes are
+    /// those that the definitions give: the blocks to store are good and new, those to process are stored and not
+    /// processed, and the rows turn the tables of the processed blocks into those with the new ones.
     fn commit(&mut self, changes: Changes) -> Result<(), Failed>
         requires room { row_count changes ≤ spare self.old }
         requires fits { IfSome (told self.old) (λ kept. ChangesFit kept changes) }
@@ -183,10 +188,12 @@ pub trait Keeper: Counted {
         ensures lasts { OnOk result (fires (fuse self.old) ≡ None) }
         ensures failed { OnErr result (Told (told self.old) (told self.new) (λ kept new.
             CommitFails (fires (fuse self.old)) (Rose (own self.old) (own self.new)) kept (changed kept changes) new)) }
-        ensures commits { CommitsAt told fuse spare own Self.faults quiet (row_count changes) (is_err result) self.old self.new }
-        ensures planned { CommitsAsPlanned (schedule self.old) (schedule self.new) (is_err result) (told self.old) (told self.new) (option_map (λ kept. changed kept changes) (told self.old)) };
+        ensures commits { CommitsAt told fuse spare own Self.faults quiet
+            (row_count changes) (is_err result) self.old self.new }
+        ensures planned { CommitsAsPlanned (schedule self.old) (schedule self.new) (is_err result)
+            (told self.old) (told self.new) (option_map (λ kept. changed kept changes) (told self.old)) };
 
-    /// What is told is sound: no block is stored or processed twice, each stored block is good, and each processed block
-    /// is stored.
+    /// What is told is sound: no block is stored or processed twice, each stored block is good, and each processed
+    /// block is stored.
     ghost sound: { (keeper : Self) → IfSome (told keeper) IsKept };
 }

@@ -14,6 +14,6 @@ pub use error::KeepError;
 pub use fuse::Fuse;
 pub use keeper::Keeper;
 pub use keepers::{KeeperPlan, Keepers};
-pub use laws::{changes_fit, commits_are_events};
+pub use laws::{changes_fit, commits_are_events, ties_are_equal};
 pub use mc_model::Stored;
 pub use rows::{ElementRow, HeadRow, Summary, TombRow, ValueRow};

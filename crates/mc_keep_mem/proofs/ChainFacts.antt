@@ -1,22 +1,15 @@
 -- Chains of nodes: what one more node leaves of them.
-use Rattle.std.proofs.Common.{◌≡◌, ℕ, zero, suc, ◌+◌, ◌<◌, ◌≤◌, arith, Bool, true, false, cond, ◌&&◌, List, [], ◌∷◌, ◌++◌, map, length, Option, Some, None, sym, refl, ap, ◌∙◌, subst, length-append, ltb, get_or}
+use Rattle.std.proofs.Common.{◌≡◌, ℕ, zero, suc, ◌+◌, ◌<◌, ◌≤◌, arith, Bool, true, false, cond, List, [], ◌∷◌, ◌++◌, map, length, Option, Some, None, sym, refl, ap, ◌∙◌, subst, length-append, ltb, get_or}
 use Rattle.std.specs.Prelude.{slice_get, nat_lt}
 use Rattle.std.specs.Str.{bytes_eq}
 use Rattle.std.specs.HashMap.{HashMap, get_by_text}
 use Rattle.std.specs.declared.string.String.{String}
 use Rattle.std.proofs.lemmas.Bool.Decides.{nat_tests}
+use Rattle.std.proofs.lemmas.Bool.{and_from, and_parts}
+use Rattle.std.proofs.lemmas.Slice.Eq.{bytes_eq-Decides}
 use Rattle.mc_keep.specs.declared.rows.ElementRow.{ElementRow}
 use Rattle.mc_keep_mem.specs.declared.elements.Node.{Node}
-use Rattle.mc_keep_mem.proofs.ValueFacts.{bytes_same}
 use Rattle.mc_keep_mem.specs.Chains.{is_before, lead_back, chain, row_of_node, rows_in, AreChains}
-
-and_parts : (a b : Bool) → (a && b) ≡ true → (a ≡ true) × (b ≡ true)
-and_parts true b e = (refl, e)
-and_parts false b e = absurd (let f : false ≡ true = e in cc)
-
-both : (a b : Bool) → a ≡ true → b ≡ true → (a && b) ≡ true
-both true b e f = f
-both false b e f = absurd (let g : false ≡ true = e in cc)
 
 before_later : (place later : ℕ) (at : Option ℕ) → place ≤ later → is_before place at ≡ true → is_before later at ≡ true
 before_later place later None l e = refl
@@ -34,10 +27,10 @@ leads_back first (suc place) (n ∷ nodes) node back got =
 
 -- one more node leads back too
 pub back_push : (first : ℕ) (nodes : List Node) (node : Node) → lead_back first nodes ≡ true → is_before (first + length nodes) node.before ≡ true → lead_back first (nodes ++ node ∷ []) ≡ true
-back_push first [] node back before = both (is_before first node.before) true (subst (λ z. is_before z node.before ≡ true) (omega arith) before) refl
+back_push first [] node back before = and_from (is_before first node.before) true (subst (λ z. is_before z node.before ≡ true) (omega arith) before) refl
 back_push first (n ∷ nodes) node back before =
     let parts = and_parts (is_before first n.before) (lead_back (first + 1) nodes) back in
-    both (is_before first n.before) (lead_back (first + 1) (nodes ++ node ∷ [])) parts.0
+    and_from (is_before first n.before) (lead_back (first + 1) (nodes ++ node ∷ [])) parts.0
     (back_push (first + 1) nodes node parts.1 (subst (λ z. is_before z node.before ≡ true) (omega arith) before))
 
 get_push : {A : Type 0} (xs : List A) (y : A) (i : ℕ) → i < length xs → slice_get (xs ++ y ∷ []) i ≡ slice_get xs i
@@ -116,7 +109,7 @@ module _ {Y S : Type 0} (nodes : List Node) (lasts new_lasts : HashMap (String Y
 
   at_key : (other : List ℕ) → bytes_eq key other ≡ true → map (row_of_node other) (chain (nodes ++ node ∷ []) (suc (length nodes)) (Some (length nodes))) ≡ row_of_node key node ∷ rows_in nodes lasts other
   at_key other e =
-      let same : key ≡ other = bytes_same key other e in
+      let same : key ≡ other = (bytes_eq-Decides key other).0 e in
       ap (λ found. map (row_of_node other) (next nodes chains.back (nodes ++ node ∷ []) (length nodes) found)) (get_last nodes node)
       ∙ ap (λ rest. row_of_node other node ∷ map (row_of_node other) rest) (chain_push nodes chains.back node (length nodes) node.before before_end ∙ ap (chain nodes (length nodes)) (leads ∙ ap (get_by_text lasts) same))
       ∙ ap (λ z. row_of_node z node ∷ rows_in nodes lasts other) (sym same)
@@ -151,10 +144,6 @@ fewer_steps place (Some at) e = let below = is_below place at e in omega (arith,
 pub chain_done : (nodes : List Node) (most : ℕ) → chain nodes most None ≡ []
 chain_done nodes zero = refl
 chain_done nodes (suc most) = refl
-
-pub chain_stops : (nodes : List Node) (most place : ℕ) → slice_get nodes place ≡ None → chain nodes most (Some place) ≡ []
-chain_stops nodes zero place got = refl
-chain_stops nodes (suc most) place got = ap (λ found. elim found as (λ _. List Node) [ None ↦ [] | Some node ↦ node ∷ chain nodes most node.before ]) got
 
 -- one step of a walk
 pub chain_step : (nodes : List Node) → lead_back 0 nodes ≡ true → (most place : ℕ) (node : Node) → is_before most (Some place) ≡ true → slice_get nodes place ≡ Some node

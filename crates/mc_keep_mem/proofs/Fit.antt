@@ -3,7 +3,9 @@ use Rattle.std.proofs.Common.{◌≡◌, ℕ, Bool, true, false, not, cond, List
 use Rattle.std.specs.Prelude.{fold}
 use Rattle.std.specs.List.{list_any}
 use Rattle.std.specs.Str.{bytes_eq}
+use Rattle.std.proofs.Math.Bool.{or-false}
 use Rattle.mc_base.specs.declared.cid.Cid.{Cid}
+use Rattle.mc_base.proofs.Booleans.{or_after}
 use Rattle.mc_model.specs.Front.{same_cid, is_among}
 use Rattle.mc_model.proofs.Counts.{cid_is}
 use Rattle.mc_keep.specs.declared.rows.ElementRow.{ElementRow}
@@ -15,47 +17,21 @@ use Rattle.mc_keep_mem.specs.Tombs.{with_tomb}
 
 -- rows that are put in turn
 
-or_shift : (a b c : Bool) → (a || (b || c)) ≡ (b || (a || c))
-or_shift true true c = refl
-or_shift true false c = refl
-or_shift false true c = refl
-or_shift false false c = refl
-
 pub elements_put : (test : ElementRow → Bool) (key : List ℕ) (rows new : List ElementRow)
     → list_any test (fold (with_element key) rows new) ≡ (list_any test rows || list_any (λ row. bytes_eq row.key key && test row) new)
-elements_put test key rows [] = or_no (list_any test rows)
-  where
-    or_no : (a : Bool) → a ≡ (a || false)
-    or_no true = refl
-    or_no false = refl
+elements_put test key rows [] = sym (or-false (list_any test rows))
 elements_put test key rows (row ∷ new) =
     elements_put test key (with_element key rows row) new
     ∙ ap (λ t. t || list_any (λ r. bytes_eq r.key key && test r) new) (one (bytes_eq row.key key))
-    ∙ last (bytes_eq row.key key && test row) (list_any test rows) (list_any (λ r. bytes_eq r.key key && test r) new)
+    ∙ or_after (bytes_eq row.key key && test row) (list_any test rows) (list_any (λ r. bytes_eq r.key key && test r) new)
   where
     one : (b : Bool) → list_any test (cond b (row ∷ rows) rows) ≡ ((b && test row) || list_any test rows)
     one true = refl
     one false = refl
 
-    last : (a b c : Bool) → ((a || b) || c) ≡ (b || (a || c))
-    last true true c = refl
-    last true false c = refl
-    last false true c = refl
-    last false false c = refl
-
 pub tombs_put : (key id : List ℕ) (there : Bool) (rows : List TombRow) → fold (with_tomb key id) there rows ≡ (there || has_tomb_row rows key id)
-tombs_put key id there [] = or_no there
-  where
-    or_no : (a : Bool) → a ≡ (a || false)
-    or_no true = refl
-    or_no false = refl
-tombs_put key id there (row ∷ rows) = tombs_put key id (is_tomb_row key id row || there) rows ∙ swap (is_tomb_row key id row) there (has_tomb_row rows key id)
-  where
-    swap : (a b c : Bool) → ((a || b) || c) ≡ (b || (a || c))
-    swap true true c = refl
-    swap true false c = refl
-    swap false true c = refl
-    swap false false c = refl
+tombs_put key id there [] = sym (or-false there)
+tombs_put key id there (row ∷ rows) = tombs_put key id (is_tomb_row key id row || there) rows ∙ or_after (is_tomb_row key id row) there (has_tomb_row rows key id)
 
 -- links and gaps that are put in turn
 
@@ -74,11 +50,7 @@ closed_all cid there (mark ∷ marks) = closed_all cid (not (same_cid cid mark) 
     swap false false c = refl
 
 pub opened_all : (order : List Cid) (cid : Cid) (there : Bool) (links : List Cid) → fold (opened_by order cid) there links ≡ (there || (is_among links cid && not (is_among order cid)))
-opened_all order cid there [] = or_no there
-  where
-    or_no : (a : Bool) → a ≡ (a || false)
-    or_no true = refl
-    or_no false = refl
+opened_all order cid there [] = sym (or-false there)
 opened_all order cid there (link ∷ links) =
     opened_all order cid ((same_cid cid link && not (is_among order link)) || there) links
     ∙ ap (λ t. (t || there) || (is_among links cid && not (is_among order cid))) (at_link (same_cid cid link) refl)

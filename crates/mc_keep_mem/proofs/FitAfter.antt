@@ -7,6 +7,7 @@ use Rattle.std.specs.declared.hash.BuildHasher as build
 use Rattle.std.specs.declared.hash.Hasher as hash
 use Rattle.std.proofs.lemmas.List.Folds.{list_any-append}
 use Rattle.std.proofs.lemmas.List.Concat.{flat_map-append}
+use Rattle.std.proofs.Math.Bool.{and-true}
 use Rattle.mc_base.specs.declared.cid.Cid.{Cid}
 use Rattle.mc_model.specs.declared.block.Block.{Block}
 use Rattle.mc_model.specs.SameMembers.{SameMembers}
@@ -19,12 +20,10 @@ use Rattle.mc_keep.specs.declared.rows.ElementRow.{ElementRow}
 use Rattle.mc_keep.specs.declared.changes.Changes.{Changes}
 use Rattle.mc_keep.specs.Changes.{changed, newly_processed, has_tomb_row, values_after, head_after}
 use Rattle.mc_keep.specs.Tables.{element_row, element_rows, element_rows_of, ChangesFit}
-use Rattle.mc_keep.proofs.Commits.{commit_sound}
 use Rattle.mc_keep_mem.specs.declared.tables.Tables.{Tables}
 use Rattle.mc_keep_mem.specs.Chains.{rows_in}
 use Rattle.mc_keep_mem.specs.Front.{closed_by}
 use Rattle.mc_keep_mem.specs.Fits.{kept_in, tomb_in, Fits, Applied}
-use Rattle.mc_keep.proofs.Processed.{processed_after}
 use Rattle.mc_keep_mem.proofs.Fit.{elements_put, tombs_put, closed_all, opened_all}
 
 -- the rows of a key over further blocks
@@ -53,12 +52,13 @@ gap_more true false false links = refl
 gap_more false order marks true = refl
 gap_more false order marks false = refl
 
-module _ {S X : Type 0} {g : build.Ghosts S X} {h : hash.Ghosts X} (old new : Tables S X g h) (changes : Changes) (fits : Fits old) (applied : Applied old new changes) (meet : ChangesFit (kept_in old) changes) where
+module _ {S X : Type 0} {g : build.Ghosts S X} {h : hash.Ghosts X} (old new : Tables S X g h) (changes : Changes) (fits : Fits old) (applied : Applied old new changes) (meet : ChangesFit (kept_in old) changes)
+    (sound_after : IsKept (changed (kept_in old) changes)) (processed_after : processed (changed (kept_in old) changes) ≡ processed (kept_in old) ++ newly_processed (kept_in old) changes) where
   told_after : kept_in new ≡ changed (kept_in old) changes
   told_after = λ i. record { graph = applied.graph i; order = applied.order i; mark = applied.mark i }
 
   blocks_after : processed (kept_in new) ≡ processed (kept_in old) ++ newly_processed (kept_in old) changes
-  blocks_after = ap processed told_after ∙ processed_after (kept_in old) changes fits.kept
+  blocks_after = ap processed told_after ∙ processed_after
 
   elements_after : (key : List ℕ) → SameMembers (rows_in new.elements.nodes.items new.elements.lasts key) (element_rows_of (processed (kept_in new)) key)
   elements_after key = record {
@@ -86,16 +86,12 @@ module _ {S X : Type 0} {g : build.Ghosts S X} {h : hash.Ghosts X} (old new : Ta
   links_after : (cid : Cid) → is_among new.links.keys cid ≡ is_linked (processed (kept_in new)) cid
   links_after cid =
       applied.links cid ∙ opened_all [] cid (is_among old.links.keys cid) changes.links
-      ∙ ap (λ t. t || (is_among changes.links cid && true)) (fits.links cid) ∙ ap (λ t. is_linked (processed (kept_in old)) cid || t) (and_yes (is_among changes.links cid))
+      ∙ ap (λ t. t || (is_among changes.links cid && true)) (fits.links cid) ∙ ap (λ t. is_linked (processed (kept_in old)) cid || t) (and-true (is_among changes.links cid))
       ∙ sym (meet.front.links cid) ∙ ap (λ z. is_linked z cid) (sym blocks_after)
-    where
-      and_yes : (a : Bool) → (a && true) ≡ a
-      and_yes true = refl
-      and_yes false = refl
 
   pub fits_after : Fits new
   fits_after = record {
-    kept = subst IsKept (sym told_after) (commit_sound (kept_in old) changes fits.kept meet.store meet.marks);
+    kept = subst IsKept (sym told_after) sound_after;
     elements = elements_after;
     tombs = λ key id.
         applied.tombs key id ∙ tombs_put key id (tomb_in old key id) changes.tombs ∙ ap (λ t. t || has_tomb_row changes.tombs key id) (fits.tombs key id)

@@ -4,7 +4,9 @@ use Rattle.std.specs.Prelude.{filter, unwrap_or}
 use Rattle.std.specs.List.{list_any, find, AllByRecursion, IsDistinct}
 use Rattle.std.specs.Map.{lookup}
 use Rattle.std.specs.Option.{option_map}
+use Rattle.std.proofs.lemmas.Bool.{or_cases, or_left, or_right, and_parts, and_from, not-true}
 use Rattle.mc_base.specs.declared.cid.Cid.{Cid}
+use Rattle.mc_base.proofs.Booleans.{same_truth}
 use Rattle.mc_model.specs.declared.block.Block.{Block}
 use Rattle.mc_model.specs.declared.block.Stored.{Stored}
 use Rattle.mc_model.specs.Ascending.{Ascends}
@@ -13,10 +15,10 @@ use Rattle.mc_model.specs.Kept.{Kept, block_in, blocks_in, processed}
 use Rattle.mc_model.specs.SameMembers.{SameMembers}
 use Rattle.mc_model.proofs.Ascending.{ascends_is}
 use Rattle.mc_model.proofs.Blocks.{block_in_cid}
-use Rattle.mc_model.proofs.Counts.{cid_is, cid_itself, or_cases, or_left, or_right, and_both, both_and, not_true}
+use Rattle.mc_model.proofs.Counts.{cid_is, cid_itself}
 use Rattle.mc_model.proofs.Members.{list_any-map, list_any-filter}
+use Rattle.mc_model.proofs.Heads.{head_tied}
 use Rattle.mc_keep.specs.HeadOrder.{head_total}
-use Rattle.mc_keep_mem.proofs.HeadFacts.{head_tied}
 
 abbrev cids : List Head → List Cid
 cids entries = map (λ (head : Head). head.0) entries
@@ -80,7 +82,7 @@ block_any all test c height (b ∷ blocks) free t e =
           let first : c ≡ b.cid = cid_is c b.cid s in
           let second : b.delta.priority ≡ height = ap (λ z. unwrap_or z 0) h in
           or_left (is_head all test b) (list_any (is_head all test) blocks)
-          (both_and (not (is_linked all b.cid)) (test (head_of b)) (ap (λ (z : Cid). not (is_linked all z)) (sym first) ∙ free)
+          (and_from (not (is_linked all b.cid)) (test (head_of b)) (ap (λ (z : Cid). not (is_linked all z)) (sym first) ∙ free)
           (ap (λ (z : Cid). test (z, b.delta.priority)) (sym first) ∙ ap (λ z. test (c, z)) second ∙ t))
       | false ↦ λ s h. or_right (is_head all test b) (list_any (is_head all test) blocks) (block_any all test c height blocks free t h)
     ] refl e
@@ -109,12 +111,6 @@ height_is graph (x ∷ order) c e =
       | false ↦ λ s h. height_is graph order c h
     ] refl e
 
-same_truth : (a b : Bool) → (a ≡ true → b ≡ true) → (b ≡ true → a ≡ true) → a ≡ b
-same_truth true true f g = refl
-same_truth true false f g = sym (f refl)
-same_truth false true f g = g refl
-same_truth false false f g = refl
-
 -- the blocks that no block links to, as heads
 abbrev pub open_heads : List Block → List Head
 open_heads blocks = map head_of (filter (λ (block : Block). not (is_linked blocks block.cid)) blocks)
@@ -134,8 +130,8 @@ module _ (kept : Kept) (entries : List Head) (distinct : IsDistinct same_cid (ci
       let stands = any_stands kept.graph kept.order (is_head (processed kept) test) e in
       let named : (block_in kept.graph stands.cid).cid ≡ stands.cid = block_in_cid kept.graph stands.cid in
       let height : ℕ = (block_in kept.graph stands.cid).delta.priority in
-      let parts = and_both (not (is_linked (processed kept) (block_in kept.graph stands.cid).cid)) (test (head_of (block_in kept.graph stands.cid))) stands.passes in
-      let free : is_linked (processed kept) stands.cid ≡ false = not_true (is_linked (processed kept) stands.cid) (ap (λ (z : Cid). not (is_linked (processed kept) z)) (sym named) ∙ parts.0) in
+      let parts = and_parts (not (is_linked (processed kept) (block_in kept.graph stands.cid).cid)) (test (head_of (block_in kept.graph stands.cid))) stands.passes in
+      let free : is_linked (processed kept) stands.cid ≡ false = not-true (is_linked (processed kept) stands.cid) (ap (λ (z : Cid). not (is_linked (processed kept) z)) (sym named) ∙ parts.0) in
       found_any test stands.cid height entries
       (heights stands.cid ∙ ap (λ (s : Bool). cond s None (height_in (processed kept) stands.cid)) free ∙ height_is kept.graph kept.order stands.cid stands.within)
       (ap (λ (z : Cid). test (z, height)) (sym named) ∙ parts.1)

@@ -1,5 +1,5 @@
 -- The table of stored blocks against the list of them.
-use Rattle.std.proofs.Common.{◌≡◌, ℕ, Bool, true, false, not, cond, ◌||◌, ◌&&◌, List, [], ◌∷◌, ◌++◌, map, Option, Some, None, sym, refl, ap, ◌∙◌, append_assoc}
+use Rattle.std.proofs.Common.{◌≡◌, ℕ, true, false, not, cond, ◌||◌, List, [], ◌∷◌, ◌++◌, map, Some, None, sym, refl, ap, ◌∙◌, append_assoc}
 use Rattle.std.specs.Prelude.{find, is_some}
 use Rattle.std.specs.Option.{option_map}
 use Rattle.std.specs.Map.{lookup}
@@ -7,13 +7,15 @@ use Rattle.std.specs.HashMap.{HashMap, get}
 use Rattle.std.specs.Prelude.{fold}
 use Rattle.std.specs.List.{list_any}
 use Rattle.std.proofs.lemmas.List.{append-nil}
+use Rattle.std.proofs.lemmas.Bool.{not-true, or_parts, and_parts}
 use Rattle.indexmap.proofs.MapLemmas.{absent_from_lookup, insert_entry-absent}
 use Rattle.mc_model.specs.Ascending.{is_once}
-use Rattle.mc_keep_mem.proofs.CidFacts.{same_cid-symm}
 use Rattle.mc_base.specs.declared.cid.Cid.{Cid}
+use Rattle.mc_base.proofs.Booleans.{none_there}
 use Rattle.mc_model.specs.declared.block.Stored.{Stored}
 use Rattle.mc_model.specs.Front.{same_cid}
 use Rattle.mc_model.specs.Kept.{bytes_at, is_stored, cids_of}
+use Rattle.mc_model.proofs.Counts.{same_cid-symm}
 use Rattle.mc_keep_mem.specs.Graph.{stored_of, graph_of, insert_stored}
 
 pub bytes_at-map : (cid : Cid) (entries : List (Cid × List ℕ)) → bytes_at (map stored_of entries) cid ≡ lookup (same_cid cid) entries
@@ -32,28 +34,12 @@ map-push : {A B : Type 0} (f : A → B) (xs : List A) (x : A) → map f (xs ++ x
 map-push f [] x = refl
 map-push f (y ∷ xs) x = ap (λ rest. f y ∷ rest) (map-push f xs x)
 
-none_from : {A : Type 0} (found : Option A) → is_some found ≡ false → found ≡ None
-none_from None e = refl
-none_from (Some x) e = absurd (let f : true ≡ false = e in cc)
-
 -- a new block goes last
 push_new : (entries : List (Cid × List ℕ)) (stored : Stored) → is_stored (map stored_of entries) stored.cid ≡ false → map stored_of (insert_stored entries stored) ≡ map stored_of entries ++ stored ∷ []
 push_new entries stored absent =
-    let none : lookup (same_cid stored.cid) entries ≡ None = none_from (lookup (same_cid stored.cid) entries) (ap is_some (sym (bytes_at-map stored.cid entries)) ∙ absent) in
+    let none : lookup (same_cid stored.cid) entries ≡ None = none_there (lookup (same_cid stored.cid) entries) (ap is_some (sym (bytes_at-map stored.cid entries)) ∙ absent) in
     ap (map stored_of) (insert_entry-absent same_cid stored.cid stored.bytes entries (absent_from_lookup (same_cid stored.cid) entries none))
     ∙ map-push stored_of entries (stored.cid, stored.bytes)
-
-and_parts : (a b : Bool) → (a && b) ≡ true → (a ≡ true) × (b ≡ true)
-and_parts true b e = (refl, e)
-and_parts false b e = absurd (let f : false ≡ true = e in cc)
-
-neither : (a b : Bool) → (a || b) ≡ false → (a ≡ false) × (b ≡ false)
-neither true b e = absurd (let f : true ≡ false = e in cc)
-neither false b e = (refl, e)
-
-not_true : (a : Bool) → not a ≡ true → a ≡ false
-not_true true e = absurd (let f : false ≡ true = e in cc)
-not_true false e = refl
 
 -- what is stored once one more block is
 stored_more : (graph : List Stored) (stored : Stored) (cid : Cid) → is_stored graph cid ≡ false → same_cid cid stored.cid ≡ false → is_stored (graph ++ stored ∷ []) cid ≡ false
@@ -69,8 +55,8 @@ still_new : (graph : List Stored) (first : Stored) (store : List Stored) → lis
     → list_any (λ (s : Stored). is_stored (graph ++ first ∷ []) s.cid) store ≡ false
 still_new graph first [] e f = refl
 still_new graph first (s ∷ store) e f =
-    let here = neither (is_stored graph s.cid) (list_any (λ (s : Stored). is_stored graph s.cid) store) e in
-    let other = neither (same_cid first.cid s.cid) (list_any (same_cid first.cid) (cids_of store)) f in
+    let here = or_parts (is_stored graph s.cid) (list_any (λ (s : Stored). is_stored graph s.cid) store) e in
+    let other = or_parts (same_cid first.cid s.cid) (list_any (same_cid first.cid) (cids_of store)) f in
     ap (λ t. t || list_any (λ (s : Stored). is_stored (graph ++ first ∷ []) s.cid) store) (stored_more graph first s.cid here.0 (same_cid-symm s.cid first.cid ∙ other.0))
     ∙ still_new graph first store here.1 other.1
 
@@ -79,10 +65,10 @@ pub insert_new : (entries : List (Cid × List ℕ)) (store : List Stored) → li
     → map stored_of (fold insert_stored entries store) ≡ map stored_of entries ++ store
 insert_new entries [] new once = sym (append-nil (map stored_of entries))
 insert_new entries (stored ∷ store) new once =
-    let here = neither (is_stored (map stored_of entries) stored.cid) (list_any (λ (s : Stored). is_stored (map stored_of entries) s.cid) store) new in
+    let here = or_parts (is_stored (map stored_of entries) stored.cid) (list_any (λ (s : Stored). is_stored (map stored_of entries) s.cid) store) new in
     let rest = and_parts (not (list_any (same_cid stored.cid) (cids_of store))) (is_once same_cid (cids_of store)) once in
     let pushed = push_new entries stored here.0 in
     insert_new (insert_stored entries stored) store
-    (ap (λ g. list_any (λ (s : Stored). is_stored g s.cid) store) pushed ∙ still_new (map stored_of entries) stored store here.1 (not_true (list_any (same_cid stored.cid) (cids_of store)) rest.0)) rest.1
+    (ap (λ g. list_any (λ (s : Stored). is_stored g s.cid) store) pushed ∙ still_new (map stored_of entries) stored store here.1 (not-true (list_any (same_cid stored.cid) (cids_of store)) rest.0)) rest.1
     ∙ ap (λ g. g ++ store) pushed
     ∙ append_assoc (map stored_of entries) (stored ∷ []) store

@@ -1,33 +1,19 @@
 -- Rows of heads in order.
-use Rattle.std.proofs.Common.{◌≡◌, List, [], ◌∷◌, sym, refl, ◌∙◌, subst}
+use Rattle.std.proofs.Common.{◌≡◌, List, [], ◌∷◌, sym, ◌∙◌, subst}
 use Rattle.std.specs.List.{dedup, AllByRecursion}
 use Rattle.std.specs.List.Retain.{IsFiltered, DiffersFromLast}
 use Rattle.std.specs.List.Sorted.{IsSorted, IsPermutation, IsStrictlySortedBy}
-use Rattle.std.specs.Cmp.Lexicographic.{slice_cmp}
-use Rattle.std.specs.Ordering.{eq_by_cmp, nat_cmp, ordering_then}
-use Rattle.std.specs.declared.cmp.Ordering.{Ordering}
-use Rattle.std.specs.declared.cmp.Ordering.TheVariants.{Less, Equal, Greater}
-use Rattle.std.specs.FinMap.{nat_cmp-IsAntisymmetric, slice_cmp-IsAntisymmetric}
+use Rattle.std.specs.Ordering.{eq_by_cmp}
+use Rattle.std.specs.declared.cmp.Ordering.TheVariants.{Less, Equal}
 use Rattle.std.proofs.lemmas.List.Filters.{dedup_is}
 use Rattle.mc_model.specs.Ascending.{Ascends}
-use Rattle.mc_model.specs.Front.{Head, head_cmp}
+use Rattle.mc_model.specs.Front.{head_cmp}
 use Rattle.mc_model.proofs.Members.{list_any-map}
 use Rattle.mc_keep.specs.declared.rows.HeadRow.{HeadRow}
 use Rattle.mc_keep.specs.HeadOrder.{head_row_cmp, head_row_total}
 use Rattle.mc_keep.specs.Changes.{head_in_row, heads_in_rows}
 use Rattle.mc_model.proofs.SortFacts.{sorted_once}
-
-then_equal : (a b : Ordering) → ordering_then a b ≡ Equal → (a ≡ Equal) × (b ≡ Equal)
-then_equal Less b e = absurd (cc)
-then_equal Equal b e = (refl, e)
-then_equal Greater b e = absurd (cc)
-
-pub head_tied : (x y : Head) → head_cmp x y ≡ Equal → x ≡ y
-head_tied x y e =
-    let parts = then_equal (slice_cmp nat_cmp x.0.0 y.0.0) (nat_cmp x.1 y.1) e in
-    let digest : x.0.0 ≡ y.0.0 = slice_cmp-IsAntisymmetric nat_cmp-IsAntisymmetric x.0.0 y.0.0 parts.0 in
-    let height : x.1 ≡ y.1 = nat_cmp-IsAntisymmetric x.1 y.1 parts.1 in
-    λ i. (record { 0 = digest i }, height i)
+use Rattle.mc_model.proofs.Heads.{head_tied}
 
 row_tied : (x y : HeadRow) → head_row_cmp x y ≡ Equal → x ≡ y
 row_tied x y e =

@@ -6,16 +6,17 @@ use Rattle.std.specs.Str.{bytes_eq}
 use Rattle.std.specs.declared.string.String.{String}
 use Rattle.std.specs.List.{list_any}
 use Rattle.std.specs.Option.{option_map}
-use Rattle.std.proofs.lemmas.Bool.{and_parts}
+use Rattle.std.proofs.lemmas.Bool.{and_parts, not-true, or_right}
 use Rattle.std.proofs.lemmas.Slice.Eq.{bytes_eq-Decides}
 use Rattle.mc_base.specs.declared.cid.Cid.{Cid}
 use Rattle.mc_model.specs.declared.block.Block.{Block}
-use Rattle.mc_model.specs.Front.{same_cid}
 use Rattle.mc_model.specs.Id.{id_text}
 use Rattle.mc_model.specs.Live.{has_tomb, live, value_row}
 use Rattle.mc_model.specs.Rank.{Ranked, same_ranked}
 use Rattle.mc_model.specs.SameMembers.{SameMembers}
 use Rattle.mc_model.proofs.Greatest.{greatest_member}
+use Rattle.mc_model.proofs.Counts.{cid_itself}
+use Rattle.mc_model.proofs.Members.{any_agree}
 use Rattle.mc_keep.specs.declared.rows.ElementRow.{ElementRow}
 use Rattle.mc_keep.specs.Live.{ranked_of, is_row_of, HoldsValue, IsHolder}
 use Rattle.mc_keep.specs.Tables.{element_rows_of}
@@ -25,13 +26,6 @@ use Rattle.mc_keep_mem.specs.declared.values.Held.{Held}
 use Rattle.mc_keep_mem.specs.Chains.{rows_in, with_element}
 use Rattle.mc_keep_mem.specs.Holder.{AreBacked, is_backed, is_held, block_among, holder_among, stands_for}
 use Rattle.mc_keep_mem.proofs.Fit.{elements_put}
-
-any_alike : {A : Type 0} (p q : A → Bool) → ((x : A) → p x ≡ q x) → (xs : List A) → list_any p xs ≡ list_any q xs
-any_alike p q same [] = refl
-any_alike p q same (x ∷ xs) = ap (λ b. b || list_any p xs) (same x) ∙ ap (λ b. q x || b) (any_alike p q same xs)
-
-same_cid_itself : (cid : Cid) → same_cid cid cid ≡ true
-same_cid_itself cid = (bytes_eq-Decides cid.0 cid.0).1 refl
 
 -- what is found: a row that passes, and that is one of the list
 pub record IsFound (test : ElementRow → Bool) (rows : List ElementRow) (row : ElementRow) : Type 0 where
@@ -55,10 +49,6 @@ found_row test (r ∷ rows) row e =
             there = λ other o. or_right (other r) (list_any other rows) (rest.there other o);
           }
     ] refl e
-  where
-    or_right : (a b : Bool) → b ≡ true → (a || b) ≡ true
-    or_right true b e = refl
-    or_right false b e = e
 
 none_found : (test : ElementRow → Bool) (rows : List ElementRow) → find test rows ≡ None → list_any test rows ≡ false
 none_found test [] e = refl
@@ -71,7 +61,7 @@ none_found test (r ∷ rows) e =
 -- a value is that of a row that is not hidden
 some_row : (blocks : List Block) (key : List ℕ) (ranked : Ranked) → value_row blocks key ≡ Some ranked → list_any (is_held (has_tomb blocks key) ranked) (element_rows_of blocks key) ≡ true
 some_row blocks key ranked e =
-    any_alike (is_held (has_tomb blocks key) ranked) (λ (row : ElementRow). not (has_tomb blocks key (id_text row.cid.0)) && same_ranked ranked (ranked_of row)) (λ row. turned (same_ranked ranked (ranked_of row)) (not (has_tomb blocks key (id_text row.cid.0)))) (element_rows_of blocks key)
+    any_agree (is_held (has_tomb blocks key) ranked) (λ (row : ElementRow). not (has_tomb blocks key (id_text row.cid.0)) && same_ranked ranked (ranked_of row)) (λ row. turned (same_ranked ranked (ranked_of row)) (not (has_tomb blocks key (id_text row.cid.0)))) (element_rows_of blocks key)
     ∙ sym (live_rows_any (has_tomb blocks key) (same_ranked ranked) (element_rows_of blocks key))
     ∙ ap (list_any (same_ranked ranked)) (live_rows-element_rows_of blocks blocks key)
     ∙ greatest_member (live blocks key) ranked e
@@ -87,7 +77,7 @@ module _ (blocks : List Block) (key : List ℕ) (rows : List ElementRow) (hidden
   none : find (is_held hidden ranked) rows ≡ None → ⊥
   none e =
       let here : list_any (is_held hidden ranked) rows ≡ true =
-      same.same (is_held hidden ranked) ∙ any_alike (is_held hidden ranked) (is_held (has_tomb blocks key) ranked) (λ row. ap (λ b. same_ranked ranked (ranked_of row) && not b) (alike (id_text row.cid.0))) (element_rows_of blocks key)
+      same.same (is_held hidden ranked) ∙ any_agree (is_held hidden ranked) (is_held (has_tomb blocks key) ranked) (λ row. ap (λ b. same_ranked ranked (ranked_of row) && not b) (alike (id_text row.cid.0))) (element_rows_of blocks key)
       ∙ some_row blocks key ranked is_value in
       let no : true ≡ false = sym here ∙ none_found (is_held hidden ranked) rows e in
       cc
@@ -99,13 +89,9 @@ module _ (blocks : List Block) (key : List ℕ) (rows : List ElementRow) (hidden
       record {
         ranked = ranked;
         is_value = is_value;
-        there = sym (same.same (is_row_of row.cid ranked)) ∙ found.there (is_row_of row.cid ranked) (ap (λ b. b && same_ranked ranked (ranked_of row)) (same_cid_itself row.cid) ∙ parts.0);
-        lives = sym (alike (id_text row.cid.0)) ∙ not_true (hidden (id_text row.cid.0)) parts.1;
+        there = sym (same.same (is_row_of row.cid ranked)) ∙ found.there (is_row_of row.cid ranked) (ap (λ b. b && same_ranked ranked (ranked_of row)) (cid_itself row.cid) ∙ parts.0);
+        lives = sym (alike (id_text row.cid.0)) ∙ not-true (hidden (id_text row.cid.0)) parts.1;
       }
-    where
-      not_true : (b : Bool) → not b ≡ true → b ≡ false
-      not_true true e = absurd (let no : false ≡ true = e in cc)
-      not_true false e = refl
 
   pub holder_holds : IsHolder blocks key (holder_among hidden ranked rows)
   holder_holds = by (find (is_held hidden ranked) rows) refl
@@ -122,7 +108,7 @@ found_backs rows ranked = by (find (λ (row : ElementRow). same_ranked ranked (r
     by None e = refl
     by (Some row) e =
         let found = found_row (λ (row : ElementRow). same_ranked ranked (ranked_of row)) rows row e in
-        found.there (is_row_of row.cid ranked) (ap (λ b. b && same_ranked ranked (ranked_of row)) (same_cid_itself row.cid) ∙ found.passes)
+        found.there (is_row_of row.cid ranked) (ap (λ b. b && same_ranked ranked (ranked_of row)) (cid_itself row.cid) ∙ found.passes)
 
 -- more rows take nothing away
 backed_more : (test : ElementRow → Bool) (key : List ℕ) (rows new : List ElementRow) → list_any test rows ≡ true → list_any test (fold (with_element key) rows new) ≡ true

@@ -5,6 +5,7 @@ pub mod GraphFacts
 pub mod ValueFacts
 pub mod TombFacts
 pub mod ChainFacts
+pub mod WalkFacts
 pub mod HeadFacts
 pub mod Reordered
 pub mod Fit

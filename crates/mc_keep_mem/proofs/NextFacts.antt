@@ -17,6 +17,7 @@ use Rattle.std.specs.declared.string.String.{String}
 use Rattle.std.specs.String.{string_bytes, string_cmp}
 use Rattle.std.proofs.lemmas.Cmp.{nat_list_cmp_total}
 use Rattle.std.proofs.lemmas.Map.Text.{is_eq-slice_cmp}
+use Rattle.mc_base.proofs.Orders.{less_is}
 use lib.Pointwise.{bytes_decides}
 use Rattle.mc_keep.specs.Next.{is_past}
 use Rattle.mc_keep_mem.specs.declared.values.Held.{Held}
@@ -33,11 +34,6 @@ not_gt_le : (o : Ordering) → is_gt o ≡ false → is_le o ≡ true
 not_gt_le Less e = refl
 not_gt_le Equal e = refl
 not_gt_le Greater e = absurd (let f : true ≡ false = e in cc)
-
-lt_less : (o : Ordering) → is_lt o ≡ true → o ≡ Less
-lt_less Less e = refl
-lt_less Equal e = absurd (let f : false ≡ true = e in cc)
-lt_less Greater e = absurd (let f : false ≡ true = e in cc)
 
 -- a text of the set is one of its keys
 text_in : {Y : Type 0} (texts : List (String Y)) (text : List ℕ) → list_any (λ k. is_eq (slice_cmp nat_cmp text (string_bytes k))) texts ≡ true → (k : String Y) × (string_bytes k ≡ text)
@@ -67,7 +63,7 @@ module _ {Y : Type 0} (ordered : BTreeSet (String Y)) (lo : Bound (String Y)) (b
           let found = text_in ordered.keys text c in
           let not_above : is_gt (slice_cmp nat_cmp (string_bytes key) (string_bytes found.0)) ≡ false =
           least found.0 (inside found.0 (ap (is_past bound inclusive) found.1 ∙ p)) (ap (contains_text ordered) found.1 ∙ c) in
-          let under : slice_cmp nat_cmp (string_bytes found.0) (string_bytes key) ≡ Less = lt_less (slice_cmp nat_cmp (string_bytes found.0) (string_bytes key)) (ap (λ z. is_lt (slice_cmp nat_cmp z (string_bytes key))) found.1 ∙ below) in
+          let under : slice_cmp nat_cmp (string_bytes found.0) (string_bytes key) ≡ Less = less_is (slice_cmp nat_cmp (string_bytes found.0) (string_bytes key)) (ap (λ z. is_lt (slice_cmp nat_cmp z (string_bytes key))) found.1 ∙ below) in
           let turned : slice_cmp nat_cmp (string_bytes key) (string_bytes found.0) ≡ Greater = nat_list_cmp_total.antisymm (string_bytes key) (string_bytes found.0) ∙ ap ordering_reverse under in
           absurd (let f : true ≡ false = sym (ap is_gt turned) ∙ not_above in cc)
 
@@ -91,10 +87,10 @@ module _ {Y : Type 0} (ordered : BTreeSet (String Y)) (from : String Y) (range :
 
   pub first_after_is : (rest : List (String Y)) (key : String Y) → IsKeyRangeOf string_cmp (Excluded from) Unbounded ordered range → range ≡ key ∷ rest → IsFirstText ordered (string_bytes from) false (string_bytes key)
   first_after_is rest key is e =
-      first_of ordered (Excluded from) (string_bytes from) false (λ k p. (lt_less (string_cmp from k) p, tt)) (λ k i. ap is_lt i.0) range rest key is e
+      first_of ordered (Excluded from) (string_bytes from) false (λ k p. (less_is (string_cmp from k) p, tt)) (λ k i. ap is_lt i.0) range rest key is e
 
   pub none_after : IsKeyRangeOf string_cmp (Excluded from) Unbounded ordered range → range ≡ [] → IsFirst ordered (string_bytes from) false None
-  none_after is e = none_of ordered (Excluded from) (string_bytes from) false (λ k p. (lt_less (string_cmp from k) p, tt)) (λ k i. ap is_lt i.0) range is e
+  none_after is e = none_of ordered (Excluded from) (string_bytes from) false (λ k p. (less_is (string_cmp from k) p, tt)) (λ k i. ap is_lt i.0) range is e
 
 -- a key without a value needs not be in order
 pub covered_without : {Y S : Type 0} (rows : HashMap (String Y) Held S) (ordered new : BTreeSet (String Y)) (pending : List (String Y)) (key : List ℕ) → row_in rows key ≡ None

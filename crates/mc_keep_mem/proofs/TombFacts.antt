@@ -9,9 +9,10 @@ use Rattle.std.proofs.lemmas.List.Folds.{position_or_len_push}
 use Rattle.std.proofs.lemmas.List.Sums.{prefix_len-le-length}
 use Rattle.std.proofs.lemmas.Cmp.{nat_list_eq_equiv, nat_eq_equiv}
 use Rattle.std.proofs.lemmas.Bool.Decides.{nat_tests}
+use Rattle.std.proofs.lemmas.Slice.Eq.{bytes_eq-Decides}
+use Rattle.mc_base.proofs.Booleans.{cond_or}
 use Rattle.indexmap.specs.IndexSet.{insert_key}
 use Rattle.mc_keep_mem.specs.Tombs.{is_text, number_of, same_pair, has_tomb_in, AreNumbers}
-use Rattle.mc_keep_mem.proofs.ValueFacts.{bytes_same}
 
 number_at_most : {Y : Type 0} (texts : List (String Y)) (text : List ℕ) → number_of texts text ≤ length texts
 number_at_most texts text = prefix_len-le-length (λ other. not (is_text text other)) texts
@@ -126,7 +127,7 @@ only_number texts name other =
     let new = insert_key string_eq texts name in
     elim (bytes_eq (string_bytes name) other) as (λ b. bytes_eq (string_bytes name) other ≡ b → nat_eq (number_of new other) (number_of texts (string_bytes name)) ≡ b) [
       | true ↦ λ e.
-          let same : number_of new other ≡ number_of texts (string_bytes name) = ap (number_of new) (sym (bytes_same (string_bytes name) other e)) ∙ stands.0 in
+          let same : number_of new other ≡ number_of texts (string_bytes name) = ap (number_of new) (sym ((bytes_eq-Decides (string_bytes name) other).0 e)) ∙ stands.0 in
           grind (arith, nat_tests, same)
       | false ↦ λ e. no_number (nat_eq (number_of new other) (number_of texts (string_bytes name))) refl e
     ] refl
@@ -150,10 +151,6 @@ module _ {Y : Type 0} (keys ids : List (String Y)) (pairs new : List (ℕ × ℕ
 
   nat_eq-symm : (a b : ℕ) → nat_eq a b ≡ nat_eq b a
   nat_eq-symm a b = nat_eq_equiv.symm a b
-
-  cond_or : (a b : Bool) → cond a true b ≡ (a || b)
-  cond_or true b = refl
-  cond_or false b = refl
 
   pub tomb_put : (key id : List ℕ) → has_tomb_in new_keys new_ids new key id ≡ ((bytes_eq (string_bytes key_name) key && bytes_eq (string_bytes id_name) id) || has_tomb_in keys ids pairs key id)
   tomb_put key id =

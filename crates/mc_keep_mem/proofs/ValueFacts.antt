@@ -1,5 +1,5 @@
 -- What a change of one key does to the table of value rows, and to its keys in order.
-use Rattle.std.proofs.Common.{◌≡◌, ℕ, Bool, true, false, cond, not, ◌||◌, List, [], ◌∷◌, ◌++◌, Option, Some, None, sym, refl, ap, ◌∙◌, subst}
+use Rattle.std.proofs.Common.{◌≡◌, ℕ, Bool, true, false, cond, ◌||◌, List, [], ◌∷◌, ◌++◌, Option, Some, None, sym, refl, ap, ◌∙◌, subst}
 use Rattle.std.specs.Prelude.{is_some}
 use Rattle.std.specs.Str.{bytes_eq}
 use Rattle.std.specs.HashMap.{HashMap, get_by_text}
@@ -8,7 +8,8 @@ use Rattle.std.specs.declared.string.String.{String}
 use Rattle.std.specs.String.{string_bytes}
 use Rattle.std.proofs.lemmas.List.Folds.{list_any-append}
 use Rattle.std.proofs.lemmas.Cmp.{nat_list_eq_equiv}
-use lib.Pointwise.{bytes_decides}
+use Rattle.std.proofs.lemmas.Bool.{or_right, or_left}
+use Rattle.std.proofs.lemmas.Slice.Eq.{bytes_eq-Decides}
 use Rattle.mc_model.specs.Rank.{Ranked}
 use Rattle.mc_keep_mem.specs.declared.values.Held.{Held}
 use Rattle.mc_keep_mem.specs.Values.{ranked_held, row_in, has_text, IsCovered}
@@ -17,20 +18,9 @@ pub through : (b : Bool) (w v : Option Held) → ranked_held (cond b w v) ≡ co
 through true w v = refl
 through false w v = refl
 
-pub bytes_same : (a b : List ℕ) → bytes_eq a b ≡ true → a ≡ b
-bytes_same a b e = (bytes_decides a b).0 e
-
-left : (a b : Bool) → a ≡ true → (a || b) ≡ true
-left true b e = refl
-left false b e = absurd (let f : false ≡ true = e in cc)
-
-right : (a b : Bool) → b ≡ true → (a || b) ≡ true
-right true b e = refl
-right false b e = e
-
 more : (a b c : Bool) → (a || b) ≡ true → (a || (b || c)) ≡ true
 more true b c e = refl
-more false b c e = left b c e
+more false b c e = or_left b c e
 
 module _ {Y S : Type 0} (old new : HashMap (String Y) Held S) (ordered : BTreeSet (String Y)) (pending : List (String Y)) (key : List ℕ) where
   covered_where : (ranked : Ranked) (pending' : List (String Y)) → ((other : List ℕ) → row_in new other ≡ cond (bytes_eq key other) (Some ranked) (row_in old other))
@@ -47,16 +37,16 @@ module _ {Y S : Type 0} (old new : HashMap (String Y) Held S) (ordered : BTreeSe
   pub covered_again : (ranked : Ranked) → ((other : List ℕ) → row_in new other ≡ cond (bytes_eq key other) (Some ranked) (row_in old other))
       → is_some (row_in old key) ≡ true → IsCovered old ordered pending → IsCovered new ordered pending
   covered_again ranked rows had covered =
-      covered_where ranked pending rows (λ other e. subst (λ z. (contains_text ordered z || has_text pending z) ≡ true) (bytes_same key other e) (covered.each key had)) (λ other e. e) covered
+      covered_where ranked pending rows (λ other e. subst (λ z. (contains_text ordered z || has_text pending z) ≡ true) ((bytes_eq-Decides key other).0 e) (covered.each key had)) (λ other e. e) covered
 
   -- a new key is covered by its text among those that wait
   pub covered_new : (ranked : Ranked) (text : String Y) → ((other : List ℕ) → row_in new other ≡ cond (bytes_eq key other) (Some ranked) (row_in old other))
       → string_bytes text ≡ key → IsCovered old ordered pending → IsCovered new ordered (pending ++ text ∷ [])
   covered_new ranked text rows named covered =
       covered_where ranked (pending ++ text ∷ []) rows
-      (λ other e. right (contains_text ordered other) (has_text (pending ++ text ∷ []) other)
-      (list_any-append (λ t. bytes_eq other (string_bytes t)) pending (text ∷ []) ∙ right (has_text pending other) (bytes_eq other (string_bytes text) || false)
-      (left (bytes_eq other (string_bytes text)) false (ap (bytes_eq other) named ∙ nat_list_eq_equiv.symm other key ∙ e))))
+      (λ other e. or_right (contains_text ordered other) (has_text (pending ++ text ∷ []) other)
+      (list_any-append (λ t. bytes_eq other (string_bytes t)) pending (text ∷ []) ∙ or_right (has_text pending other) (bytes_eq other (string_bytes text) || false)
+      (or_left (bytes_eq other (string_bytes text)) false (ap (bytes_eq other) named ∙ nat_list_eq_equiv.symm other key ∙ e))))
       (λ other e. ap (λ t. contains_text ordered other || t) (list_any-append (λ t. bytes_eq other (string_bytes t)) pending (text ∷ [])) ∙ more (contains_text ordered other) (has_text pending other) (bytes_eq other (string_bytes text) || false) e)
       covered
 
@@ -67,10 +57,6 @@ module _ {Y S : Type 0} (old new : HashMap (String Y) Held S) (ordered : BTreeSe
       by : (other : List ℕ) (b : Bool) → bytes_eq key other ≡ b → is_some (cond (bytes_eq key other) None (row_in old other)) ≡ true → (contains_text ordered other || has_text pending other) ≡ true
       by other true e has = absurd (let f : false ≡ true = sym (ap (λ t. is_some (cond t None (row_in old other))) e) ∙ has in cc)
       by other false e has = covered.each other (sym (ap (λ t. is_some (cond t None (row_in old other))) e) ∙ has)
-
-pub not_false : (b : Bool) → not b ≡ false → b ≡ true
-not_false true e = refl
-not_false false e = absurd (let f : true ≡ false = e in cc)
 
 -- the table after an update at the bytes of a key
 pub rows_after : {Y S : Type 0} (bs key : List ℕ) (old new : HashMap (String Y) Held S) (w : Option Held) → bs ≡ key

@@ -8,7 +8,7 @@ ghost use Rattle.mc_keep.specs.ElementOrder.{element_cmp};
 ghost use Rattle.mc_keep_mem.specs.Chains.{AreChains, rows_in, row_of_node, chain, is_before, with_element};
 
 use mc_base::{Bytes, Cid, List, Text};
-use mc_keep::ElementRow;
+use mc_keep::{ElementRow, ties_are_equal};
 use std::alloc::{AllocError, Global};
 use std::collections::HashMap;
 use std::hash::BuildHasher;
@@ -87,6 +87,7 @@ pub(crate) fn elements_of<S: BuildHasher + Drop>(
 ) -> Result<List<ElementRow>, AllocError>
     ensures { IfOk result (λ rows. Ascends element_cmp rows (rows_in elements.now.nodes.items elements.now.lasts key.now)) }
 {
+    ties_are_equal();
     let mut rows = walk(alloc, elements, key)?;
     rows.sort_unstable();
     rows.dedup();

@@ -57,7 +57,7 @@ impl<S: BuildHasher + Drop> Counted for MemKeeper<S> {
     }
 }
 
-impl<S: BuildHasher + Drop + Send + Sync> Keeper for MemKeeper<S> {
+impl<S: BuildHasher + Drop> Keeper for MemKeeper<S> {
     type Desk = MemDesk;
 
     ghost told = { λ keeper. Some (kept_in keeper.store.tables) };
@@ -86,7 +86,7 @@ impl<S: BuildHasher + Drop + Send + Sync> Keeper for MemKeeper<S> {
         Ok(self.faults.desk(alloc)?)
     }
 
-    fn peer_block<W: Wait + Sync>(
+    fn peer_block<W: Wait>(
         &self,
         alloc: Global,
         desk: &mut MemDesk,

@@ -77,7 +77,7 @@ impl<S: BuildHasher + Copy + Drop> Counted for MemKeepers<S> {
     }
 }
 
-impl<S: BuildHasher + Copy + Drop + Send + Sync> Keepers for MemKeepers<S> {
+impl<S: BuildHasher + Copy + Drop> Keepers for MemKeepers<S> {
     type K = MemKeeper<S>;
 
     ghost starts = { λ keepers plan index. Some nothing_kept };

@@ -23,8 +23,8 @@ use crate::tombs::{Tombs, has_tomb as has_tomb_row};
 use crate::values::{Values, has_value, value_of};
 use indexmap::{IndexMap, IndexSet};
 use mc_base::{Bytes, Cid, List};
-use mc_keep::{Changes, ElementRow, HeadRow, Summary, ValueRow};
-use mc_model::id_of;
+use mc_keep::{Changes, ElementRow, HeadRow, Summary, ValueRow, changes_fit, commits_are_events};
+use mc_model::{gaps_are_counted, id_of};
 use std::alloc::{AllocError, Global};
 use std::collections::{BTreeSet, HashMap, HashSet};
 use std::hash::BuildHasher;
@@ -79,6 +79,8 @@ impl<S: BuildHasher + Drop> Store<S> {
         ensures kept { kept_in self.new.tables ≡ changed (kept_in self.old.tables) changes }
         ensures room { self.new.room ≡ self.old.room - row_count changes }
     {
+        commits_are_events();
+        changes_fit();
         self.room = commit_tables(&mut self.tables, changes, self.room);
     }
 
@@ -137,6 +139,7 @@ impl<S: BuildHasher + Drop> Store<S> {
         ensures summary { IsSummary (kept_in self.now.tables) result }
         ensures small { IsSmall result }
     {
+        gaps_are_counted();
         Summary {
             processed: self.tables.order.as_slice().len() as u64,
             stored: self.tables.blocks.keys().as_slice().len() as u64,

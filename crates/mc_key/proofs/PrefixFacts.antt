@@ -8,6 +8,7 @@ use Rattle.std.specs.Cmp.Lexicographic.{pointwise}
 use Rattle.std.proofs.Math.Seq.{take-append_seam}
 use Rattle.std.proofs.lemmas.List.{append_cancel_left, take-append-drop}
 use Rattle.std.proofs.lemmas.Slice.Eq.{bytes_eq-Decides, starts_is}
+use Rattle.mc_base.proofs.Booleans.{same_truth}
 use Rattle.mc_key.specs.Prefix.{is_below, is_under, onto_trimmed, without_slashes}
 
 -- a slash at the end doesn't count
@@ -47,17 +48,12 @@ by_test : (b : Bool) → (b ≡ true → ⊥) → false ≡ b
 by_test true no_way = absurd (no_way refl)
 by_test false no_way = refl
 
-both_true : (a b : Bool) → (a ≡ true → b ≡ true) → (b ≡ true → a ≡ true) → a ≡ b
-both_true true b there back = sym (there refl)
-both_true false true there back = back refl
-both_true false false there back = refl
-
 -- a key that begins with the text lies below it where a slash comes next
 below_rest : (text key rest : List ℕ) → 0 < length text → key ≡ text ++ rest → starts_with nat_eq rest (47 ∷ []) ≡ is_below text key
 below_rest text key rest some is =
     let starts = starts_is Decides-eqb key (text ++ 47 ∷ []) (starts_with nat_eq key (text ++ 47 ∷ [])) refl in
     let next = starts_is Decides-eqb rest (47 ∷ []) (starts_with nat_eq rest (47 ∷ [])) refl in
-    both_true (starts_with nat_eq rest (47 ∷ [])) (is_below text key)
+    same_truth (starts_with nat_eq rest (47 ∷ [])) (is_below text key)
     (λ (slash : starts_with nat_eq rest (47 ∷ []) ≡ true). begins_with text key some ∙ starts.1 (drop 1 rest) (is ∙ ap (λ (more : List ℕ). text ++ more) (next.0 slash) ∙ sym (append_assoc text (47 ∷ []) (drop 1 rest))))
     (λ (below : is_below text key ≡ true). next.1 (drop (length (text ++ 47 ∷ [])) key) (append_cancel_left text rest (47 ∷ drop (length (text ++ 47 ∷ [])) key) (sym is ∙ starts.0 (sym (begins_with text key some) ∙ below) ∙ append_assoc text (47 ∷ []) (drop (length (text ++ 47 ∷ [])) key))))
 

@@ -1,8 +1,8 @@
 -- The rule, and the faults that break it.
 use Rattle.std.proofs.Common.{◌≡◌, ℕ, ◌≤◌, Bool, true, false, List, [], ◌∷◌, length, Option, None, Some, refl, ◌∙◌, arith}
-use Rattle.std.specs.Prelude.{◌&&◌, ◌||◌, not, nat_le, nat_lt, if◌then◌else◌}
+use Rattle.std.specs.Prelude.{◌&&◌, not, nat_le, nat_lt, if◌then◌else◌}
 use Rattle.std.specs.List.{list_all, list_any}
-use Rattle.std.proofs.lemmas.Bool.{and_parts, le-leb}
+use Rattle.std.proofs.lemmas.Bool.{and_parts, le-leb, or_parts}
 use Rattle.std.proofs.lemmas.Bool.Decides.{nat_tests}
 use Rattle.mc_key.specs.declared.fault.KeyFault.{KeyFault}
 use Rattle.mc_key.specs.declared.fault.KeyFault.TheVariants.{Empty, NoSlash, TooLong, EmptySegment, DotSegment}
@@ -13,15 +13,12 @@ abbrev is_good : List ℕ → Bool
 is_good segment = not (is_empty segment) && not (is_dots segment)
 
 -- no segment is bad exactly where all are good
-or_false : (a b : Bool) → (a || b) ≡ false → (a ≡ false) × (b ≡ false)
-or_false true b h = absurd (cc)
-or_false false b h = (refl, h)
 
 all_good : (list : List (List ℕ)) → list_any is_empty list ≡ false → list_any is_dots list ≡ false → list_all is_good list ≡ true
 all_good [] e d = refl
 all_good (segment ∷ list) e d =
-    let he = or_false (is_empty segment) (list_any is_empty list) e in
-    let hd = or_false (is_dots segment) (list_any is_dots list) d in
+    let he = or_parts (is_empty segment) (list_any is_empty list) e in
+    let hd = or_parts (is_dots segment) (list_any is_dots list) d in
     rw (he.0, hd.0, all_good list he.1 hd.1) refl
 
 none_bad : (list : List (List ℕ)) → list_all is_good list ≡ true → (list_any is_empty list ≡ false) × (list_any is_dots list ≡ false)

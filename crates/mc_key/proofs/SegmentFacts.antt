@@ -1,7 +1,7 @@
 -- Segments are looked at one by one.
 use Rattle.std.proofs.Common.{◌≡◌, ℕ, zero, suc, ◌<◌, Bool, true, false, List, [], ◌∷◌, length, get_or, map, None, Some, refl, arith}
 use Rattle.std.specs.List.{list_any}
-use Rattle.std.specs.Prelude.{◌||◌}
+use Rattle.std.proofs.Math.Bool.{or-true}
 use denote.Ref.{Bor}
 use Rattle.mc_key.specs.declared.fault.KeyFault.TheVariants.{EmptySegment, DotSegment}
 use Rattle.mc_key.specs.KeyRule.{is_dots, is_empty, segments_fault}
@@ -19,11 +19,7 @@ pub record SoFar (done : List (List ℕ)) (has_dots : Bool) : Type 0 where
 empty_at : (all : List (List ℕ)) (place : ℕ) (segment : List ℕ) → place < length all → segment ≡ get_or all place segment → is_empty segment ≡ true → list_any is_empty all ≡ true
 empty_at [] place segment within is empty = absurd (omega arith)
 empty_at (first ∷ all) zero segment within is empty = rw (rw is at empty) refl
-empty_at (first ∷ all) (suc place) segment within is empty = rw (empty_at all place segment (omega arith) is empty) (or_true (is_empty first))
-  where
-    or_true : (b : Bool) → (b || true) ≡ true
-    or_true true = refl
-    or_true false = refl
+empty_at (first ∷ all) (suc place) segment within is empty = rw (empty_at all place segment (omega arith) is empty) (or-true (is_empty first))
 
 no_bytes : (segment : List ℕ) → length segment ≡ 0 → is_empty segment ≡ true
 no_bytes [] h = refl

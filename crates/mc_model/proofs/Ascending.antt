@@ -7,6 +7,8 @@ use Rattle.std.specs.Ordering.{is_eq, ordering_reverse}
 use Rattle.std.specs.declared.cmp.Ordering.{Ordering}
 use Rattle.std.specs.declared.cmp.Ordering.TheVariants.{Less, Equal, Greater}
 use Rattle.std.proofs.lemmas.Cmp.{tied_itself}
+use Rattle.std.proofs.Math.Bool.{and-false, and-true, or_self_left}
+use Rattle.mc_base.proofs.Booleans.{or_shift}
 use Rattle.mc_model.specs.SameMembers.{SameMembers}
 use Rattle.mc_model.specs.Ascending.{insert_in_order, ascending, Ascends}
 
@@ -33,12 +35,8 @@ module _ {X : Type 0} (cmp : X → X → Ordering) (total : IsTotalOrder cmp) (t
   left_out x test [] b = refl
   left_out x test (y ∷ ys) b =
       ap (λ o. (test y && not (is_eq o)) || list_any (λ y. test y && not (is_eq (cmp x y))) ys) b.0
-      ∙ ap (λ t. t || list_any (λ y. test y && not (is_eq (cmp x y))) ys) (and_true (test y))
+      ∙ ap (λ t. t || list_any (λ y. test y && not (is_eq (cmp x y))) ys) (and-true (test y))
       ∙ ap (λ rest. test y || rest) (left_out x test ys b.1)
-    where
-      and_true : (b : Bool) → (b && true) ≡ b
-      and_true true = refl
-      and_true false = refl
 
   -- the first of each is the other's first
   first_is : (x : X) (xs : List X) (y : X) (ys : List X) → Below y ys → SameMembers (x ∷ xs) (y ∷ ys) → cmp x y ≡ Less → true ≡ false
@@ -54,13 +52,9 @@ module _ {X : Type 0} (cmp : X → X → Ordering) (total : IsTotalOrder cmp) (t
         sym (left_out x test xs below) ∙ dropped test xs ∙ same.same (λ y. test y && not (is_eq (cmp x y))) ∙ sym (dropped test ys) ∙ left_out x test ys below';
   }
     where
-      none : (b : Bool) → (b && false) ≡ false
-      none true = refl
-      none false = refl
-
       dropped : (test : X → Bool) (zs : List X) → list_any (λ y. test y && not (is_eq (cmp x y))) zs ≡ list_any (λ y. test y && not (is_eq (cmp x y))) (x ∷ zs)
       dropped test zs = sym (ap (λ o. (test x && not (is_eq o)) || list_any (λ y. test y && not (is_eq (cmp x y))) zs) (tied_itself total x)
-          ∙ ap (λ t. t || list_any (λ y. test y && not (is_eq (cmp x y))) zs) (none (test x)))
+          ∙ ap (λ t. t || list_any (λ y. test y && not (is_eq (cmp x y))) zs) (and-false (test x)))
 
   -- order and members fix a list
   pub ascending_fixed : (xs ys : List X) → IsStrictlySortedBy cmp xs → IsStrictlySortedBy cmp ys → SameMembers xs ys → xs ≡ ys
@@ -84,19 +78,9 @@ module _ {X : Type 0} (cmp : X → X → Ordering) (total : IsTotalOrder cmp) (t
   insert_members test x (y ∷ ys) =
       elim (cmp x y) as (λ o. cmp x y ≡ o → list_any test (elim o [ Less ↦ x ∷ y ∷ ys | Equal ↦ y ∷ ys | Greater ↦ y ∷ insert_in_order cmp x ys ]) ≡ (test x || (test y || list_any test ys))) [
         | Less ↦ λ e. refl
-        | Equal ↦ λ e. subst (λ z. (test y || list_any test ys) ≡ (test z || (test y || list_any test ys))) (sym (tied x y e)) (twice (test y) (list_any test ys))
-        | Greater ↦ λ e. ap (λ rest. test y || rest) (insert_members test x ys) ∙ swap (test y) (test x) (list_any test ys)
+        | Equal ↦ λ e. subst (λ z. (test y || list_any test ys) ≡ (test z || (test y || list_any test ys))) (sym (tied x y e)) (sym (or_self_left (test y) (list_any test ys)))
+        | Greater ↦ λ e. ap (λ rest. test y || rest) (insert_members test x ys) ∙ or_shift (test y) (test x) (list_any test ys)
       ] refl
-    where
-      twice : (a b : Bool) → (a || b) ≡ (a || (a || b))
-      twice true b = refl
-      twice false b = refl
-
-      swap : (a b c : Bool) → (a || (b || c)) ≡ (b || (a || c))
-      swap true true c = refl
-      swap true false c = refl
-      swap false true c = refl
-      swap false false c = refl
 
   insert_below : (w x : X) (ys : List X) → cmp w x ≡ Less → Below w ys → Below w (insert_in_order cmp x ys)
   insert_below w x [] e b = (e, b)

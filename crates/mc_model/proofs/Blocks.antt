@@ -5,6 +5,7 @@ use Rattle.std.specs.List.{list_all, find}
 use Rattle.std.specs.Option.{option_map}
 use Rattle.std.specs.Result.{result_ok}
 use Rattle.std.specs.Str.{bytes_eq}
+use Rattle.std.proofs.lemmas.Bool.{and_parts}
 use Rattle.mc_base.specs.Cid.{digest_of}
 use Rattle.mc_base.specs.NodeRead.{NodeFault, NodeText, node_of}
 use Rattle.mc_base.specs.declared.cid.Cid.{Cid}
@@ -90,12 +91,8 @@ links_in_stored (s ∷ graph) c e =
 pub all_links_blocks : (graph : List Stored) (cids : List Cid) → list_all (is_stored graph) cids ≡ true → all_links (vertices graph) cids ≡ links (blocks_in graph cids)
 all_links_blocks graph [] e = refl
 all_links_blocks graph (x ∷ cids) e =
-    let parts = both (is_stored graph x) (list_all (is_stored graph) cids) e in
+    let parts = and_parts (is_stored graph x) (list_all (is_stored graph) cids) e in
     ap (λ front. front ++ all_links (vertices graph) cids) (links_in_stored graph x parts.0) ∙ ap (λ rest. (block_in graph x).links ++ rest) (all_links_blocks graph cids parts.1)
-  where
-    both : (a b : Bool) → (a && b) ≡ true → (a ≡ true) × (b ≡ true)
-    both true b e = (refl, e)
-    both false b e = absurd (cc)
 
 -- a list without repeats
 

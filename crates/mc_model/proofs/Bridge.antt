@@ -4,6 +4,8 @@ use Rattle.std.specs.Prelude.{is_some, filter, ◌==◌, ◌↔◌, Option, Some
 use Rattle.std.specs.List.{list_all, find, flat_map}
 use Rattle.std.specs.Option.{option_map}
 use Rattle.std.proofs.lemmas.List.Elements.{filter_agree}
+use Rattle.std.proofs.Math.Bool.{and-false}
+use Rattle.std.proofs.lemmas.Bool.{and_from, and_parts}
 use Rattle.mc_base.specs.declared.cid.Cid.{Cid}
 use Rattle.mc_model.specs.declared.block.Stored.{Stored}
 use Rattle.mc_model.specs.Ascending.{once}
@@ -16,7 +18,7 @@ use Rattle.mc_model.specs.Offer.{is_good}
 use Rattle.mc_model.specs.State.{Durable, vertices, durable_of, AllGood, DurableHolds}
 use Rattle.mc_model.proofs.Blocks.{is_processed_has, is_linked_has, cids_in_vertices, in_graph_stored, links_in_stored, all_links_blocks, times_once, once_times}
 use Rattle.mc_model.proofs.Climb.{reached, path_within, reached_same}
-use Rattle.mc_model.proofs.Counts.{cid_is, and_both, both_and, all_has, has_all}
+use Rattle.mc_model.proofs.Counts.{cid_is, all_has, has_all}
 use Rattle.mc_model.proofs.Found.{first_good}
 use Rattle.mc_model.proofs.Heads.{heads_cid, is_head}
 
@@ -63,17 +65,13 @@ module _ (kept : Kept) (sound : IsKept kept) where
         | true ↦ λ s. subst (λ (z : Cid). has c (cond (keep z) (x ∷ filter keep xs) (filter keep xs)) ≡ keep c) (cid_is c x s)
             (elim (keep c) as (λ t. keep c ≡ t → has c (cond t (x ∷ filter keep xs) (filter keep xs)) ≡ t) [
               | true ↦ λ k. ap (λ z. z || has c (filter keep xs)) s
-              | false ↦ λ k. has_filter keep c xs ∙ ap (λ z. has c xs && z) k ∙ none (has c xs)
+              | false ↦ λ k. has_filter keep c xs ∙ ap (λ z. has c xs && z) k ∙ and-false (has c xs)
             ] refl)
         | false ↦ λ s. elim (keep x) as (λ t. has c (cond t (x ∷ filter keep xs) (filter keep xs)) ≡ (has c xs && keep c)) [
           | true ↦ ap (λ z. z || has c (filter keep xs)) s ∙ has_filter keep c xs
           | false ↦ has_filter keep c xs
         ]
       ] refl
-    where
-      none : (b : Bool) → (b && false) ≡ false
-      none true = refl
-      none false = refl
 
   pub kept_gap : (c : Cid) → is_gap (processed kept) c ≡ has c (gaps_in durable.graph durable.order)
   kept_gap c =
@@ -93,11 +91,11 @@ module _ (kept : Kept) (sound : IsKept kept) where
 
 pub all_good : (graph : List Stored) → list_all (λ (stored : Stored). is_good stored.cid stored.bytes) graph ≡ true → AllGood (vertices graph)
 all_good [] e = tt
-all_good (s ∷ graph) e = let parts = and_both (is_good s.cid s.bytes) (list_all (λ (stored : Stored). is_good stored.cid stored.bytes) graph) e in ((parts.0, refl), all_good graph parts.1)
+all_good (s ∷ graph) e = let parts = and_parts (is_good s.cid s.bytes) (list_all (λ (stored : Stored). is_good stored.cid stored.bytes) graph) e in ((parts.0, refl), all_good graph parts.1)
 
 good_all : (graph : List Stored) → AllGood (vertices graph) → list_all (λ (stored : Stored). is_good stored.cid stored.bytes) graph ≡ true
 good_all [] h = refl
-good_all (s ∷ graph) h = both_and _ _ h.0.0 (good_all graph h.1)
+good_all (s ∷ graph) h = and_from _ _ h.0.0 (good_all graph h.1)
 
 -- what a keeper tells is sound
 pub kept_holds : (kept : Kept) → IsKept kept → DurableHolds (durable_of kept)
@@ -141,7 +139,7 @@ kept_mark kept cids sound = ap not (kept_no_gaps (record { graph = kept.graph; o
 stored_good : (graph : List Stored) (c : Cid) (bytes : List ℕ) → list_all (λ (stored : Stored). is_good stored.cid stored.bytes) graph ≡ true → bytes_at graph c ≡ Some bytes → is_good c bytes ≡ true
 stored_good [] c bytes all e = absurd (let no : false ≡ true = ap is_some e in cc)
 stored_good (s ∷ graph) c bytes all e =
-    let parts = and_both (is_good s.cid s.bytes) (list_all (λ (stored : Stored). is_good stored.cid stored.bytes) graph) all in
+    let parts = and_parts (is_good s.cid s.bytes) (list_all (λ (stored : Stored). is_good stored.cid stored.bytes) graph) all in
     elim (same_cid c s.cid) as (λ t. same_cid c s.cid ≡ t
     → option_map (λ (stored : Stored). stored.bytes) (cond t (Some s) (find (λ (stored : Stored). same_cid c stored.cid) graph)) ≡ Some bytes → is_good c bytes ≡ true) [
       | true ↦ λ t h. let same : s.bytes ≡ bytes = ap (λ found. unwrap_or found []) h in ap (λ (z : Cid). is_good z bytes) (cid_is c s.cid t) ∙ ap (is_good s.cid) (sym same) ∙ parts.0

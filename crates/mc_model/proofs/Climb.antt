@@ -1,9 +1,10 @@
 -- Where nothing leads back to itself, each processed block is reached from a head: one climbs to a block that links to it, and on.
 use Rattle.std.proofs.Common.{◌≡◌, ℕ, suc, zero, ◌+◌, ◌≤◌, ◌<◌, Bool, true, false, not, cond, List, [], ◌∷◌, ◌||◌, ◌&&◌, sym, refl, ap, ◌∙◌, subst, inl, inr, ◌⊎◌, arith}
+use Rattle.std.proofs.lemmas.Bool.{and_from, and_parts, or_cases}
 use Rattle.mc_base.specs.declared.cid.Cid.{Cid}
 use Rattle.mc_model.specs.Front.{same_cid}
 use Rattle.mc_model.specs.Graph.{Vertex, times, has, in_graph, links_in, all_links, no_gaps, heads_in, is_trail, HasNoCycle, is_path, IsReached}
-use Rattle.mc_model.proofs.Counts.{cid_is, cid_itself, or_cases, and_both, both_and, times_has, has_times, times-filter, all_has, Linker, linker, linked_from}
+use Rattle.mc_model.proofs.Counts.{cid_is, cid_itself, times_has, has_times, times-filter, all_has, Linker, linker, linked_from}
 
 -- how many of the list the chain lacks
 abbrev left : List Cid → List Cid → ℕ
@@ -46,7 +47,7 @@ no_cycle graph none a between e = let no : true ≡ false = sym e ∙ none a bet
 -- a links to b, so a leads to what b leads to
 leads_up : (graph : List Vertex) (a b c : Cid) → has b (links_in graph a) ≡ true → Leads graph b c → (between : List Cid) × (is_trail graph a between c ≡ true)
 leads_up graph a b c l (inl e) = ([], subst (λ (z : Cid). has z (links_in graph a) ≡ true) (sym (cid_is c b e)) l)
-leads_up graph a b c l (inr t) = (b ∷ t.0, both_and (has b (links_in graph a)) _ l t.1)
+leads_up graph a b c l (inr t) = (b ∷ t.0, and_from (has b (links_in graph a)) _ l t.1)
 
 pub has_heads : (graph : List Vertex) (order : List Cid) (b : Cid) → has b order ≡ true → has b (all_links graph order) ≡ false → has b (heads_in graph order) ≡ true
 has_heads graph order b e f =
@@ -67,7 +68,7 @@ module _ (graph : List Vertex) (order : List Cid) (none : HasNoCycle graph) (sto
       → IsReached graph (heads_in graph order) b
   step chain b e leads go =
       elim (has b (all_links graph order)) as (λ t. has b (all_links graph order) ≡ t → IsReached graph (heads_in graph order) b) [
-        | false ↦ λ h. record { path = []; along = both_and _ _ (has_heads graph order b e h) (stored b e) }
+        | false ↦ λ h. record { path = []; along = and_from _ _ (has_heads graph order b e h) (stored b e) }
         | true ↦ λ h. up (linker graph order b h)
       ] refl
     where
@@ -79,7 +80,7 @@ module _ (graph : List Vertex) (order : List Cid) (none : HasNoCycle graph) (sto
             | inr s ↦ inr (leads_up graph found.cid b c found.linked (leads c s))
           ])
           (left_lt order chain found.cid found.within h) in
-          record { path = found.cid ∷ above.path; along = both_and _ _ above.along (both_and _ _ found.linked (stored b e)) }
+          record { path = found.cid ∷ above.path; along = and_from _ _ above.along (and_from _ _ found.linked (stored b e)) }
 
       up : Linker graph order b → IsReached graph (heads_in graph order) b
       up found =
@@ -97,10 +98,10 @@ module _ (graph : List Vertex) (order : List Cid) (none : HasNoCycle graph) (sto
 
 -- and nothing else is reached where there is no gap
 pub path_within : (graph : List Vertex) (order : List Cid) → no_gaps graph order ≡ true → (path : List Cid) (c : Cid) → is_path graph (heads_in graph order) path c ≡ true → has c order ≡ true
-path_within graph order full [] c e = heads_has graph order c (and_both (has c (heads_in graph order)) (in_graph graph c) e).0
+path_within graph order full [] c e = heads_has graph order c (and_parts (has c (heads_in graph order)) (in_graph graph c) e).0
 path_within graph order full (m ∷ path) c e =
-    let parts = and_both (is_path graph (heads_in graph order) path m) (has c (links_in graph m) && in_graph graph c) e in
-    let link = and_both (has c (links_in graph m)) (in_graph graph c) parts.1 in
+    let parts = and_parts (is_path graph (heads_in graph order) path m) (has c (links_in graph m) && in_graph graph c) e in
+    let link = and_parts (has c (links_in graph m)) (in_graph graph c) parts.1 in
     let from : has m order ≡ true = path_within graph order full path m parts.0 in
     all_has (λ d. has d order) (all_links graph order) full c (linked_from graph order m c from link.0)
 
@@ -108,10 +109,10 @@ path_within graph order full (m ∷ path) c e =
 pub reach_least : (graph : List Vertex) (start : List Cid) (test : Cid → Bool) → ((c : Cid) → has c start ≡ true → in_graph graph c ≡ true → test c ≡ true)
     → ((m c : Cid) → test m ≡ true → has c (links_in graph m) ≡ true → in_graph graph c ≡ true → test c ≡ true)
     → (path : List Cid) (c : Cid) → is_path graph start path c ≡ true → test c ≡ true
-reach_least graph start test starts goes [] c e = let parts = and_both (has c start) (in_graph graph c) e in starts c parts.0 parts.1
+reach_least graph start test starts goes [] c e = let parts = and_parts (has c start) (in_graph graph c) e in starts c parts.0 parts.1
 reach_least graph start test starts goes (m ∷ path) c e =
-    let parts = and_both (is_path graph start path m) (has c (links_in graph m) && in_graph graph c) e in
-    let link = and_both (has c (links_in graph m)) (in_graph graph c) parts.1 in
+    let parts = and_parts (is_path graph start path m) (has c (links_in graph m) && in_graph graph c) e in
+    let link = and_parts (has c (links_in graph m)) (in_graph graph c) parts.1 in
     goes m c (reach_least graph start test starts goes path m parts.0) link.0 link.1
 
 -- what is reached depends on the members of the starts alone

@@ -1,6 +1,7 @@
 -- What a keeper's commits need is where the events that they are may come.
 use Rattle.std.proofs.Common.{◌≡◌, ◌+◌, ◌≤◌, Bool, true, false, List, [], ◌∷◌, ◌++◌, ◌||◌, sym, refl, ap, ◌∙◌, inl, inr, arith}
 use Rattle.std.specs.List.{list_any}
+use Rattle.std.proofs.lemmas.Bool.{or_parts, or_cases}
 use Rattle.mc_base.specs.declared.cid.Cid.{Cid}
 use Rattle.mc_model.specs.declared.block.Stored.{Stored}
 use Rattle.mc_model.specs.Ascending.{is_once}
@@ -10,14 +11,14 @@ use Rattle.mc_model.specs.Graph.{Vertex, times, has, cids_in}
 use Rattle.mc_model.specs.Kept.{Kept, is_stored, cids_of}
 use Rattle.mc_model.specs.State.{Durable, vertex_of, vertices, durable_of}
 use Rattle.mc_model.proofs.Blocks.{cids_in_vertices, in_graph_stored, times_once}
-use Rattle.mc_model.proofs.Counts.{cid_is, or_cases, or_none, times_none}
+use Rattle.mc_model.proofs.Counts.{cid_is, times_none}
 use Rattle.mc_model.proofs.Members.{list_any-map}
 
 -- a test that holds for none of a list
 none_has : (test : Cid → Bool) (xs : List Cid) → list_any test xs ≡ false → (c : Cid) → has c xs ≡ true → test c ≡ false
 none_has test [] e c h = absurd (cc)
 none_has test (x ∷ xs) e c h =
-    let none = or_none (test x) (list_any test xs) e in
+    let none = or_parts (test x) (list_any test xs) e in
     elim (or_cases (same_cid c x) (has c xs) h) [
       | inl s ↦ ap test (cid_is c x s) ∙ none.0
       | inr s ↦ none_has test xs none.1 c s

@@ -1,9 +1,11 @@
 -- Lists of identifiers: counts, tests and links.
-use Rattle.std.proofs.Common.{◌≡◌, ℕ, ◌+◌, ◌≤◌, Bool, true, false, not, cond, List, [], ◌∷◌, ◌++◌, Some, ◌||◌, ◌&&◌, sym, refl, ap, ◌∙◌, subst, inl, inr, ◌⊎◌, arith, map, filter}
+use Rattle.std.proofs.Common.{◌≡◌, ℕ, ◌+◌, ◌≤◌, Bool, true, false, cond, List, [], ◌∷◌, ◌++◌, Some, ◌||◌, sym, refl, ap, ◌∙◌, subst, inl, inr, arith, map, filter}
 use Rattle.std.specs.List.{list_all, find}
 use Rattle.std.proofs.lemmas.Slice.Eq.{bytes_eq-Decides}
 use Rattle.std.proofs.lemmas.List.Folds.{list_any-append}
 use Rattle.std.proofs.lemmas.List.Concat.{flat_map-append}
+use Rattle.std.proofs.lemmas.Cmp.{nat_list_eq_equiv}
+use Rattle.std.proofs.lemmas.Bool.{and_from, and_parts, or_left, or_right, or_cases}
 use Rattle.mc_base.specs.declared.cid.Cid.{Cid}
 use Rattle.mc_model.specs.Front.{same_cid}
 use Rattle.mc_model.specs.Graph.{Vertex, times, has, cids_in, in_graph, links_of, links_in, all_links}
@@ -18,34 +20,8 @@ cid_is a b e = ap cid_with ((bytes_eq-Decides a.0 b.0).0 e)
 pub cid_itself : (a : Cid) → same_cid a a ≡ true
 cid_itself a = (bytes_eq-Decides a.0 a.0).1 refl
 
-pub or_cases : (a b : Bool) → (a || b) ≡ true → (a ≡ true) ⊎ (b ≡ true)
-or_cases true b e = inl refl
-or_cases false b e = inr e
-
-pub or_left : (a b : Bool) → a ≡ true → (a || b) ≡ true
-or_left a b e = subst (λ (z : Bool). (z || b) ≡ true) (sym e) refl
-
-pub or_right : (a b : Bool) → b ≡ true → (a || b) ≡ true
-or_right true b e = refl
-or_right false b e = e
-
-pub or_none : (a b : Bool) → (a || b) ≡ false → (a ≡ false) × (b ≡ false)
-or_none true b e = absurd (cc)
-or_none false b e = (refl, e)
-
-pub and_both : (a b : Bool) → (a && b) ≡ true → (a ≡ true) × (b ≡ true)
-and_both true b e = (refl, e)
-and_both false b e = absurd (cc)
-
-pub both_and : (a b : Bool) → a ≡ true → b ≡ true → (a && b) ≡ true
-both_and a b e f = subst (λ (z : Bool). (z && b) ≡ true) (sym e) f
-
-pub not_true : (a : Bool) → not a ≡ true → a ≡ false
-not_true true e = absurd (cc)
-not_true false e = refl
-
-pub not_false : (a : Bool) → a ≡ false → not a ≡ true
-not_false a e = ap not e
+pub same_cid-symm : (a b : Cid) → same_cid a b ≡ same_cid b a
+same_cid-symm a b = nat_list_eq_equiv.symm a.0 b.0
 
 -- counts and tests
 
@@ -124,7 +100,7 @@ map-append (x ∷ xs) ys = ap (λ rest. x.0 ∷ rest) (map-append xs ys)
 pub all_has : (test : Cid → Bool) (xs : List Cid) → list_all test xs ≡ true → (c : Cid) → has c xs ≡ true → test c ≡ true
 all_has test [] e c h = absurd (cc)
 all_has test (x ∷ xs) e c h =
-    let parts = and_both (test x) (list_all test xs) e in
+    let parts = and_parts (test x) (list_all test xs) e in
     elim (same_cid c x) as (λ t. same_cid c x ≡ t → (t || has c xs) ≡ true → test c ≡ true) [
       | true ↦ λ s k. ap test (cid_is c x s) ∙ parts.0
       | false ↦ λ s k. all_has test xs parts.1 c k
@@ -132,7 +108,7 @@ all_has test (x ∷ xs) e c h =
 
 pub has_all : (test : Cid → Bool) (xs : List Cid) → ((c : Cid) → has c xs ≡ true → test c ≡ true) → list_all test xs ≡ true
 has_all test [] h = refl
-has_all test (x ∷ xs) h = both_and (test x) (list_all test xs) (h x (or_left (same_cid x x) (has x xs) (cid_itself x))) (has_all test xs (λ c k. h c (or_right (same_cid c x) (has c xs) k)))
+has_all test (x ∷ xs) h = and_from (test x) (list_all test xs) (h x (or_left (same_cid x x) (has x xs) (cid_itself x))) (has_all test xs (λ c k. h c (or_right (same_cid c x) (has c xs) k)))
 
 -- links
 

@@ -2,6 +2,7 @@
 use Rattle.std.proofs.Common.{◌≡◌, ◌+◌, ◌≤◌, Bool, true, false, not, List, [], ◌∷◌, ◌++◌, Option, Some, None, ◌&&◌, sym, refl, ap, ◌∙◌, inl, inr, ◌⊎◌, arith}
 use Rattle.std.proofs.lemmas.List.{append_assoc, append-nil}
 use Rattle.std.proofs.lemmas.List.Folds.{list_any-append}
+use Rattle.std.proofs.lemmas.Bool.{not_from_false, not-true, and_from, and_parts, or_left, or_cases}
 use Rattle.mc_base.specs.declared.cid.Cid.{Cid}
 use Rattle.mc_model.specs.Drain.{is_new, is_way, IsAdded, IsClosed, IsComing, is_in_order, DrainRuns, Drains, DrainsAll, IsDrained, IsClosure, IsSoFar}
 use Rattle.mc_model.specs.Events.{Event, Store, Process, Hear, Want, GiveBack, Missing, Bad, Requeue, WalkBegin, WalkVisit, WalkEnd, Batch, Stop, Open, MayRun, MayCome, runs, comes, happens, after, MayComeAll}
@@ -10,7 +11,7 @@ use Rattle.mc_model.specs.Front.{same_cid}
 use Rattle.mc_model.specs.Graph.{Vertex, times, has, in_graph, links_in, all_links}
 use Rattle.mc_model.specs.State.{Durable, Running, State, RunHolds, IsSound, wanted_in}
 use Rattle.mc_model.specs.Wanted.{Queue, wanted, held, IsOnce, want_all, start_first, give_back, to_missing, to_bad, requeue, without}
-use Rattle.mc_model.proofs.Counts.{or_cases, or_left, and_both, both_and, not_true, not_false, times_has, has_times, times_none, has-append, linker, linked_from}
+use Rattle.mc_model.proofs.Counts.{times_has, has_times, times_none, has-append, linker, linked_from}
 use Rattle.mc_model.proofs.Held.{grows_want_all, all_wanted, same_give_back, same_to_missing, same_to_bad, same_requeue, same_start, taken, want_all_from, without_from}
 use Rattle.mc_model.proofs.InOrder.{is_traced, traced_more, traced_link, group_in_order, in_order-append}
 use Rattle.mc_model.proofs.Sound.{sound_after}
@@ -49,12 +50,12 @@ apart : (now : List Cid) (q : Queue) → IsOnce now q → (c : Cid) → has c (w
 apart now q once c e f = omega (arith, once c, times_has c (wanted q) e, times_has c now f)
 
 added_of : (found : Offers) (order start : List Cid) (c : Cid) → IsComing found order start c → is_new found order c ≡ true → IsAdded found order start c
-added_of found order start c (inl h) new = record { path = []; along = both_and _ _ h new }
-added_of found order start c (inr h) new = record { path = h.from ∷ h.added.path; along = both_and _ _ h.added.along (both_and _ _ h.linked new) }
+added_of found order start c (inl h) new = record { path = []; along = and_from _ _ h new }
+added_of found order start c (inr h) new = record { path = h.from ∷ h.added.path; along = and_from _ _ h.added.along (and_from _ _ h.linked new) }
 
 -- what is wanted now with a good offer is added
 wanted_added : (found : Offers) (order start now : List Cid) (q : Queue) → IsOnce now q → Drained found order start now q → (c : Cid) → has c (wanted q) ≡ true → is_found (found c) ≡ true → IsAdded found order start c
-wanted_added found order start now q once g c w good = added_of found order start c (g.from c w) (both_and _ _ good (not_false (has c order) (new (has c order) refl)))
+wanted_added found order start now q once g c w good = added_of found order start c (g.from c w) (and_from _ _ good (not_from_false (has c order) (new (has c order) refl)))
   where
     new : (b : Bool) → has c order ≡ b → b ≡ false
     new true h = absurd (apart now q once c w (g.old c h))
@@ -157,10 +158,10 @@ starts found durable run = record {
 }
 
 way_new : (found : Offers) (order start path : List Cid) (c : Cid) → is_way found order start path c ≡ true → is_new found order c ≡ true
-way_new found order start [] c e = (and_both (has c start) (is_new found order c) e).1
+way_new found order start [] c e = (and_parts (has c start) (is_new found order c) e).1
 way_new found order start (m ∷ path) c e =
-    let parts = and_both (is_way found order start path m) (has c (found_links (found m)) && is_new found order c) e in
-    (and_both (has c (found_links (found m))) (is_new found order c) parts.1).1
+    let parts = and_parts (is_way found order start path m) (has c (found_links (found m)) && is_new found order c) e in
+    (and_parts (has c (found_links (found m))) (is_new found order c) parts.1).1
 
 module _ (found : Offers) (order start now : List Cid) (q : Queue) (g : Drained found order start now q) (done : (c : Cid) → has c (wanted q) ≡ true → is_found (found c) ≡ false) where
   -- what is held and new is processed
@@ -174,18 +175,18 @@ module _ (found : Offers) (order start now : List Cid) (q : Queue) (g : Drained 
       no : has c now ≡ false → ⊥
       no k =
           let none : times c now ≡ 0 = times_none c now k in
-          let bad : true ≡ false = sym (and_both (is_found (found c)) (not (has c order)) new).0 ∙ done c (has_times c (wanted q) (omega (arith, h, none))) in
+          let bad : true ≡ false = sym (and_parts (is_found (found c)) (not (has c order)) new).0 ∙ done c (has_times c (wanted q) (omega (arith, h, none))) in
           absurd (cc)
 
   way_in : (path : List Cid) (c : Cid) → is_way found order start path c ≡ true → has c now ≡ true
   way_in [] c e =
-      let parts = and_both (has c start) (is_new found order c) e in
+      let parts = and_parts (has c start) (is_new found order c) e in
       settled c parts.1 (g.still c parts.0)
   way_in (m ∷ path) c e =
-      let parts = and_both (is_way found order start path m) (has c (found_links (found m)) && is_new found order c) e in
-      let link = and_both (has c (found_links (found m))) (is_new found order c) parts.1 in
-      let above = and_both (is_found (found m)) (not (has m order)) (way_new found order start path m parts.0) in
-      settled c link.1 (g.linked m (way_in path m parts.0) (not_true (has m order) above.1) c link.0)
+      let parts = and_parts (is_way found order start path m) (has c (found_links (found m)) && is_new found order c) e in
+      let link = and_parts (has c (found_links (found m))) (is_new found order c) parts.1 in
+      let above = and_parts (is_found (found m)) (not (has m order)) (way_new found order start path m parts.0) in
+      settled c link.1 (g.linked m (way_in path m parts.0) (not-true (has m order) above.1) c link.0)
 
   closed_in : (c : Cid) → IsClosed found order start c → has c now ≡ true
   closed_in c (inl h) = g.old c h
@@ -194,8 +195,8 @@ module _ (found : Offers) (order start now : List Cid) (q : Queue) (g : Drained 
   coming_held : (c : Cid) → IsComing found order start c → 1 ≤ held now q c
   coming_held c (inl h) = g.still c h
   coming_held c (inr h) =
-      let above = and_both (is_found (found h.from)) (not (has h.from order)) (way_new found order start h.added.path h.from h.added.along) in
-      g.linked h.from (way_in h.added.path h.from h.added.along) (not_true (has h.from order) above.1) c h.linked
+      let above = and_parts (is_found (found h.from)) (not (has h.from order)) (way_new found order start h.added.path h.from h.added.along) in
+      g.linked h.from (way_in h.added.path h.from h.added.along) (not-true (has h.from order) above.1) c h.linked
 
   coming_left : (c : Cid) → IsComing found order start c → (IsClosed found order start c → ⊥) → has c (wanted q) ≡ true
   coming_left c h out =
@@ -208,9 +209,9 @@ module _ (found : Offers) (order start now : List Cid) (q : Queue) (g : Drained 
   came_in : (c : Cid) → IsAdded found order start c → has c g.came ≡ true
   came_in c h =
       let now_has : has c now ≡ true = way_in h.path c h.along in
-      let new = and_both (is_found (found c)) (not (has c order)) (way_new found order start h.path c h.along) in
+      let new = and_parts (is_found (found c)) (not (has c order)) (way_new found order start h.path c h.along) in
       elim (or_cases (has c order) (has c g.came) (sym (ap (has c) g.grown ∙ has-append c order g.came) ∙ now_has)) [
-        | inl k ↦ absurd (let no : true ≡ false = sym k ∙ not_true (has c order) new.1 in cc)
+        | inl k ↦ absurd (let no : true ≡ false = sym k ∙ not-true (has c order) new.1 in cc)
         | inr k ↦ k
       ]
 

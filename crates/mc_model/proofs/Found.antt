@@ -4,6 +4,7 @@ use Rattle.std.specs.Prelude.{nat_le, Result, Ok, Err, unwrap_or}
 use Rattle.std.specs.List.{find}
 use Rattle.std.specs.Result.{is_ok, result_ok}
 use Rattle.std.specs.Str.{bytes_eq}
+use Rattle.std.proofs.lemmas.Bool.{and_from, and_parts}
 use Rattle.mc_base.specs.Cid.{digest_of}
 use Rattle.mc_base.specs.NodeRead.{node_of}
 use Rattle.mc_base.specs.declared.cid.Cid.{Cid}
@@ -12,10 +13,9 @@ use Rattle.mc_model.specs.Drain.{is_new, is_way, IsAdded, IsClosed}
 use Rattle.mc_model.specs.Found.{Good, Offers, found_bytes, found_reading, found_as, found_in, is_found, found_links}
 use Rattle.mc_model.specs.Graph.{has}
 use Rattle.mc_model.specs.Offer.{Damage, TooLarge, WrongDigest, block_max, empty_delta, offer, is_good, block_of, block_of_node}
-use Rattle.mc_model.proofs.Counts.{and_both, both_and}
 
 -- good bytes have the digest
-good_digest : (cid : Cid) (bytes : List ℕ) → is_good cid bytes ≡ true → bytes_eq (digest_of bytes) cid.0 ≡ true
+pub good_digest : (cid : Cid) (bytes : List ℕ) → is_good cid bytes ≡ true → bytes_eq (digest_of bytes) cid.0 ≡ true
 unfolding offer
 good_digest cid bytes e =
     elim (not (nat_le (length bytes) block_max)) as (λ t. is_ok (cond t (Err (TooLarge (length bytes))) (cond (not (bytes_eq (digest_of bytes) cid.0)) (Err (WrongDigest (digest_of bytes))) (block_of_node cid (node_of bytes)))) ≡ true → bytes_eq (digest_of bytes) cid.0 ≡ true) [
@@ -52,12 +52,12 @@ module _ (found : Offers) (order start : List Cid) (test : Cid → Bool)
     (goes : (m c : Cid) → IsAdded found order start m → test m ≡ true → has c (found_links (found m)) ≡ true → is_found (found c) ≡ true → test c ≡ true) where
   way_least : (path : List Cid) (c : Cid) → is_way found order start path c ≡ true → test c ≡ true
   way_least [] c e =
-      let parts = and_both (has c start) (is_new found order c) e in
-      starts c parts.0 (and_both (is_found (found c)) (not (has c order)) parts.1).0
+      let parts = and_parts (has c start) (is_new found order c) e in
+      starts c parts.0 (and_parts (is_found (found c)) (not (has c order)) parts.1).0
   way_least (m ∷ path) c e =
-      let parts = and_both (is_way found order start path m) (has c (found_links (found m)) && is_new found order c) e in
-      let link = and_both (has c (found_links (found m))) (is_new found order c) parts.1 in
-      goes m c (record { path = path; along = parts.0 }) (way_least path m parts.0) link.0 (and_both (is_found (found c)) (not (has c order)) link.1).0
+      let parts = and_parts (is_way found order start path m) (has c (found_links (found m)) && is_new found order c) e in
+      let link = and_parts (has c (found_links (found m))) (is_new found order c) parts.1 in
+      goes m c (record { path = path; along = parts.0 }) (way_least path m parts.0) link.0 (and_parts (is_found (found c)) (not (has c order)) link.1).0
 
   pub closed_least : ((c : Cid) → has c order ≡ true → test c ≡ true) → (c : Cid) → IsClosed found order start c → test c ≡ true
   closed_least old c (inl h) = old c h
@@ -69,12 +69,12 @@ pub closed_wanted : (found : Offers) (order start : List Cid) (c : Cid) → has 
 closed_wanted found order start c w good =
     elim (has c order) as (λ t. has c order ≡ t → IsClosed found order start c) [
       | true ↦ λ h. inl h
-      | false ↦ λ h. inr (record { path = []; along = both_and _ _ w (both_and _ _ good (ap not h)) })
+      | false ↦ λ h. inr (record { path = []; along = and_from _ _ w (and_from _ _ good (ap not h)) })
     ] refl
 
 pub closed_linked : (found : Offers) (order start : List Cid) (m c : Cid) → IsAdded found order start m → has c (found_links (found m)) ≡ true → is_found (found c) ≡ true → IsClosed found order start c
 closed_linked found order start m c added l good =
     elim (has c order) as (λ t. has c order ≡ t → IsClosed found order start c) [
       | true ↦ λ h. inl h
-      | false ↦ λ h. inr (record { path = m ∷ added.path; along = both_and _ _ added.along (both_and _ _ l (both_and _ _ good (ap not h))) })
+      | false ↦ λ h. inr (record { path = m ∷ added.path; along = and_from _ _ added.along (and_from _ _ l (and_from _ _ good (ap not h))) })
     ] refl

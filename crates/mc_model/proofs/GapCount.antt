@@ -1,13 +1,15 @@
 -- Lists that have each gap just once are as long as the list of gaps.
 use Rattle.std.proofs.Common.{◌≡◌, ℕ, Bool, true, false, not, cond, List, [], ◌∷◌, ◌||◌, ◌&&◌, sym, refl, ap, ◌∙◌, subst, arith, length, filter}
 use Rattle.std.specs.List.{list_any, AllByRecursion, IsDistinct}
+use Rattle.std.proofs.Math.Bool.{and-false}
+use Rattle.std.proofs.lemmas.Bool.{not_from_false, and_from}
 use Rattle.mc_base.specs.declared.cid.Cid.{Cid}
 use Rattle.mc_model.specs.declared.block.Block.{Block}
 use Rattle.mc_model.specs.Ascending.{is_once}
 use Rattle.mc_model.specs.Front.{same_cid, is_among, is_processed, is_gap, links, gaps}
 use Rattle.mc_model.specs.Graph.{times}
 use Rattle.mc_model.proofs.Blocks.{is_linked_has, times_once}
-use Rattle.mc_model.proofs.Counts.{cid_is, times_has, times_none, both_and, not_false}
+use Rattle.mc_model.proofs.Counts.{cid_is, times_has, times_none}
 use Rattle.mc_model.proofs.OnceLength.{once_list, same_length}
 
 none_same : (x : Cid) (xs : List Cid) → AllByRecursion (λ y. same_cid x y ≡ false) xs → list_any (same_cid x) xs ≡ false
@@ -19,8 +21,8 @@ pub distinct_once : (keys : List Cid) → IsDistinct same_cid keys → is_once s
 unfolding IsDistinct
 distinct_once [] distinct = refl
 distinct_once (x ∷ keys) distinct =
-    both_and (not (list_any (same_cid x) keys)) (is_once same_cid keys)
-    (not_false (list_any (same_cid x) keys) (none_same x keys distinct.0)) (distinct_once keys distinct.1)
+    and_from (not (list_any (same_cid x) keys)) (is_once same_cid keys)
+    (not_from_false (list_any (same_cid x) keys) (none_same x keys distinct.0)) (distinct_once keys distinct.1)
 
 -- how often an identifier stands in a list without repeats
 pub once_times_is : (xs : List Cid) → is_once same_cid xs ≡ true → (c : Cid) → times c xs ≡ cond (is_among xs c) 1 0
@@ -38,17 +40,13 @@ among_filter keep c (x ∷ xs) =
       | true ↦ λ s. subst (λ (z : Cid). is_among (cond (keep z) (x ∷ filter keep xs) (filter keep xs)) c ≡ keep c) (cid_is c x s)
           (elim (keep c) as (λ t. keep c ≡ t → is_among (cond t (x ∷ filter keep xs) (filter keep xs)) c ≡ t) [
             | true ↦ λ k. ap (λ z. z || is_among (filter keep xs) c) s
-            | false ↦ λ k. among_filter keep c xs ∙ ap (λ z. is_among xs c && z) k ∙ none (is_among xs c)
+            | false ↦ λ k. among_filter keep c xs ∙ ap (λ z. is_among xs c && z) k ∙ and-false (is_among xs c)
           ] refl)
       | false ↦ λ s. elim (keep x) as (λ t. is_among (cond t (x ∷ filter keep xs) (filter keep xs)) c ≡ (is_among xs c && keep c)) [
         | true ↦ ap (λ z. z || is_among (filter keep xs) c) s ∙ among_filter keep c xs
         | false ↦ among_filter keep c xs
       ]
     ] refl
-  where
-    none : (b : Bool) → (b && false) ≡ false
-    none true = refl
-    none false = refl
 
 gap_among : (blocks : List Block) (c : Cid) → is_gap blocks c ≡ is_among (filter (λ cid. not (is_processed blocks cid)) (links blocks)) c
 gap_among blocks c =

@@ -1,29 +1,25 @@
 -- The greatest of a list depends on its members alone.
-use Rattle.std.proofs.Common.{◌≡◌, Bool, true, false, cond, ◌&&◌, ℕ, List, [], ◌∷◌, ◌++◌, Some, None, ◌||◌, sym, refl, ap, ◌∙◌, subst}
+use Rattle.std.proofs.Common.{◌≡◌, Bool, true, false, cond, ◌&&◌, List, [], ◌∷◌, ◌++◌, Some, None, ◌||◌, sym, refl, ap, ◌∙◌, subst}
 use Rattle.std.specs.Prelude.{nat_eq, fold, All, Contains, slice_index_or}
 use Rattle.std.specs.List.{list_any}
-use Rattle.std.specs.Cmp.{IsTotalOrder}
+use Rattle.std.specs.Cmp.{IsTotalOrder, Equal-is}
 use Rattle.std.specs.Cmp.Lexicographic.{slice_cmp}
-use Rattle.std.specs.Ordering.{is_lt, is_gt, is_eq, nat_cmp, ordering_reverse, ordering_then}
+use Rattle.std.specs.Ordering.{is_lt, is_gt, is_eq, nat_cmp, ordering_reverse}
 use Rattle.std.specs.declared.cmp.Ordering.{Ordering}
 use Rattle.std.specs.declared.cmp.Ordering.TheVariants.{Less, Equal, Greater}
 use Rattle.std.specs.FinMap.{nat_cmp-IsAntisymmetric, slice_cmp-IsAntisymmetric}
-use Rattle.std.proofs.lemmas.Bool.{and_parts, eqb-true, eq-eqb}
+use Rattle.std.proofs.lemmas.Bool.{and_parts, eqb-true, eq-eqb, or_parts, or_right, or_from}
 use Rattle.std.proofs.lemmas.Slice.Eq.{bytes_eq-Decides}
 use Rattle.std.specs.Str.{bytes_eq}
 use Rattle.std.proofs.lemmas.Cmp.{then_total, on_total, nat_cmp_total, nat_list_cmp_total, upto, tied_itself}
 use Rattle.mc_model.specs.Rank.{Ranked, rank_cmp, same_ranked, greater, greatest, IsGreatestOf}
 use Rattle.std.proofs.lemmas.List.Elements.{All-nil, All-cons}
 use Rattle.std.proofs.lemmas.List.Folds.{Any-from_list_any}
+use Rattle.mc_base.proofs.Orders.{then_equal}
 use Rattle.mc_model.specs.SameMembers.{SameMembers}
 
 pub rank_total : IsTotalOrder rank_cmp
 rank_total = then_total (on_total (λ (r : Ranked). r.0) nat_cmp_total) (on_total (λ (r : Ranked). r.1) nat_list_cmp_total)
-
-then_equal : (a b : Ordering) → ordering_then a b ≡ Equal → (a ≡ Equal) × (b ≡ Equal)
-then_equal Less b e = absurd (cc)
-then_equal Equal b e = (refl, e)
-then_equal Greater b e = absurd (cc)
 
 pub rank_tied : (x y : Ranked) → rank_cmp x y ≡ Equal → x ≡ y
 rank_tied (p, v) (q, w) e =
@@ -37,19 +33,16 @@ turn_lt o Less e = ap is_gt e
 turn_lt o Equal e = ap is_gt e
 turn_lt o Greater e = ap is_gt e
 
-gt_lt : (x y : Ranked) → is_gt (rank_cmp x y) ≡ is_lt (rank_cmp y x)
+pub gt_lt : (x y : Ranked) → is_gt (rank_cmp x y) ≡ is_lt (rank_cmp y x)
 gt_lt x y = turn_lt (rank_cmp x y) (rank_cmp y x) (rank_total.antisymm x y)
 
-not_gt_itself : (x : Ranked) → is_gt (rank_cmp x x) ≡ false
+pub not_gt_itself : (x : Ranked) → is_gt (rank_cmp x x) ≡ false
 not_gt_itself x = ap is_gt (tied_itself rank_total x)
 
 lt_not_gt : (o : Ordering) → is_lt o ≡ true → is_gt o ≡ false
 lt_not_gt Less e = refl
 lt_not_gt Equal e = refl
 lt_not_gt Greater e = absurd (cc)
-
-both_false : (b c : Bool) → b ≡ false → c ≡ false → (b || c) ≡ false
-both_false b c e f = subst (λ (z : Bool). (z || c) ≡ false) (sym e) f
 
 -- nothing is above what a fold from b gives, nor is b
 fold_bound : (xs : List Ranked) (b m : Ranked) → fold greater (Some b) xs ≡ Some m
@@ -62,10 +55,10 @@ fold_bound (x ∷ xs) b m e =
     → (is_gt (rank_cmp b m) ≡ false) × (list_any (λ x. is_gt (rank_cmp x m)) (x ∷ xs) ≡ false)) [
       | true ↦ λ t h.
           let more = fold_bound xs x m h in
-          (upto rank_total b x m (lt_not_gt (rank_cmp b x) t) more.0, both_false _ _ more.0 more.1)
+          (upto rank_total b x m (lt_not_gt (rank_cmp b x) t) more.0, or_from _ _ more.0 more.1)
       | false ↦ λ t h.
           let more = fold_bound xs b m h in
-          (more.0, both_false _ _ (upto rank_total x b m (gt_lt x b ∙ t) more.0) more.1)
+          (more.0, or_from _ _ (upto rank_total x b m (gt_lt x b ∙ t) more.0) more.1)
     ] refl e
 
 -- what a fold from b gives is b or a member
@@ -81,10 +74,6 @@ fold_member (x ∷ xs) b m e =
       | false ↦ λ h. or_middle (is_eq (rank_cmp m b)) (is_eq (rank_cmp m x)) _ (fold_member xs b m h)
     ] e
   where
-    or_right : (a b : Bool) → b ≡ true → (a || b) ≡ true
-    or_right true b h = refl
-    or_right false b h = h
-
     or_middle : (a b c : Bool) → (a || c) ≡ true → (a || (b || c)) ≡ true
     or_middle true b c h = refl
     or_middle false true c h = refl
@@ -98,16 +87,12 @@ fold_some (x ∷ xs) b =
 tied_gt : (xs : List Ranked) (m n : Ranked) → list_any (λ x. is_eq (rank_cmp m x)) xs ≡ true → list_any (λ x. is_gt (rank_cmp x n)) xs ≡ false → is_gt (rank_cmp m n) ≡ false
 tied_gt [] m n e f = absurd (cc)
 tied_gt (x ∷ xs) m n e f =
-    let none : (is_gt (rank_cmp x n) ≡ false) × (list_any (λ x. is_gt (rank_cmp x n)) xs ≡ false) = or_none (is_gt (rank_cmp x n)) (list_any (λ x. is_gt (rank_cmp x n)) xs) f in
+    let none : (is_gt (rank_cmp x n) ≡ false) × (list_any (λ x. is_gt (rank_cmp x n)) xs ≡ false) = or_parts (is_gt (rank_cmp x n)) (list_any (λ x. is_gt (rank_cmp x n)) xs) f in
     elim (rank_cmp m x) as (λ o. rank_cmp m x ≡ o → (is_eq o || list_any (λ x. is_eq (rank_cmp m x)) xs) ≡ true → is_gt (rank_cmp m n) ≡ false) [
       | Less ↦ λ t h. tied_gt xs m n h none.1
       | Equal ↦ λ t h. subst (λ (z : Ranked). is_gt (rank_cmp z n) ≡ false) (sym (rank_tied m x t)) none.0
       | Greater ↦ λ t h. tied_gt xs m n h none.1
     ] refl e
-  where
-    or_none : (a b : Bool) → (a || b) ≡ false → (a ≡ false) × (b ≡ false)
-    or_none true b h = absurd (cc)
-    or_none false b h = (refl, h)
 
 neither_gt : (m n : Ranked) → is_gt (rank_cmp m n) ≡ false → is_gt (rank_cmp n m) ≡ false → m ≡ n
 neither_gt m n e f = rank_tied m n (only_equal (rank_cmp m n) e (sym (gt_lt n m) ∙ f))
@@ -126,8 +111,8 @@ greatest_same (x ∷ xs) (y ∷ ys) h =
     let found' = fold_some ys y in
     let m : Ranked = found.0 in
     let n : Ranked = found'.0 in
-    let bound : list_any (λ z. is_gt (rank_cmp z m)) (x ∷ xs) ≡ false = let b = fold_bound xs x m found.1 in both_false _ _ b.0 b.1 in
-    let bound' : list_any (λ z. is_gt (rank_cmp z n)) (y ∷ ys) ≡ false = let b = fold_bound ys y n found'.1 in both_false _ _ b.0 b.1 in
+    let bound : list_any (λ z. is_gt (rank_cmp z m)) (x ∷ xs) ≡ false = let b = fold_bound xs x m found.1 in or_from _ _ b.0 b.1 in
+    let bound' : list_any (λ z. is_gt (rank_cmp z n)) (y ∷ ys) ≡ false = let b = fold_bound ys y n found'.1 in or_from _ _ b.0 b.1 in
     let member : list_any (λ z. is_eq (rank_cmp m z)) (x ∷ xs) ≡ true = fold_member xs x m found.1 in
     let member' : list_any (λ z. is_eq (rank_cmp n z)) (y ∷ ys) ≡ true = fold_member ys y n found'.1 in
     let up : is_gt (rank_cmp m n) ≡ false = tied_gt (y ∷ ys) m n (sym (h.same (λ z. is_eq (rank_cmp m z))) ∙ member) bound' in
@@ -146,24 +131,15 @@ greatest-append xs ys = fold-append greater None xs ys
 none_above : (m : Ranked) (xs : List Ranked) → list_any (λ x. is_gt (rank_cmp x m)) xs ≡ false → All (λ x. is_gt (rank_cmp x m) ≡ false) xs
 none_above m [] e = All-nil (λ (x : Ranked). is_gt (rank_cmp x m) ≡ false)
 none_above m (x ∷ xs) e =
-    let none = neither (is_gt (rank_cmp x m)) (list_any (λ x. is_gt (rank_cmp x m)) xs) e in
+    let none = or_parts (is_gt (rank_cmp x m)) (list_any (λ x. is_gt (rank_cmp x m)) xs) e in
     All-cons (λ (x : Ranked). is_gt (rank_cmp x m) ≡ false) x xs none.0 (none_above m xs none.1)
-  where
-    neither : (a b : Bool) → (a || b) ≡ false → (a ≡ false) × (b ≡ false)
-    neither true b h = absurd (cc)
-    neither false b h = (refl, h)
 
 -- what ties with a member is a member
 tied_member : (m : Ranked) (xs : List Ranked) → list_any (λ x. is_eq (rank_cmp m x)) xs ≡ true → Contains xs m
 tied_member m xs e =
     let found = Any-from_list_any (λ x. is_eq (rank_cmp m x)) xs e in
-    let tied : rank_cmp m found.1 ≡ Equal = only_equal (rank_cmp m found.1) found.4 in
+    let tied : rank_cmp m found.1 ≡ Equal = (Equal-is (rank_cmp m found.1)).0 found.4 in
     (found.0, found.2, subst (λ (z : Ranked). slice_index_or xs found.0 z ≡ z) (sym (rank_tied m found.1 tied)) found.3)
-  where
-    only_equal : (o : Ordering) → is_eq o ≡ true → o ≡ Equal
-    only_equal Less e = absurd (cc)
-    only_equal Equal e = refl
-    only_equal Greater e = absurd (cc)
 
 pub greatest_is_greatest : (ranked : List Ranked) → IsGreatestOf ranked (greatest ranked)
 greatest_is_greatest [] = refl
@@ -173,7 +149,7 @@ greatest_is_greatest (x ∷ xs) =
     let bound = fold_bound xs x m found.1 in
     subst (IsGreatestOf (x ∷ xs)) (sym found.1) (record {
       member = tied_member m (x ∷ xs) (fold_member xs x m found.1);
-      bound = none_above m (x ∷ xs) (both_false _ _ bound.0 bound.1);
+      bound = none_above m (x ∷ xs) (or_from _ _ bound.0 bound.1);
     })
 
 -- the order ties just what is one
@@ -217,8 +193,8 @@ greatest_of_fewer (x ∷ xs) [] m e fewer there = absurd (let no : false ≡ tru
 greatest_of_fewer (x ∷ xs) (y ∷ ys) m e fewer there =
     let found = fold_some ys y in
     let n : Ranked = found.0 in
-    let bound : list_any (λ z. is_gt (rank_cmp z m)) (y ∷ ys) ≡ false = fewer (λ z. is_gt (rank_cmp z m)) (let b = fold_bound xs x m e in both_false _ _ b.0 b.1) in
-    let bound' : list_any (λ z. is_gt (rank_cmp z n)) (y ∷ ys) ≡ false = let b = fold_bound ys y n found.1 in both_false _ _ b.0 b.1 in
+    let bound : list_any (λ z. is_gt (rank_cmp z m)) (y ∷ ys) ≡ false = fewer (λ z. is_gt (rank_cmp z m)) (let b = fold_bound xs x m e in or_from _ _ b.0 b.1) in
+    let bound' : list_any (λ z. is_gt (rank_cmp z n)) (y ∷ ys) ≡ false = let b = fold_bound ys y n found.1 in or_from _ _ b.0 b.1 in
     let member : list_any (λ z. is_eq (rank_cmp m z)) (y ∷ ys) ≡ true = tied_all m (y ∷ ys) ∙ there in
     let member' : list_any (λ z. is_eq (rank_cmp n z)) (y ∷ ys) ≡ true = fold_member ys y n found.1 in
     found.1 ∙ ap (λ (z : Ranked). Some z) (neither_gt n m (tied_gt (y ∷ ys) n m member' bound) (tied_gt (y ∷ ys) m n member bound'))

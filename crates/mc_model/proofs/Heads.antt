@@ -6,12 +6,13 @@ use Rattle.std.specs.List.Sorted.{IsStrictlySortedBy}
 use Rattle.std.specs.Option.{option_map}
 use Rattle.std.specs.Cmp.{IsTotalOrder}
 use Rattle.std.specs.Cmp.Lexicographic.{slice_cmp}
-use Rattle.std.specs.Ordering.{nat_cmp, ordering_then}
-use Rattle.std.specs.declared.cmp.Ordering.{Ordering}
-use Rattle.std.specs.declared.cmp.Ordering.TheVariants.{Less, Equal, Greater}
+use Rattle.std.specs.Ordering.{nat_cmp}
+use Rattle.std.specs.declared.cmp.Ordering.TheVariants.{Equal}
 use Rattle.std.specs.FinMap.{nat_cmp-IsAntisymmetric, slice_cmp-IsAntisymmetric}
 use Rattle.std.proofs.lemmas.Cmp.{then_total, on_total, nat_cmp_total, nat_list_cmp_total}
+use Rattle.std.proofs.Math.Bool.{and-false, and-true}
 use Rattle.mc_base.specs.declared.cid.Cid.{Cid}
+use Rattle.mc_base.proofs.Orders.{then_equal}
 use Rattle.mc_model.specs.declared.block.Block.{Block}
 use Rattle.mc_model.specs.Front.{same_cid, is_processed, is_linked, Head, head_of, head_cmp, heads, head_at}
 use Rattle.mc_model.proofs.Ascending.{ascending_ascends}
@@ -20,11 +21,6 @@ use Rattle.mc_model.proofs.Members.{list_any-map, list_any-filter}
 
 pub head_total : IsTotalOrder head_cmp
 head_total = then_total (on_total (λ (head : Head). head.0.0) nat_list_cmp_total) (on_total (λ (head : Head). head.1) nat_cmp_total)
-
-then_equal : (a b : Ordering) → ordering_then a b ≡ Equal → (a ≡ Equal) × (b ≡ Equal)
-then_equal Less b e = absurd (cc)
-then_equal Equal b e = (refl, e)
-then_equal Greater b e = absurd (cc)
 
 abbrev head_with : List ℕ → ℕ → Head
 head_with digest height = (record { 0 = digest }, height)
@@ -53,17 +49,9 @@ some_found f test (x ∷ xs) = elim (test x) as (λ t. is_some (option_map f (co
 pub is_head : (blocks : List Block) (c : Cid) → is_some (head_at blocks c) ≡ (is_processed blocks c && not (is_linked blocks c))
 is_head blocks c =
     elim (is_linked blocks c) as (λ t. is_some (cond t None (option_map (λ (block : Block). block.delta.priority) (find (λ (block : Block). same_cid c block.cid) blocks))) ≡ (is_processed blocks c && not t)) [
-      | true ↦ sym (never (is_processed blocks c))
-      | false ↦ some_found (λ (block : Block). block.delta.priority) (λ (block : Block). same_cid c block.cid) blocks ∙ sym (always (is_processed blocks c))
+      | true ↦ sym (and-false (is_processed blocks c))
+      | false ↦ some_found (λ (block : Block). block.delta.priority) (λ (block : Block). same_cid c block.cid) blocks ∙ sym (and-true (is_processed blocks c))
     ]
-  where
-    never : (a : Bool) → (a && false) ≡ false
-    never true = refl
-    never false = refl
-
-    always : (a : Bool) → (a && true) ≡ a
-    always true = refl
-    always false = refl
 
 -- the identifiers of the heads are those of the processed blocks that none links to
 pub heads_cid : (blocks : List Block) (c : Cid) → list_any (same_cid c) (map (λ (head : Head). head.0) (heads blocks)) ≡ (is_processed blocks c && not (is_linked blocks c))
@@ -77,14 +65,10 @@ heads_cid blocks c =
     tested keep (b ∷ all) =
         elim (same_cid c b.cid) as (λ s. same_cid c b.cid ≡ s → ((keep b.cid && s) || list_any (λ (block : Block). keep block.cid && same_cid c block.cid) all) ≡ ((s || is_processed all c) && keep c)) [
           | true ↦ λ s. ap (λ z. (z && true) || list_any (λ (block : Block). keep block.cid && same_cid c block.cid) all) (ap keep (sym (cid_is c b.cid s))) ∙ ap (λ z. (keep c && true) || z) (tested keep all) ∙ once_more (keep c) (is_processed all c)
-          | false ↦ λ s. ap (λ z. z || list_any (λ (block : Block). keep block.cid && same_cid c block.cid) all) (none (keep b.cid)) ∙ tested keep all
+          | false ↦ λ s. ap (λ z. z || list_any (λ (block : Block). keep block.cid && same_cid c block.cid) all) (and-false (keep b.cid)) ∙ tested keep all
         ] refl
       where
         once_more : (k p : Bool) → ((k && true) || (p && k)) ≡ k
         once_more true p = refl
         once_more false true = refl
         once_more false false = refl
-
-        none : (k : Bool) → (k && false) ≡ false
-        none true = refl
-        none false = refl

@@ -1,10 +1,11 @@
 -- How often an identifier is held, and what each change of the wanted set does to it.
 use Rattle.std.proofs.Common.{◌≡◌, ℕ, ◌+◌, ◌≤◌, Bool, true, false, not, cond, List, [], ◌∷◌, ◌++◌, ◌||◌, sym, refl, ap, ◌∙◌, subst, inl, inr, ◌⊎◌, arith, filter}
+use Rattle.std.proofs.lemmas.Bool.{or_parts, or_right, or_left, or_cases}
 use Rattle.mc_base.specs.declared.cid.Cid.{Cid}
 use Rattle.mc_model.specs.Front.{same_cid}
 use Rattle.mc_model.specs.Graph.{times, has}
 use Rattle.mc_model.specs.Wanted.{Queue, bad_cids, wanted, held, IsOnce, to_waiting, want, want_all, others, bad_others, out_of_stuck, hear, hear_all, start_first, give_back, to_missing, to_bad, requeue, without}
-use Rattle.mc_model.proofs.Counts.{cid_is, cid_itself, or_cases, or_left, or_right, or_none, times_has, has_times, times_none, times-append, times-one, times-filter, map-filter, map-append}
+use Rattle.mc_model.proofs.Counts.{cid_is, cid_itself, times_has, has_times, times_none, times-append, times-one, times-filter, map-filter, map-append}
 
 -- the four counts
 pub in_parts : (q : Queue) (c : Cid) → times c (wanted q) ≡ times c q.waiting + (times c q.flight + (times c q.missing + times c (bad_cids q.bad)))
@@ -48,7 +49,7 @@ pub grows_want : (order : List Cid) (q : Queue) (c : Cid) → Grows order q (wan
 grows_want order q c =
     elim (has c order || has c (wanted q)) as (λ t. (has c order || has c (wanted q)) ≡ t → Grows order q (cond t q (to_waiting q c))) [
       | true ↦ λ h. grows_not order q
-      | false ↦ λ h. let none = or_none (has c order) (has c (wanted q)) h in
+      | false ↦ λ h. let none = or_parts (has c order) (has c (wanted q)) h in
           record { more = λ d. omega (arith, to_waiting_held q c d); once = λ o d. once_to_waiting order q c d (times_none c order none.0) (times_none c (wanted q) none.1) (o d) }
     ] refl
 

@@ -2,12 +2,13 @@
 use Rattle.std.proofs.Common.{◌≡◌, refl, Bool, true, List, [], ◌∷◌, ◌++◌, ◌||◌, sym, ap, ◌∙◌, subst, inl, inr}
 use Rattle.std.proofs.lemmas.List.{append_assoc, append-nil}
 use Rattle.std.proofs.lemmas.List.Concat.{flat_map-append}
+use Rattle.std.proofs.lemmas.Bool.{and_from, and_parts, or_right, or_left, or_cases}
 use Rattle.mc_base.specs.declared.cid.Cid.{Cid}
 use Rattle.mc_model.specs.Drain.{offered_links, is_in_order}
 use Rattle.mc_model.specs.Found.{Offers, found_links}
 use Rattle.mc_model.specs.Front.{same_cid}
 use Rattle.mc_model.specs.Graph.{has}
-use Rattle.mc_model.proofs.Counts.{cid_is, cid_itself, or_cases, or_left, or_right, and_both, both_and, has-append}
+use Rattle.mc_model.proofs.Counts.{cid_is, cid_itself, has-append}
 
 -- wanted at the start, or linked by one of these
 abbrev pub is_traced : Offers → List Cid → List Cid → Cid → Bool
@@ -39,12 +40,12 @@ traced_link found start before more m c e l =
 pub group_in_order : (found : Offers) (start before cids : List Cid) → ((c : Cid) → has c cids ≡ true → is_traced found start before c ≡ true) → is_in_order found start before cids ≡ true
 group_in_order found start before [] h = refl
 group_in_order found start before (x ∷ cids) h =
-    both_and _ _ (h x (or_left (same_cid x x) (has x cids) (cid_itself x)))
+    and_from _ _ (h x (or_left (same_cid x x) (has x cids) (cid_itself x)))
     (group_in_order found start (before ++ x ∷ []) cids (λ c e. traced_more found start before (x ∷ []) c (h c (or_right (same_cid c x) (has c cids) e))))
 
 -- one list in order after another
 pub in_order-append : (found : Offers) (start before xs ys : List Cid) → is_in_order found start before xs ≡ true → is_in_order found start (before ++ xs) ys ≡ true → is_in_order found start before (xs ++ ys) ≡ true
 in_order-append found start before [] ys h k = sym (ap (λ z. is_in_order found start z ys) (append-nil before)) ∙ k
 in_order-append found start before (x ∷ xs) ys h k =
-    let parts = and_both (has x start || has x (offered_links found before)) (is_in_order found start (before ++ x ∷ []) xs) h in
-    both_and _ _ parts.0 (in_order-append found start (before ++ x ∷ []) xs ys parts.1 (ap (λ z. is_in_order found start z ys) (append_assoc before (x ∷ []) xs) ∙ k))
+    let parts = and_parts (has x start || has x (offered_links found before)) (is_in_order found start (before ++ x ∷ []) xs) h in
+    and_from _ _ parts.0 (in_order-append found start (before ++ x ∷ []) xs ys parts.1 (ap (λ z. is_in_order found start z ys) (append_assoc before (x ∷ []) xs) ∙ k))

@@ -26,3 +26,4 @@ pub mod Recall
 pub mod GapCount
 pub mod MadeLinks
 pub mod Valued
+pub mod MayCome

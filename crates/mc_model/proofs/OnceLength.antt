@@ -7,18 +7,8 @@ use Rattle.mc_model.specs.Front.{same_cid}
 use Rattle.mc_model.specs.Graph.{times, has}
 use Rattle.mc_model.specs.SameMembers.{SameMembers}
 use Rattle.mc_model.specs.Wanted.{others}
-use Rattle.mc_model.proofs.Counts.{cid_is, cid_itself}
+use Rattle.mc_model.proofs.Counts.{cid_is, cid_itself, same_cid-symm}
 use Rattle.mc_model.proofs.Held.{others_times}
-
-same_turned : (c d : Cid) → same_cid c d ≡ same_cid d c
-same_turned c d =
-    elim (same_cid c d) as (λ t. same_cid c d ≡ t → t ≡ same_cid d c) [
-      | true ↦ λ s. sym (ap (same_cid d) (cid_is c d s) ∙ cid_itself d)
-      | false ↦ λ s. elim (same_cid d c) as (λ t. same_cid d c ≡ t → false ≡ t) [
-        | true ↦ λ r. absurd (let no : false ≡ true = sym s ∙ (ap (same_cid c) (cid_is d c r) ∙ cid_itself c) in cc)
-        | false ↦ λ r. refl
-      ] refl
-    ] refl
 
 -- what is taken out of a list is as long as it is often there
 others_length : (c : Cid) (xs : List Cid) → length xs ≡ times c xs + length (others xs c)
@@ -26,9 +16,9 @@ others_length c [] = omega arith
 others_length c (x ∷ xs) =
     elim (same_cid c x) as (λ t. same_cid c x ≡ t → suc (length xs) ≡ cond t (1 + times c xs) (times c xs) + length (cond (not (same_cid x c)) (x ∷ others xs c) (others xs c))) [
       | true ↦ λ s. let more : suc (length xs) ≡ 1 + times c xs + length (others xs c) = omega (arith, others_length c xs) in
-          more ∙ ap (λ t. (1 + times c xs) + length (cond {A = List Cid} (not t) (x ∷ others xs c) (others xs c))) (sym s ∙ same_turned c x)
+          more ∙ ap (λ t. (1 + times c xs) + length (cond {A = List Cid} (not t) (x ∷ others xs c) (others xs c))) (sym s ∙ same_cid-symm c x)
       | false ↦ λ s. let more : suc (length xs) ≡ times c xs + suc (length (others xs c)) = omega (arith, others_length c xs) in
-          more ∙ ap (λ t. times c xs + length (cond {A = List Cid} (not t) (x ∷ others xs c) (others xs c))) (sym s ∙ same_turned c x)
+          more ∙ ap (λ t. times c xs + length (cond {A = List Cid} (not t) (x ∷ others xs c) (others xs c))) (sym s ∙ same_cid-symm c x)
     ] refl
 
 pub same_length : (xs ys : List Cid) → ((c : Cid) → times c xs ≤ 1) → ((c : Cid) → times c ys ≡ times c xs) → length xs ≡ length ys

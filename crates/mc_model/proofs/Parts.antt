@@ -1,5 +1,6 @@
 -- In a drain, missing and bad hold what their names say.
 use Rattle.std.proofs.Common.{◌≡◌, ℕ, Bool, true, false, not, cond, List, [], ◌∷◌, ◌++◌, Option, Some, None, ◌||◌, sym, ap, ◌∙◌, inl, inr, filter}
+use Rattle.std.proofs.lemmas.Bool.{or_cases}
 use Rattle.mc_base.specs.declared.cid.Cid.{Cid}
 use Rattle.mc_model.specs.Drain.{DrainRuns, Drains, DrainsAll, IsDrained, AllNothing, AllDamaged, PartsFit, RunFits, IsEmptied}
 use Rattle.mc_model.specs.Events.{Event, Store, Process, Hear, Want, GiveBack, Missing, Bad, Requeue, WalkBegin, WalkVisit, WalkEnd, Batch, Stop, Open, runs, comes, happens, after}
@@ -8,7 +9,7 @@ use Rattle.mc_model.specs.Front.{same_cid}
 use Rattle.mc_model.specs.Graph.{has, all_links}
 use Rattle.mc_model.specs.State.{Durable, Running, State, wanted_in}
 use Rattle.mc_model.specs.Wanted.{Queue, bad_cids, wanted, to_waiting, want, want_all, start_first, without}
-use Rattle.mc_model.proofs.Counts.{cid_is, or_cases, has-append}
+use Rattle.mc_model.proofs.Counts.{cid_is, has-append}
 
 nothing_push : (found : Offers) (xs : List Cid) (c : Cid) → AllNothing found xs → found c ≡ Nothing → AllNothing found (xs ++ c ∷ [])
 nothing_push found [] c h e = (e, tt)

@@ -7,7 +7,7 @@ use Rattle.mc_model.specs.State.{Durable, Running, State}
 stays : (old new : Durable) → new.order ≡ old.order → new.graph ≡ old.graph → GoesOn old new
 stays old new e f = record { processed = []; stored = []; order = e ∙ sym (append-nil old.order); graph = f ∙ sym (append-nil old.graph) }
 
-goes_on_then : (a b c : Durable) → GoesOn a b → GoesOn b c → GoesOn a c
+pub goes_on_then : (a b c : Durable) → GoesOn a b → GoesOn b c → GoesOn a c
 goes_on_then a b c g h = record {
   processed = g.processed ++ h.processed;
   stored = g.stored ++ h.stored;

@@ -1,13 +1,14 @@
 -- What is in flight comes back one after another.
 use Rattle.std.proofs.Common.{◌≡◌, ◌+◌, ◌≤◌, Bool, true, false, not, cond, List, [], ◌∷◌, ◌++◌, sym, refl, ap, ◌∙◌, subst, arith, Some}
 use Rattle.std.proofs.lemmas.List.{append_assoc, append-nil}
+use Rattle.std.proofs.lemmas.Bool.{or_left}
 use Rattle.mc_base.specs.declared.cid.Cid.{Cid}
 use Rattle.mc_model.specs.Events.{GiveBack, Goes}
 use Rattle.mc_model.specs.Front.{same_cid}
 use Rattle.mc_model.specs.Graph.{times, has}
 use Rattle.mc_model.specs.State.{Durable, Running, State}
 use Rattle.mc_model.specs.Wanted.{Queue, IsOnce, others, recall}
-use Rattle.mc_model.proofs.Counts.{cid_is, cid_itself, or_left, times_has}
+use Rattle.mc_model.proofs.Counts.{cid_is, cid_itself, times_has}
 use Rattle.mc_model.proofs.Goes.{goes_not, goes_one, goes_then}
 use Rattle.mc_model.proofs.Held.{in_parts}
 

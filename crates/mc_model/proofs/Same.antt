@@ -3,6 +3,7 @@ use Rattle.std.proofs.Common.{◌≡◌, ℕ, Bool, true, false, not, cond, List
 use Rattle.std.specs.Prelude.{is_some, filter}
 use Rattle.std.specs.List.{list_any}
 use Rattle.std.proofs.lemmas.List.Elements.{filter_agree}
+use Rattle.std.proofs.lemmas.Bool.{or_right, or_left, or_cases}
 use Rattle.mc_base.specs.declared.cid.Cid.{Cid}
 use Rattle.mc_model.specs.declared.block.Block.{Block}
 use Rattle.mc_model.specs.Ascending.{once}
@@ -10,19 +11,12 @@ use Rattle.mc_model.specs.Front.{same_cid, is_among, is_processed, is_linked, li
 use Rattle.mc_model.specs.Live.{has_tomb, is_hidden, is_tomb, ranked_in, live, value_row}
 use Rattle.mc_model.specs.SameMembers.{SameMembers}
 use Rattle.mc_model.proofs.Ascending.{ascending_fixed}
-use Rattle.mc_model.proofs.Counts.{cid_is, or_cases, or_left, or_right}
+use Rattle.mc_model.proofs.Counts.{cid_is}
 use Rattle.mc_model.proofs.Greatest.{greatest_same}
 use Rattle.mc_model.proofs.Heads.{head_total, head_tied, heads_any, heads_sorted, is_head}
 use Rattle.mc_model.proofs.Live.{live_among_alike}
-use Rattle.mc_model.proofs.Members.{same_flat_map, list_any-filter}
+use Rattle.mc_model.proofs.Members.{same_flat_map, same_filter, any_agree}
 use Rattle.mc_model.proofs.OnceLength.{same_once_length}
-
-any_agree : {A : Type 0} (p q : A → Bool) → ((x : A) → p x ≡ q x) → (xs : List A) → list_any p xs ≡ list_any q xs
-any_agree p q same [] = refl
-any_agree p q same (x ∷ xs) = ap (λ z. z || list_any p xs) (same x) ∙ ap (λ rest. q x || rest) (any_agree p q same xs)
-
-same_filter : {A : Type 0} (keep : A → Bool) (xs ys : List A) → SameMembers xs ys → SameMembers (filter keep xs) (filter keep ys)
-same_filter keep xs ys same = record { same = λ test. list_any-filter test keep xs ∙ same.same (λ x. keep x && test x) ∙ sym (list_any-filter test keep ys) }
 
 has_any : (test : Cid → Bool) (x : Cid) (xs : List Cid) → list_any (same_cid x) xs ≡ true → test x ≡ true → list_any test xs ≡ true
 has_any test x [] e t = absurd (cc)

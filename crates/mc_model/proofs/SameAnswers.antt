@@ -1,5 +1,5 @@
 -- The same blocks give the same answers, in whatever groups they are processed.
-use Rattle.std.proofs.Common.{◌≡◌, ℕ, Bool, List, [], ◌∷◌, ◌++◌, ◌||◌, ◌&&◌, map, Option, sym, refl, ap, ◌∙◌, subst, take, drop}
+use Rattle.std.proofs.Common.{◌≡◌, ℕ, Bool, List, [], ◌∷◌, ◌++◌, ◌&&◌, map, Option, sym, refl, ap, ◌∙◌, subst, take, drop}
 use Rattle.std.specs.Prelude.{is_some, filter, unwrap_or}
 use Rattle.std.specs.List.{list_any}
 use Rattle.std.specs.Option.{option_map}
@@ -7,7 +7,7 @@ use Rattle.std.specs.Ordering.{nat_cmp}
 use Rattle.std.specs.Cmp.Lexicographic.{slice_cmp}
 use Rattle.std.proofs.lemmas.Cmp.{nat_list_cmp_total}
 use Rattle.std.proofs.lemmas.List.Elements.{filter_agree}
-use Rattle.std.proofs.lemmas.List.Folds.{list_any-append}
+use Rattle.std.proofs.lemmas.Map.Lookups.{exact_bytes}
 use Rattle.mc_base.specs.declared.cid.Cid.{Cid}
 use Rattle.mc_model.specs.declared.block.Block.{Block}
 use Rattle.mc_model.specs.declared.delta.Element.{Element}
@@ -19,9 +19,9 @@ use Rattle.mc_model.specs.Rank.{Ranked}
 use Rattle.mc_model.specs.SameMembers.{SameMembers}
 use Rattle.mc_model.specs.State.{Durable, Running, stored_of}
 use Rattle.mc_model.proofs.Ascending.{ascending_fixed, ascending_ascends}
-use Rattle.mc_model.proofs.Members.{list_any-filter, list_any-map, same_flat_map}
+use Rattle.mc_model.proofs.Members.{list_any-filter, list_any-map, same_flat_map, same_append}
 use Rattle.mc_model.proofs.Same.{same_value}
-use Rattle.mc_model.proofs.Valued.{keys_tied, valued_sorted}
+use Rattle.mc_model.proofs.Valued.{valued_sorted}
 
 module _ (xs ys : List Block) (same : SameMembers xs ys) where
   get_same : (key : List ℕ) → value xs key ≡ value ys key
@@ -33,17 +33,17 @@ module _ (xs ys : List Block) (same : SameMembers xs ys) where
   keys_members : SameMembers (valued_keys xs) (valued_keys ys)
   keys_members = record {
     same = λ test.
-        (ascending_ascends (slice_cmp nat_cmp) nat_list_cmp_total keys_tied (filter (has_value xs) (element_keys xs))).members.same test
+        (ascending_ascends (slice_cmp nat_cmp) nat_list_cmp_total exact_bytes (filter (has_value xs) (element_keys xs))).members.same test
         ∙ ap (list_any test) (filter_agree (has_value xs) (has_value ys) has_same (element_keys xs))
         ∙ list_any-filter test (has_value ys) (element_keys xs)
         ∙ (same_flat_map (λ (block : Block). map (λ (element : Element). element.key) block.delta.elements) xs ys same).same (λ key. has_value ys key && test key)
         ∙ sym (list_any-filter test (has_value ys) (element_keys ys))
-        ∙ sym ((ascending_ascends (slice_cmp nat_cmp) nat_list_cmp_total keys_tied (filter (has_value ys) (element_keys ys))).members.same test);
+        ∙ sym ((ascending_ascends (slice_cmp nat_cmp) nat_list_cmp_total exact_bytes (filter (has_value ys) (element_keys ys))).members.same test);
   }
 
   keys_same : valued_keys xs ≡ valued_keys ys
   keys_same =
-      ascending_fixed (slice_cmp nat_cmp) nat_list_cmp_total keys_tied (valued_keys xs) (valued_keys ys) (valued_sorted xs) (valued_sorted ys) keys_members
+      ascending_fixed (slice_cmp nat_cmp) nat_list_cmp_total exact_bytes (valued_keys xs) (valued_keys ys) (valued_sorted xs) (valued_sorted ys) keys_members
 
   map_agree : (keys : List (List ℕ)) → map (with_value xs) keys ≡ map (with_value ys) keys
   map_agree [] = refl
@@ -72,11 +72,6 @@ groups_stand (group ∷ groups) durable run =
     groups_stand groups (with_processed run.whole durable group) (record run { queue = processed_queue durable run.queue group })
     ∙ ap (blocks_in (map stored_of durable.graph)) (append_more durable.order group (joined groups))
 
-same_after : {X : Type 0} (first xs ys : List X) → SameMembers xs ys → SameMembers (first ++ xs) (first ++ ys)
-same_after first xs ys same = record {
-  same = λ test. list_any-append test first xs ∙ ap (λ rest. list_any test first || rest) (same.same test) ∙ sym (list_any-append test first ys);
-}
-
 same_map : {A B : Type 0} (f : A → B) (xs ys : List A) → SameMembers xs ys → SameMembers (map f xs) (map f ys)
 same_map f xs ys same = record { same = λ test. list_any-map test f xs ∙ same.same (λ x. test (f x)) ∙ sym (list_any-map test f ys) }
 
@@ -85,4 +80,4 @@ same_groups durable run xs ys same =
     same_answers _ _
     (subst (λ first. SameMembers first (processed_in_groups durable run ys)) (sym (groups_stand xs durable run))
     (subst (λ second. SameMembers (blocks_in (map stored_of durable.graph) (durable.order ++ joined xs)) second) (sym (groups_stand ys durable run))
-    (same_map (block_in (map stored_of durable.graph)) (durable.order ++ joined xs) (durable.order ++ joined ys) (same_after durable.order (joined xs) (joined ys) same))))
+    (same_map (block_in (map stored_of durable.graph)) (durable.order ++ joined xs) (durable.order ++ joined ys) (same_append durable.order (joined xs) (joined ys) same))))

@@ -2,31 +2,23 @@
 use Rattle.std.proofs.Common.{◌≡◌, Bool, true, false, cond, ◌||◌, List, [], ◌∷◌, sym, refl, ap, ◌∙◌, subst}
 use Rattle.std.specs.List.{list_any, dedup, dedup_from}
 use Rattle.std.specs.List.Sorted.{IsSorted, IsPermutation}
-use Rattle.std.specs.Cmp.{IsTotalOrder}
-use Rattle.std.specs.Ordering.{eq_by_cmp, is_eq}
+use Rattle.std.specs.Cmp.{IsTotalOrder, Equal-is}
+use Rattle.std.specs.Ordering.{eq_by_cmp}
 use Rattle.std.specs.declared.cmp.Ordering.{Ordering}
-use Rattle.std.specs.declared.cmp.Ordering.TheVariants.{Less, Equal, Greater}
+use Rattle.std.specs.declared.cmp.Ordering.TheVariants.{Equal}
 use Rattle.std.proofs.lemmas.List.Kept.{IsStrictlySortedBy-dedup}
 use Rattle.std.proofs.lemmas.List.Sorted.{list_any-IsPermutation}
+use Rattle.std.proofs.Math.Bool.{or_self_left}
 use Rattle.mc_model.specs.Ascending.{Ascends}
-
-is_equal : (o : Ordering) → is_eq o ≡ true → o ≡ Equal
-is_equal Less e = absurd (let f : false ≡ true = e in cc)
-is_equal Equal e = refl
-is_equal Greater e = absurd (let f : false ≡ true = e in cc)
 
 module _ {X : Type 0} (cmp : X → X → Ordering) (total : IsTotalOrder cmp) (tied : (x y : X) → cmp x y ≡ Equal → x ≡ y) where
   any_dedup : (test : X → Bool) (x : X) (xs : List X) → list_any test (dedup_from (eq_by_cmp cmp) x xs) ≡ (test x || list_any test xs)
   any_dedup test x [] = refl
   any_dedup test x (y ∷ ys) =
       elim (eq_by_cmp cmp y x) as (λ b. eq_by_cmp cmp y x ≡ b → list_any test (cond b (dedup_from (eq_by_cmp cmp) x ys) (x ∷ dedup_from (eq_by_cmp cmp) y ys)) ≡ (test x || (test y || list_any test ys))) [
-        | true ↦ λ e. any_dedup test x ys ∙ subst (λ z. (test x || list_any test ys) ≡ (test x || (test z || list_any test ys))) (sym (tied y x (is_equal (cmp y x) e))) (twice (test x) (list_any test ys))
+        | true ↦ λ e. any_dedup test x ys ∙ subst (λ z. (test x || list_any test ys) ≡ (test x || (test z || list_any test ys))) (sym (tied y x ((Equal-is (cmp y x)).0 e))) (sym (or_self_left (test x) (list_any test ys)))
         | false ↦ λ e. ap (λ rest. test x || rest) (any_dedup test y ys)
       ] refl
-    where
-      twice : (a b : Bool) → (a || b) ≡ (a || (a || b))
-      twice true b = refl
-      twice false b = refl
 
   any_of_dedup : (test : X → Bool) (xs : List X) → list_any test (dedup (eq_by_cmp cmp) xs) ≡ list_any test xs
   any_of_dedup test [] = refl

@@ -4,12 +4,13 @@ use Rattle.std.specs.Prelude.{take, drop}
 use Rattle.std.specs.List.{list_all}
 use Rattle.std.proofs.lemmas.List.{take-append-le, drop-append-le, take-append-drop, length-append, append_assoc}
 use Rattle.std.proofs.Math.Seq.{take-add, drop-length}
+use Rattle.std.proofs.lemmas.Bool.{not-false, or_right, or_left, or_cases}
 use Rattle.mc_base.specs.declared.cid.Cid.{Cid}
 use Rattle.mc_model.specs.Events.{Event, Store, Process, Hear, Want, GiveBack, Missing, Bad, Requeue, WalkBegin, WalkVisit, WalkEnd, Batch, Stop, Open, IsVisiting, IsVisited, MayRun, MayCome, processed_mark, ended_mark, visited, runs, comes, happens, MayComeAll, StaysSound}
 use Rattle.mc_model.specs.Graph.{Vertex, times, has, cids_in, all_links, no_gaps}
 use Rattle.mc_model.specs.State.{Durable, nothing_durable, Running, State, AllGood, DurableHolds, IsLinked, walked, WholeHolds, RunHolds, IsSound}
 use Rattle.mc_model.specs.Wanted.{Queue, no_queue, IsOnce, want_all, start_first, give_back, to_missing, to_bad, requeue, without}
-use Rattle.mc_model.proofs.Counts.{or_cases, or_left, or_right, times_has, times-append, has-append, all_has, links-append, links_more, in_graph_more, cids_in-append}
+use Rattle.mc_model.proofs.Counts.{times_has, times-append, has-append, all_has, links-append, links_more, in_graph_more, cids_in-append}
 use Rattle.mc_model.proofs.Held.{Grows, grows_want_all, all_wanted, grows_same, same_give_back, same_to_missing, same_to_bad, same_requeue, same_start, grows_hear_all, taken}
 
 -- links of parts
@@ -130,11 +131,7 @@ begin_whole durable q walk false may h =
 -- Stop and Open
 
 stop_whole : (durable : Durable) (q : Queue) (walk : Option (ℕ × ℕ)) (whole : Bool) → WholeHolds durable q walk whole → durable.mark ≡ false → no_gaps durable.graph durable.order ≡ true
-stop_whole durable q walk true h e = full (no_gaps durable.graph durable.order) (sym h.2 ∙ e)
-  where
-    full : (b : Bool) → not b ≡ false → b ≡ true
-    full true e = refl
-    full false e = absurd (cc)
+stop_whole durable q walk true h e = not-false (no_gaps durable.graph durable.order) (sym h.2 ∙ e)
 stop_whole durable q walk false h e = absurd (let no : true ≡ false = sym h.0 ∙ e in cc)
 
 open_whole : (durable : Durable) (mark : Bool) → durable.mark ≡ mark → (durable.mark ≡ false → no_gaps durable.graph durable.order ≡ true) → WholeHolds durable no_queue None (not mark)

@@ -3,14 +3,14 @@ use Rattle.std.proofs.Common.{◌≡◌, ℕ, Bool, true, false, cond, List, [],
 use Rattle.std.specs.Prelude.{filter, is_some}
 use Rattle.std.specs.List.{list_any}
 use Rattle.std.specs.List.Sorted.{IsStrictlySortedBy}
-use Rattle.std.specs.Ordering.{is_eq, nat_cmp}
+use Rattle.std.specs.Ordering.{nat_cmp}
 use Rattle.std.specs.Cmp.Lexicographic.{slice_cmp}
 use Rattle.std.specs.Option.{option_map}
 use Rattle.std.specs.Str.{bytes_eq}
-use Rattle.std.specs.declared.cmp.Ordering.TheVariants.{Equal}
 use Rattle.std.proofs.lemmas.Cmp.{nat_list_cmp_total}
 use Rattle.std.proofs.lemmas.List.Folds.{list_any-append}
-use Rattle.std.proofs.lemmas.Map.Text.{is_eq-slice_cmp}
+use Rattle.std.proofs.lemmas.Bool.{or_parts}
+use Rattle.std.proofs.lemmas.Map.Lookups.{exact_bytes}
 use lib.Pointwise.{bytes_decides}
 use Rattle.mc_model.specs.declared.block.Block.{Block}
 use Rattle.mc_model.specs.declared.delta.Element.{Element}
@@ -21,11 +21,9 @@ use Rattle.mc_model.specs.Value.{ranked_elements}
 use Rattle.mc_model.proofs.Ascending.{ascending_ascends}
 
 -- keys that tie are equal
-pub keys_tied : (x y : List ℕ) → slice_cmp nat_cmp x y ≡ Equal → x ≡ y
-keys_tied x y e = (bytes_decides x y).0 (sym (is_eq-slice_cmp x y) ∙ ap is_eq e)
 
 pub valued_sorted : (blocks : List Block) → IsStrictlySortedBy (slice_cmp nat_cmp) (valued_keys blocks)
-valued_sorted blocks = (ascending_ascends (slice_cmp nat_cmp) nat_list_cmp_total keys_tied (filter (has_value blocks) (element_keys blocks))).sorted
+valued_sorted blocks = (ascending_ascends (slice_cmp nat_cmp) nat_list_cmp_total exact_bytes (filter (has_value blocks) (element_keys blocks))).sorted
 
 -- a key is among those that pass a test where it is among them all and passes
 one_more : (same passes own any found : Bool) → (same ≡ true → passes ≡ own) → found ≡ (any && own) → cond passes (same || found) found ≡ ((same || any) && own)
@@ -49,22 +47,18 @@ filter_finds has key (first ∷ keys) =
     pushed true = refl
     pushed false = refl
 
-neither : (a b : Bool) → (a || b) ≡ false → (a ≡ false) × (b ≡ false)
-neither true b e = absurd (cc)
-neither false b e = (refl, e)
-
 -- a key of no element has no live one
 no_element : (priority : ℕ) (elements : List Element) (key : List ℕ) → list_any (λ other. bytes_eq other key) (map (λ (element : Element). element.key) elements) ≡ false → ranked_elements priority elements key ≡ []
 no_element priority [] key none = refl
 no_element priority (element ∷ elements) key none =
-    let parts = neither (bytes_eq element.key key) (list_any (λ other. bytes_eq other key) (map (λ (element : Element). element.key) elements)) none in
+    let parts = or_parts (bytes_eq element.key key) (list_any (λ other. bytes_eq other key) (map (λ (element : Element). element.key) elements)) none in
     rw parts.0 (no_element priority elements key parts.1)
 
 no_live : (all blocks : List Block) (key : List ℕ) → list_any (λ other. bytes_eq other key) (element_keys blocks) ≡ false → live_among all key blocks ≡ []
 no_live all [] key none = refl
 no_live all (block ∷ blocks) key none =
     let keys = map (λ (element : Element). element.key) block.delta.elements in
-    let parts = neither (list_any (λ other. bytes_eq other key) keys) (list_any (λ other. bytes_eq other key) (element_keys blocks))
+    let parts = or_parts (list_any (λ other. bytes_eq other key) keys) (list_any (λ other. bytes_eq other key) (element_keys blocks))
     (sym (list_any-append (λ other. bytes_eq other key) keys (element_keys blocks)) ∙ none) in
     rw (no_element block.delta.priority block.delta.elements key parts.0, no_live all blocks key parts.1) (nothing (is_hidden all key block))
   where
@@ -81,6 +75,6 @@ implied false has none = sym (none refl)
 
 pub valued_exact : (blocks : List Block) (key : List ℕ) → list_any (λ other. bytes_eq other key) (valued_keys blocks) ≡ has_value blocks key
 valued_exact blocks key =
-    (ascending_ascends (slice_cmp nat_cmp) nat_list_cmp_total keys_tied (filter (has_value blocks) (element_keys blocks))).members.same (λ other. bytes_eq other key)
+    (ascending_ascends (slice_cmp nat_cmp) nat_list_cmp_total exact_bytes (filter (has_value blocks) (element_keys blocks))).members.same (λ other. bytes_eq other key)
     ∙ filter_finds (has_value blocks) key (element_keys blocks)
     ∙ implied (list_any (λ other. bytes_eq other key) (element_keys blocks)) (has_value blocks key) (no_value blocks key)

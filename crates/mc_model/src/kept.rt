@@ -1,16 +1,17 @@
 // What a keeper tells, as the durable state of a replica.
-ghost use Rattle.std.specs.Prelude.{◌≡◌, ◌↔◌, ◌==◌, Bool, true, not, List, ◌++◌, map, length, is_some};
-ghost use Rattle.std.specs.List.{list_all};
+ghost use Rattle.std.specs.Prelude.{◌≡◌, ◌≢◌, ◌↔◌, ◌==◌, Bool, true, false, not, List, [], ◌++◌, map, length, is_some};
+ghost use Rattle.std.specs.List.{list_all, list_any};
 ghost use Rattle.mc_base.specs.declared.cid.Cid.{Cid};
 ghost use Rattle.mc_model.specs.declared.block.Stored.{Stored};
-ghost use Rattle.mc_model.specs.Ascending.{once};
-ghost use Rattle.mc_model.specs.Events.{processed_mark, ended_mark, with_blocks, with_processed, with_walk_ended};
+ghost use Rattle.mc_model.specs.Ascending.{once, is_once};
+ghost use Rattle.mc_model.specs.Events.{Store, Process, MayRun, processed_mark, ended_mark, with_blocks, with_processed, with_walk_ended};
 ghost use Rattle.mc_model.specs.Found.{Good, PeerOffers, offers_from, found_in};
 ghost use Rattle.mc_model.specs.Front.{Head, same_cid, is_among, is_processed, is_linked, is_gap, links, gaps, heads, head_at};
 ghost use Rattle.mc_model.specs.Graph.{has, in_graph, links_in, all_links, no_gaps, gaps_in, heads_in, HasNoCycle, IsReached};
-ghost use Rattle.mc_model.specs.Kept.{Kept, IsKept, bytes_at, is_stored, block_in, blocks_in, processed};
+ghost use Rattle.mc_model.specs.Kept.{Kept, IsKept, cids_of, bytes_at, is_stored, block_in, blocks_in, processed};
 ghost use Rattle.mc_model.specs.Made.{head_cids};
-ghost use Rattle.mc_model.specs.State.{DurableHolds, durable_of, kept_of, vertices};
+ghost use Rattle.mc_model.specs.Offer.{is_good};
+ghost use Rattle.mc_model.specs.State.{DurableHolds, Running, durable_of, kept_of, vertices};
 
 /// What a keeper tells has, as a replica's durable state, the same links, gaps and heads; and it is sound as the one
 /// where it is sound as the other.
@@ -44,6 +45,22 @@ pub fn kept_changes_are_events()
         processed_mark true (durable_of kept) (kept.order ++ cids) ≡ not (length (gaps (blocks_in kept.graph (kept.order ++ cids))) == 0) }
     ensures walk_end { (kept : Kept) (mark : Bool) → mark ≡ ended_mark (durable_of kept) →
         durable_of (record { graph = kept.graph; order = kept.order; mark = mark }) ≡ with_walk_ended (durable_of kept) }
+{}
+
+/// What may be stored and processed in what a keeper tells: good blocks that aren't stored, and stored ones that aren't
+/// processed, each once. What is kept stays sound.
+pub fn kept_changes_may_come()
+    ensures store { (kept : Kept) (blocks : List Stored) (run : Running) → IsKept kept →
+        list_all (λ (stored : Stored). is_good stored.cid stored.bytes) blocks ≡ true →
+        list_any (λ (stored : Stored). is_stored kept.graph stored.cid) blocks ≡ false → is_once same_cid (cids_of blocks) ≡ true →
+        MayRun (durable_of kept) run (Store (vertices blocks)) }
+    ensures process { (kept : Kept) (cids : List Cid) (run : Running) → IsKept kept → cids ≢ [] → list_all (is_stored kept.graph) cids ≡ true →
+        list_any (is_among kept.order) cids ≡ false → is_once same_cid cids ≡ true → MayRun (durable_of kept) run (Process cids) }
+    ensures sound { (kept : Kept) (blocks : List Stored) (cids : List Cid) (mark : Bool) → IsKept kept →
+        list_all (λ (stored : Stored). is_good stored.cid stored.bytes) blocks ≡ true →
+        list_any (λ (stored : Stored). is_stored kept.graph stored.cid) blocks ≡ false → is_once same_cid (cids_of blocks) ≡ true →
+        list_all (is_stored (kept.graph ++ blocks)) cids ≡ true → list_any (is_among kept.order) cids ≡ false → is_once same_cid cids ≡ true →
+        IsKept (record { graph = kept.graph ++ blocks; order = kept.order ++ cids; mark = mark }) }
 {}
 
 /// Where a keeper's processed blocks have no gap and no block leads back to itself, they are just what the heads reach.

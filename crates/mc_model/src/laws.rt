@@ -1,9 +1,10 @@
 // What holds of every value, by the definitions.
 ghost use Rattle.std.specs.Prelude.{◌≡◌, ℕ, List, length, is_some};
+ghost use Rattle.std.specs.List.{IsDistinct};
 ghost use Rattle.mc_base.specs.declared.cid.Cid.{Cid};
 ghost use Rattle.mc_model.specs.declared.block.Block.{Block};
 ghost use Rattle.mc_model.specs.declared.delta.Delta.{Delta};
-ghost use Rattle.mc_model.specs.Front.{is_processed, is_linked, is_gap, gaps, heads, head_at};
+ghost use Rattle.mc_model.specs.Front.{same_cid, is_among, is_processed, is_linked, is_gap, gaps, heads, head_at};
 ghost use Rattle.mc_model.specs.Answers.{SameAnswers, joined, processed_in_groups};
 ghost use Rattle.mc_model.specs.Live.{has_tomb, value_row};
 ghost use Rattle.mc_model.specs.State.{Durable, Running};
@@ -37,4 +38,10 @@ pub fn same_blocks_same_answers()
     ensures gap_count { (xs ys : List Block) → SameMembers xs ys → length (gaps xs) ≡ length (gaps ys) }
     ensures heads { (xs ys : List Block) → SameMembers xs ys → heads xs ≡ heads ys }
     ensures head { (xs ys : List Block) → SameMembers xs ys → (cid : Cid) → is_some (head_at xs cid) ≡ is_some (head_at ys cid) }
+{}
+
+/// A list that has each gap once has as many identifiers as there are gaps.
+pub fn gaps_are_counted()
+    ensures { (keys : List Cid) (blocks : List Block) → IsDistinct same_cid keys → ((cid : Cid) → is_among keys cid ≡ is_gap blocks cid) →
+        length keys ≡ length (gaps blocks) }
 {}

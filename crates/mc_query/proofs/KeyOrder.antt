@@ -2,24 +2,17 @@
 use Rattle.std.proofs.Common.{◌≡◌, ℕ, Bool, true, false, List, [], ◌∷◌, ◌++◌, refl, sym, ap, ◌∙◌, subst}
 use Rattle.std.proofs.lemmas.Bool.{eqb-true, false≢true}
 use Rattle.std.proofs.lemmas.Cmp.{nat_cmp_total, nat_list_cmp_total, tied_itself}
-use Rattle.std.proofs.lemmas.Map.Text.{is_eq-slice_cmp}
 use Rattle.std.specs.BTreeMap.Comparable.{le_lt_trans}
 use Rattle.std.specs.Cmp.{unsigned_tied}
 use Rattle.std.specs.Cmp.Lexicographic.{slice_cmp}
 use Rattle.std.specs.Ordering.{is_lt, is_le, is_eq, nat_cmp, ordering_then, ordering_reverse}
 use Rattle.std.specs.declared.cmp.Ordering.{Ordering}
 use Rattle.std.specs.declared.cmp.Ordering.TheVariants.{Less, Equal, Greater}
-use lib.Pointwise.{bytes_decides}
+use Rattle.std.proofs.lemmas.Map.Lookups.{exact_bytes}
+use Rattle.mc_base.proofs.Orders.{less_is}
 use Rattle.mc_keep.specs.Next.{is_past}
 
-pub less_is : (o : Ordering) → is_lt o ≡ true → o ≡ Less
-less_is Less e = refl
-less_is Equal e = absurd (false≢true e)
-less_is Greater e = absurd (false≢true e)
-
 -- keys that tie are equal
-pub keys_tied : (x y : List ℕ) → slice_cmp nat_cmp x y ≡ Equal → x ≡ y
-keys_tied x y e = (bytes_decides x y).0 (sym (is_eq-slice_cmp x y) ∙ ap is_eq e)
 
 bytes_tied : (x y : ℕ) → nat_cmp x y ≡ Equal → x ≡ y
 bytes_tied x y e = eqb-true x y (sym (unsigned_tied x y) ∙ ap is_eq e)
@@ -56,7 +49,7 @@ past_more bound false key next past above = ap is_lt (nat_list_cmp_total.trans b
 pub past_bound : (start bound : List ℕ) (inclusive : Bool) (key : List ℕ) → is_past start true bound ≡ true → is_past bound inclusive key ≡ true → is_past start true key ≡ true
 past_bound start bound true key from past = (elim (slice_cmp nat_cmp bound key) as (λ o. slice_cmp nat_cmp bound key ≡ o → is_past start true key ≡ true) [
   | Less ↦ λ e. past_more start true bound key from e
-  | Equal ↦ λ e. subst (λ (k : List ℕ). is_past start true k ≡ true) (keys_tied bound key e) from
+  | Equal ↦ λ e. subst (λ (k : List ℕ). is_past start true k ≡ true) (exact_bytes bound key e) from
   | Greater ↦ λ e. absurd (false≢true (sym (ap is_le e) ∙ past))
 ]) refl
 past_bound start bound false key from past = past_more start true bound key from (less_is (slice_cmp nat_cmp bound key) past)

@@ -12,6 +12,9 @@ use Rattle.std.specs.Str.{bytes_eq}
 use Rattle.std.specs.declared.cmp.Ordering.{Ordering}
 use Rattle.std.specs.declared.cmp.Ordering.TheVariants.{Less, Equal, Greater}
 use Rattle.std.proofs.lemmas.Map.Text.{is_eq-slice_cmp}
+use Rattle.std.proofs.Math.Bool.{or-true}
+use Rattle.std.proofs.lemmas.Map.Lookups.{exact_bytes}
+use Rattle.mc_base.proofs.Orders.{less_is}
 use lib.Pointwise.{bytes_decides}
 use Rattle.mc_key.specs.Prefix.{is_under}
 use Rattle.mc_model.specs.declared.block.Block.{Block}
@@ -21,7 +24,7 @@ use Rattle.mc_model.specs.Rank.{Ranked}
 use Rattle.mc_keep.specs.Next.{is_past, IsNext, IsNextRow}
 use Rattle.mc_keep.specs.declared.rows.ValueRow.{ValueRow}
 use Rattle.mc_query.specs.Places.{start_of, left_of, selected, IsNextUnder}
-use Rattle.mc_query.proofs.KeyOrder.{keys_tied, less_is, begins_past, between, past_more, past_bound, not_past_itself}
+use Rattle.mc_query.proofs.KeyOrder.{begins_past, between, past_more, past_bound, not_past_itself}
 use Rattle.mc_query.proofs.Slashes.{selected_is, is_selected}
 
 -- the keys of a list that a key is below
@@ -68,7 +71,7 @@ first_past bound inclusive key (low ∷ keys) sorted past least there = (elim (i
     inside : is_past bound inclusive low ≡ true → (o : Ordering) → slice_cmp nat_cmp low key ≡ o → low ∷ filter (is_past bound inclusive) keys ≡ key ∷ filter (is_past key false) (low ∷ keys)
     inside e Less less = absurd (least low e (ap is_lt less) here)
     inside e Equal same =
-        let is : low ≡ key = keys_tied low key same in
+        let is : low ≡ key = exact_bytes low key same in
         ap (λ (rest : List (List ℕ)). low ∷ rest) (all_past bound inclusive low keys sorted.0 (λ next above. past_more bound inclusive low next e above) ∙ sym (past_itself low keys sorted.0))
         ∙ ap (λ (k : List ℕ). k ∷ filter (is_past k false) (low ∷ keys)) is
     inside e Greater more = absurd (not_above key low keys sorted.0 more (ap (λ b. b || has_key key keys) (sym (differs low key Greater more refl)) ∙ there))
@@ -76,12 +79,8 @@ first_past bound inclusive key (low ∷ keys) sorted past least there = (elim (i
     more_there : bytes_eq low key ≡ false → has_key key keys ≡ true
     more_there other = ap (λ b. b || has_key key keys) (sym other) ∙ there
 
-    or_true : (b : Bool) → (b || true) ≡ true
-    or_true true = refl
-    or_true false = refl
-
     least_there : (next : List ℕ) → is_past bound inclusive next ≡ true → is_lt (slice_cmp nat_cmp next key) ≡ true → has_key next keys ≡ true → ⊥
-    least_there next next_past next_below next_there = least next next_past next_below (ap (λ b. bytes_eq low next || b) next_there ∙ or_true (bytes_eq low next))
+    least_there next next_past next_below next_there = least next next_past next_below (ap (λ b. bytes_eq low next || b) next_there ∙ or-true (bytes_eq low next))
 
     Smaller : Type 0
     Smaller = has_key key keys ≡ true → filter (is_past bound inclusive) keys ≡ key ∷ filter (is_past key false) keys
@@ -93,7 +92,7 @@ first_past bound inclusive key (low ∷ keys) sorted past least there = (elim (i
 
     outside : Smaller → is_past bound inclusive low ≡ false → (o : Ordering) → slice_cmp nat_cmp low key ≡ o → filter (is_past bound inclusive) keys ≡ key ∷ filter (is_past key false) (low ∷ keys)
     outside smaller e Less less = rest_is smaller (differs low key Less less refl) (ap is_lt (nat_list_cmp_total.antisymm key low ∙ ap ordering_reverse less))
-    outside smaller e Equal same = absurd (false≢true (sym e ∙ subst (λ (k : List ℕ). is_past bound inclusive k ≡ true) (sym (keys_tied low key same)) past))
+    outside smaller e Equal same = absurd (false≢true (sym e ∙ subst (λ (k : List ℕ). is_past bound inclusive k ≡ true) (sym (exact_bytes low key same)) past))
     outside smaller e Greater more = absurd (false≢true (sym e ∙ past_more bound inclusive key low past (nat_list_cmp_total.antisymm key low ∙ ap ordering_reverse more)))
 
 -- where no key past a bound is among them, none is
@@ -101,12 +100,8 @@ none_past : (bound : List ℕ) (inclusive : Bool) (keys : List (List ℕ)) → (
 none_past bound inclusive [] none = refl
 none_past bound inclusive (key ∷ keys) none = (elim (is_past bound inclusive key) as (λ b. is_past bound inclusive key ≡ b → cond b (key ∷ filter (is_past bound inclusive) keys) (filter (is_past bound inclusive) keys) ≡ []) [
   | true ↦ λ e. absurd (none key e (ap (λ b. b || has_key key keys) ((bytes_decides key key).1 refl)))
-  | false ↦ λ e. none_past bound inclusive keys (λ next past there. none next past (ap (λ b. bytes_eq key next || b) there ∙ or_true (bytes_eq key next)))
+  | false ↦ λ e. none_past bound inclusive keys (λ next past there. none next past (ap (λ b. bytes_eq key next || b) there ∙ or-true (bytes_eq key next)))
 ]) refl
-  where
-    or_true : (b : Bool) → (b || true) ≡ true
-    or_true true = refl
-    or_true false = refl
 
 no_selected : (selects : List ℕ → Bool) (past : List ℕ → Bool) (keys : List (List ℕ)) → ((key : List ℕ) → past key ≡ true → selects key ≡ false) → filter selects (filter past keys) ≡ []
 no_selected selects past [] none = refl

@@ -9,7 +9,7 @@ pub record ReadsUpTo (most : ℕ) (old : Schedule) (new : Option Schedule) (fail
   pub bound : made ≤ old.reads_made + most
   pub last_is : failed ≡ true → is_planned old.reads made ≡ true
   pub others : (number : ℕ) → old.reads_made < number → number ≤ made → (failed ≡ true → number < made) →
-    is_planned old.reads number ≡ false
+      is_planned old.reads number ≡ false
 
 -- the same where a schedule is known
 abbrev pub ReadsWithin : ℕ → Option Schedule → Option Schedule → Bool → Type 0

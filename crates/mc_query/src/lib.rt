@@ -11,6 +11,4 @@ pub use pair::Pair;
 pub use range::query;
 
 #[cfg(test)]
-mod fake;
-#[cfg(test)]
 mod tests;

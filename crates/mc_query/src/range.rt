@@ -22,8 +22,8 @@ use std::alloc::{AllocError, AllocFailed, Global};
 
 /// The keys with a value that a prefix selects, ascending by their bytes, each with its value: those after the first
 /// `skip` of them, and at most `count`. The slashes at the prefix's end don't count; a prefix of slashes alone, or of
-/// nothing, selects every key, and any other those that begin with it and a slash. It asks for at most `skip` and `count`
-/// rows together and ends at the first key that isn't selected. `Failed` comes only where the keeper failed.
+/// nothing, selects every key, and any other those that begin with it and a slash. It asks for at most `skip` and
+/// `count` rows together and ends at the first key that isn't selected. `Failed` comes only where the keeper failed.
 pub fn query<K: Keeper>(
     keeper: &mut K,
     alloc: Global,
@@ -90,7 +90,7 @@ fn take_rows<K: Keeper>(
     requires { is_past (start_of prefix.now) true place.now.bound ≡ true }
     ensures rows { IfTold (K.told keeper.old) result (λ kept pairs.
         map pair_of pairs ≡ map (with_value (processed kept))
-            (take count (left_of (processed kept) prefix.now place.now.bound place.now.inclusive))) }
+        (take count (left_of (processed kept) prefix.now place.now.bound place.now.inclusive))) }
     ensures reads { Reads K.Keeper (is_fault result) keeper.old keeper.new }
     ensures planned { ReadsWithin count (K.schedule keeper.old) (K.schedule keeper.new) (is_fault result) }
 {

@@ -6,6 +6,8 @@ use Rattle.std.specs.List.Sorted.{IsStrictlySortedBy}
 use Rattle.std.specs.Str.{bytes_eq}
 use Rattle.std.proofs.lemmas.List.Folds.{list_any-append}
 use Rattle.std.proofs.lemmas.Map.Views.{any-filter_same}
+use Rattle.std.proofs.lemmas.Bool.{or_parts, and_parts}
+use Rattle.std.proofs.Math.Bool.{or_comm}
 use lib.Pointwise.{bytes_decides}
 use denote.Ref.{Bor}
 use Rattle.mc_model.specs.declared.block.Block.{Block}
@@ -14,7 +16,6 @@ use Rattle.mc_model.specs.Ascending.{is_once}
 use Rattle.mc_model.specs.Front.{same_cid}
 use Rattle.mc_model.specs.Kept.{Kept, processed}
 use Rattle.mc_model.specs.Live.{has_tomb, is_tomb, value_row}
-use Rattle.mc_model.proofs.Counts.{or_none, and_both}
 use Rattle.mc_model.proofs.Live.{has_tomb-append}
 use Rattle.mc_model.proofs.Members.{list_any-filter, list_any-map}
 use Rattle.mc_keep.specs.declared.rows.ElementRow.{ElementRow}
@@ -50,7 +51,7 @@ new_tombs_have blocks more rows same key id =
   where
     here : (row : TombRow) → is_tomb_row key id row ≡ true → is_unknown blocks row ≡ not (has_tomb blocks key id)
     here row e =
-        let parts = and_both (bytes_eq row.key key) (bytes_eq row.id id) e in
+        let parts = and_parts (bytes_eq row.key key) (bytes_eq row.id id) e in
         ap (λ (z : List ℕ). not (has_tomb blocks z row.id)) ((bytes_decides row.key key).0 parts.0) ∙ ap (λ (z : List ℕ). not (has_tomb blocks key z)) ((bytes_decides row.id id).0 parts.1)
 
 tombs_join : (blocks more : List Block) (rows : List TombRow) → SameMembers rows (filter (is_unknown blocks) (tomb_rows more)) → (key id : List ℕ)
@@ -86,19 +87,13 @@ each_key : (blocks more : List Block) (elements : List ElementRow) (tombs : List
 each_key blocks more elements tombs keys values same same' spoken fit key =
     sym (new_row_is blocks more elements tombs key same alike) ∙ by_key (has_key keys key) refl
   where
-    swap : (a b : Bool) → (a || b) ≡ (b || a)
-    swap true true = refl
-    swap true false = refl
-    swap false true = refl
-    swap false false = refl
-
     alike : (id : List ℕ) → hides blocks tombs key id ≡ has_tomb (blocks ++ more) key id
-    alike id = swap (has_tomb_row tombs key id) (has_tomb blocks key id) ∙ sym (tombs_join blocks more tombs same' key id)
+    alike id = or_comm (has_tomb_row tombs key id) (has_tomb blocks key id) ∙ sym (tombs_join blocks more tombs same' key id)
 
     by_key : (b : Bool) → has_key keys key ≡ b → new_row blocks elements tombs key ≡ values_after key (value_row blocks key) values
     by_key true e = sym (fit.rows key e)
     by_key false e =
-        let parts = or_none (has_element_of elements key) (has_tomb_of tombs key) (sym (spoken key) ∙ e) in
+        let parts = or_parts (has_element_of elements key) (has_tomb_of tombs key) (sym (spoken key) ∙ e) in
         new_row_untouched blocks elements tombs key parts.0 parts.1 ∙ sym (unspoken key (value_row blocks key) values (fit.rest key e))
 
 rows_fit : (blocks more : List Block) (elements : List NewElement) (tombs : List NewTomb) (keys : List (Bor (List ℕ))) (changes : Changes)

@@ -5,5 +5,4 @@ pub mod OneKey
 pub mod Step
 pub mod OnceRows
 pub mod FitAll
-pub mod Distinct
 pub mod Held

@@ -8,6 +8,7 @@ use Rattle.std.proofs.lemmas.List.Concat.{flat_map-append}
 use Rattle.std.proofs.lemmas.List.Elements.{filter-append}
 use Rattle.std.proofs.lemmas.List.{append-nil}
 use Rattle.std.proofs.lemmas.Slice.Eq.{bytes_eq-Decides}
+use Rattle.std.proofs.lemmas.Bool.{or_parts, or_right}
 use Rattle.mc_base.specs.declared.cid.Cid.{Cid}
 use Rattle.mc_model.specs.declared.block.Block.{Block}
 use Rattle.mc_model.specs.Front.{same_cid}
@@ -15,9 +16,8 @@ use Rattle.mc_model.specs.Id.{id_text}
 use Rattle.mc_model.specs.SameMembers.{SameMembers}
 use Rattle.mc_model.specs.Rank.{Ranked, same_ranked, greatest, greater, IsGreatestOf}
 use Rattle.mc_model.specs.Live.{has_tomb, live, value_row}
-use Rattle.mc_model.proofs.Counts.{or_none}
 use Rattle.mc_model.proofs.Greatest.{greatest_of_fewer, greatest_same, greatest_is_greatest, greatest-append}
-use Rattle.mc_model.proofs.Members.{list_any-filter, same_flat_map}
+use Rattle.mc_model.proofs.Members.{same_flat_map, same_filter, same_append}
 use Rattle.mc_keep.specs.declared.rows.ElementRow.{ElementRow}
 use Rattle.mc_keep.specs.declared.rows.TombRow.{TombRow}
 use Rattle.mc_keep.specs.Changes.{has_tomb_row}
@@ -51,14 +51,8 @@ nothing_lives h h' more (r ∷ rows) e =
     is_empty [] = true
     is_empty (x ∷ xs) = false
 
-same_append : {A : Type 0} (front xs ys : List A) → SameMembers xs ys → SameMembers (front ++ xs) (front ++ ys)
-same_append front xs ys same = record { same = λ test. list_any-append test front xs ∙ ap (λ rest. list_any test front || rest) (same.same test) ∙ sym (list_any-append test front ys) }
-
 same_before : {A : Type 0} (xs ys back : List A) → SameMembers xs ys → SameMembers (xs ++ back) (ys ++ back)
 same_before xs ys back same = record { same = λ test. list_any-append test xs back ∙ ap (λ front. front || list_any test back) (same.same test) ∙ sym (list_any-append test ys back) }
-
-same_filter : {A : Type 0} (keep : A → Bool) (xs ys : List A) → SameMembers xs ys → SameMembers (filter keep xs) (filter keep ys)
-same_filter keep xs ys same = record { same = λ test. list_any-filter test keep xs ∙ same.same (λ x. keep x && test x) ∙ sym (list_any-filter test keep ys) }
 
 -- the new row of a key is its value row over all blocks
 pub new_row_is : (blocks more : List Block) (elements : List ElementRow) (tombs : List TombRow) (key : List ℕ) → SameMembers elements (element_rows more)
@@ -77,7 +71,7 @@ new_row_is blocks more elements tombs key same alike =
 no_tomb_row : (rows : List TombRow) (key id : List ℕ) → has_tomb_of rows key ≡ false → has_tomb_row rows key id ≡ false
 no_tomb_row [] key id e = refl
 no_tomb_row (r ∷ rows) key id e =
-    let parts = or_none (bytes_eq r.key key) (has_tomb_of rows key) e in
+    let parts = or_parts (bytes_eq r.key key) (has_tomb_of rows key) e in
     both_none (bytes_eq r.key key) (bytes_eq r.id id) (has_tomb_row rows key id) parts.0 (no_tomb_row rows key id parts.1)
   where
     both_none : (a b c : Bool) → a ≡ false → c ≡ false → ((a && b) || c) ≡ false
@@ -93,13 +87,9 @@ untouched_row_stands blocks tombs key none =
 -- where there was no value there is none
 pub no_row_stands : (blocks : List Block) (tombs : List TombRow) (key : List ℕ) → value_row blocks key ≡ None → Stands blocks tombs key
 no_row_stands blocks tombs key none =
-    ap greatest (nothing_lives (has_tomb blocks key) (hides blocks tombs key) (λ id e. or_later (has_tomb_row tombs key id) (has_tomb blocks key id) e) (element_rows_of blocks key) (live_rows-element_rows_of blocks blocks key ∙ empty (live blocks key) none))
+    ap greatest (nothing_lives (has_tomb blocks key) (hides blocks tombs key) (λ id e. or_right (has_tomb_row tombs key id) (has_tomb blocks key id) e) (element_rows_of blocks key) (live_rows-element_rows_of blocks blocks key ∙ empty (live blocks key) none))
     ∙ sym none
   where
-    or_later : (a b : Bool) → b ≡ true → (a || b) ≡ true
-    or_later true b e = refl
-    or_later false b e = e
-
     empty : (ranked : List Ranked) → greatest ranked ≡ None → ranked ≡ []
     empty ranked e = subst (λ best. IsGreatestOf ranked best) e (greatest_is_greatest ranked)
 
@@ -115,7 +105,7 @@ fewer_live h h' more test rows e = live_rows_any h' test rows ∙ fewer rows (sy
     fewer : (rows : List ElementRow) → list_any (λ (row : ElementRow). not (h (id_text row.cid.0)) && test (ranked_of row)) rows ≡ false → list_any (λ (row : ElementRow). not (h' (id_text row.cid.0)) && test (ranked_of row)) rows ≡ false
     fewer [] f = refl
     fewer (r ∷ rows) f =
-        let parts = or_none (not (h (id_text r.cid.0)) && test (ranked_of r)) (list_any (λ (row : ElementRow). not (h (id_text row.cid.0)) && test (ranked_of row)) rows) f in
+        let parts = or_parts (not (h (id_text r.cid.0)) && test (ranked_of r)) (list_any (λ (row : ElementRow). not (h (id_text row.cid.0)) && test (ranked_of row)) rows) f in
         ap (λ b. b || list_any (λ (row : ElementRow). not (h' (id_text row.cid.0)) && test (ranked_of row)) rows) (one (h (id_text r.cid.0)) (h' (id_text r.cid.0)) (test (ranked_of r)) (more (id_text r.cid.0)) parts.0)
         ∙ fewer rows parts.1
 
@@ -124,14 +114,10 @@ pub held_row_stands : (blocks : List Block) (tombs : List TombRow) (key : List �
 held_row_stands blocks tombs key cid holds none =
     greatest_of_fewer (live_rows (has_tomb blocks key) (element_rows_of blocks key)) (live_rows (hides blocks tombs key) (element_rows_of blocks key)) holds.ranked
     (ap greatest (live_rows-element_rows_of blocks blocks key) ∙ holds.is_value)
-    (λ test e. fewer_live (has_tomb blocks key) (hides blocks tombs key) (λ id e. or_later (has_tomb_row tombs key id) (has_tomb blocks key id) e) test (element_rows_of blocks key) e)
+    (λ test e. fewer_live (has_tomb blocks key) (hides blocks tombs key) (λ id e. or_right (has_tomb_row tombs key id) (has_tomb blocks key id) e) test (element_rows_of blocks key) e)
     (live_rows_any (hides blocks tombs key) (same_ranked holds.ranked) (element_rows_of blocks key) ∙ still (element_rows_of blocks key) holds.there)
     ∙ sym holds.is_value
   where
-    or_later : (a b : Bool) → b ≡ true → (a || b) ≡ true
-    or_later true b e = refl
-    or_later false b e = e
-
     both_not : (a b : Bool) → a ≡ false → b ≡ false → not (a || b) ≡ true
     both_not a b e f = ap (λ c. not (c || b)) e ∙ ap not f
 
@@ -148,7 +134,7 @@ held_row_stands blocks tombs key cid holds none =
           | true ↦ λ t f.
               ap (λ b. (b && same_ranked holds.ranked (ranked_of r)) || list_any (λ (row : ElementRow). not (hides blocks tombs key (id_text row.cid.0)) && same_ranked holds.ranked (ranked_of row)) rows) (lives r t)
               ∙ or_more (same_ranked holds.ranked (ranked_of r)) (list_any (is_row_of cid holds.ranked) rows) _ (λ g. still rows g) f
-          | false ↦ λ t f. or_later (not (hides blocks tombs key (id_text r.cid.0)) && same_ranked holds.ranked (ranked_of r)) _ (still rows f)
+          | false ↦ λ t f. or_right (not (hides blocks tombs key (id_text r.cid.0)) && same_ranked holds.ranked (ranked_of r)) _ (still rows f)
         ] refl e
       where
         or_more : (a b c : Bool) → (b ≡ true → c ≡ true) → (a || b) ≡ true → (a || c) ≡ true

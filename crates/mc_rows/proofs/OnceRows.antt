@@ -9,16 +9,18 @@ use Rattle.std.specs.FinMap.{nat_cmp-IsAntisymmetric}
 use Rattle.std.specs.Str.{bytes_eq}
 use Rattle.std.specs.declared.cmp.Ordering.{Ordering}
 use Rattle.std.specs.declared.cmp.Ordering.TheVariants.{Less, Equal, Greater}
-use Rattle.std.proofs.lemmas.Cmp.{tied_itself, nat_cmp_total, nat_list_eq_equiv}
+use Rattle.std.proofs.lemmas.Cmp.{tied_itself, nat_cmp_total}
 use Rattle.std.proofs.lemmas.List.Folds.{list_any-append}
-use lib.Pointwise.{bytes_decides}
+use Rattle.std.proofs.lemmas.Bool.{or_parts, and_parts, not-true}
+use Rattle.std.proofs.lemmas.Slice.Eq.{bytes_eq-Decides}
 use Rattle.mc_base.specs.declared.cid.Cid.{Cid}
 use Rattle.mc_model.specs.declared.block.Block.{Block}
 use Rattle.mc_model.specs.declared.delta.Element.{Element}
 use Rattle.mc_model.specs.Ascending.{is_once}
 use Rattle.mc_model.specs.Front.{same_cid}
 use Rattle.mc_model.specs.SameMembers.{SameMembers}
-use Rattle.mc_model.proofs.Counts.{cid_is, cid_itself, or_none, and_both}
+use Rattle.mc_model.proofs.Counts.{cid_is, cid_itself, same_cid-symm}
+use Rattle.mc_model.proofs.Members.{none_passes}
 use Rattle.mc_keep.specs.declared.rows.ElementRow.{ElementRow}
 use Rattle.mc_keep.specs.declared.rows.TombRow.{TombRow}
 use Rattle.mc_keep.specs.Tables.{element_row, element_rows, same_element, same_tomb}
@@ -47,28 +49,21 @@ module _ {R : Type 0} (cmp : R → R → Ordering) (total : IsTotalOrder cmp) (s
 
   none_same : (x : R) (ys : List R) → bad x ≡ false → list_any bad ys ≡ false → AllByRecursion (λ y. cmp x y ≡ Less) ys → list_any (same x) ys ≡ false
   none_same x [] bx bs h = refl
-  none_same x (y ∷ ys) bx bs h = let parts = or_none (bad y) (list_any bad ys) bs in ap (λ b. b || list_any (same x) ys) (apart x y bx parts.0 h.0) ∙ none_same x ys bx parts.1 h.1
+  none_same x (y ∷ ys) bx bs h = let parts = or_parts (bad y) (list_any bad ys) bs in ap (λ b. b || list_any (same x) ys) (apart x y bx parts.0 h.0) ∙ none_same x ys bx parts.1 h.1
 
   sorted_once : (xs : List R) → IsStrictlySortedBy cmp xs → list_any bad xs ≡ false → is_once same xs ≡ true
   unfolding IsStrictlySortedBy
   sorted_once [] h bs = refl
-  sorted_once (x ∷ xs) h bs = let parts = or_none (bad x) (list_any bad xs) bs in ap (λ b. not b && is_once same xs) (none_same x xs parts.0 parts.1 h.0) ∙ sorted_once xs h.1 parts.1
-
-same_bytes : (a b : List ℕ) → bytes_eq a b ≡ true → a ≡ b
-same_bytes a b e = (bytes_decides a b).0 e
-
-never : {X : Type 0} (xs : List X) → list_any (λ _. false) xs ≡ false
-never [] = refl
-never (x ∷ xs) = never xs
+  sorted_once (x ∷ xs) h bs = let parts = or_parts (bad x) (list_any bad xs) bs in ap (λ b. not b && is_once same xs) (none_same x xs parts.0 parts.1 h.0) ∙ sorted_once xs h.1 parts.1
 
 pub tombs_stand_once : (tombs : List NewTomb) → IsStrictlySortedBy new_tomb_cmp tombs → is_once same_tomb (tombs_of tombs) ≡ true
-tombs_stand_once tombs sorted = sorted_once tomb_cmp tomb_total same_tomb (λ _. false) unique (tombs_of tombs) (sorted_map tomb_of tomb_cmp tombs sorted) (never (tombs_of tombs))
+tombs_stand_once tombs sorted = sorted_once tomb_cmp tomb_total same_tomb (λ _. false) unique (tombs_of tombs) (sorted_map tomb_of tomb_cmp tombs sorted) (none_passes (tombs_of tombs))
   where
     unique : (x y : TombRow) → false ≡ false → false ≡ false → same_tomb x y ≡ true → x ≡ y
     unique x y bx by e =
-        let parts = and_both (bytes_eq x.key y.key) (bytes_eq x.id y.id) e in
-        let key : x.key ≡ y.key = same_bytes x.key y.key parts.0 in
-        let id : x.id ≡ y.id = same_bytes x.id y.id parts.1 in
+        let parts = and_parts (bytes_eq x.key y.key) (bytes_eq x.id y.id) e in
+        let key : x.key ≡ y.key = (bytes_eq-Decides x.key y.key).0 parts.0 in
+        let id : x.id ≡ y.id = (bytes_eq-Decides x.id y.id).0 parts.1 in
         λ i. record { key = key i; id = id i }
 
 -- the priority of the block with this identifier
@@ -81,29 +76,22 @@ strays blocks row = not (is_eq (nat_cmp row.priority (priority_at blocks row.cid
 abbrev block_strays : List Block → Block → Bool
 block_strays blocks block = not (is_eq (nat_cmp block.delta.priority (priority_at blocks block.cid)))
 
-symm : (a b : Cid) → same_cid a b ≡ same_cid b a
-symm a b = nat_list_eq_equiv.symm a.0 b.0
-
 -- a block with another identifier changes nothing
 skip : (b : Block) (more xs : List Block) → list_any (same_cid b.cid) (map (λ (block : Block). block.cid) xs) ≡ false → list_any (block_strays (b ∷ more)) xs ≡ list_any (block_strays more) xs
 skip b more [] e = refl
 skip b more (x ∷ xs) e =
-    let parts = or_none (same_cid b.cid x.cid) (list_any (same_cid b.cid) (map (λ (block : Block). block.cid) xs)) e in
-    ap (λ (t : Bool). not (is_eq (nat_cmp x.delta.priority (elim (cond t (Some b) (find (λ (block : Block). same_cid x.cid block.cid) more)) [ None ↦ 0 | Some block ↦ block.delta.priority ]))) || list_any (block_strays (b ∷ more)) xs) (symm x.cid b.cid ∙ parts.0)
+    let parts = or_parts (same_cid b.cid x.cid) (list_any (same_cid b.cid) (map (λ (block : Block). block.cid) xs)) e in
+    ap (λ (t : Bool). not (is_eq (nat_cmp x.delta.priority (elim (cond t (Some b) (find (λ (block : Block). same_cid x.cid block.cid) more)) [ None ↦ 0 | Some block ↦ block.delta.priority ]))) || list_any (block_strays (b ∷ more)) xs) (same_cid-symm x.cid b.cid ∙ parts.0)
     ∙ ap (λ rest. block_strays more x || rest) (skip b more xs parts.1)
 
 none_strays : (blocks : List Block) → is_once same_cid (map (λ (block : Block). block.cid) blocks) ≡ true → list_any (block_strays blocks) blocks ≡ false
 none_strays [] once = refl
 none_strays (b ∷ more) once =
-    let parts = and_both (not (list_any (same_cid b.cid) (map (λ (block : Block). block.cid) more))) (is_once same_cid (map (λ (block : Block). block.cid) more)) once in
+    let parts = and_parts (not (list_any (same_cid b.cid) (map (λ (block : Block). block.cid) more))) (is_once same_cid (map (λ (block : Block). block.cid) more)) once in
     ap (λ (t : Bool). not (is_eq (nat_cmp b.delta.priority (elim (cond t (Some b) (find (λ (block : Block). same_cid b.cid block.cid) more)) [ None ↦ 0 | Some block ↦ block.delta.priority ]))) || list_any (block_strays (b ∷ more)) more) (cid_itself b.cid)
     ∙ ap (λ (o : Ordering). not (is_eq o) || list_any (block_strays (b ∷ more)) more) (tied_itself nat_cmp_total b.delta.priority)
-    ∙ skip b more more (not_so (list_any (same_cid b.cid) (map (λ (block : Block). block.cid) more)) parts.0)
+    ∙ skip b more more (not-true (list_any (same_cid b.cid) (map (λ (block : Block). block.cid) more)) parts.0)
     ∙ none_strays more parts.1
-  where
-    not_so : (t : Bool) → not t ≡ true → t ≡ false
-    not_so true e = absurd (let no : false ≡ true = e in cc)
-    not_so false e = refl
 
 of_block : (all : List Block) (block : Block) (elements : List Element) → block_strays all block ≡ false → list_any (strays all) (map (element_row block) elements) ≡ false
 of_block all block [] e = refl
@@ -112,7 +100,7 @@ of_block all block (x ∷ elements) e = ap (λ b. b || list_any (strays all) (ma
 of_blocks : (all blocks : List Block) → list_any (block_strays all) blocks ≡ false → list_any (strays all) (element_rows blocks) ≡ false
 of_blocks all [] e = refl
 of_blocks all (b ∷ blocks) e =
-    let parts = or_none (block_strays all b) (list_any (block_strays all) blocks) e in
+    let parts = or_parts (block_strays all b) (list_any (block_strays all) blocks) e in
     list_any-append (strays all) (map (element_row b) b.delta.elements) (element_rows blocks)
     ∙ ap (λ t. t || list_any (strays all) (element_rows blocks)) (of_block all b b.delta.elements parts.0)
     ∙ of_blocks all blocks parts.1
@@ -132,10 +120,10 @@ elements_stand_once blocks elements once sorted same =
 
     unique : (x y : ElementRow) → strays blocks x ≡ false → strays blocks y ≡ false → same_element x y ≡ true → x ≡ y
     unique x y bx by e =
-        let parts = and_both (bytes_eq x.key y.key) (same_cid x.cid y.cid && bytes_eq x.value y.value) e in
-        let rest = and_both (same_cid x.cid y.cid) (bytes_eq x.value y.value) parts.1 in
-        let key : x.key ≡ y.key = same_bytes x.key y.key parts.0 in
+        let parts = and_parts (bytes_eq x.key y.key) (same_cid x.cid y.cid && bytes_eq x.value y.value) e in
+        let rest = and_parts (same_cid x.cid y.cid) (bytes_eq x.value y.value) parts.1 in
+        let key : x.key ≡ y.key = (bytes_eq-Decides x.key y.key).0 parts.0 in
         let cid : x.cid ≡ y.cid = cid_is x.cid y.cid rest.0 in
-        let value : x.value ≡ y.value = same_bytes x.value y.value rest.1 in
+        let value : x.value ≡ y.value = (bytes_eq-Decides x.value y.value).0 rest.1 in
         let priority : x.priority ≡ y.priority = priority_is x bx ∙ ap (priority_at blocks) cid ∙ sym (priority_is y by) in
         λ i. record { key = key i; cid = cid i; priority = priority i; value = value i }

@@ -2,19 +2,20 @@
 use Rattle.std.proofs.Common.{◌≡◌, ℕ, ◌+◌, ◌<◌, length, take, get_or, append_assoc, Bool, true, false, cond, ◌||◌, List, [], ◌∷◌, ◌++◌, map, sym, refl, ap, ◌∙◌, subst}
 use Rattle.std.specs.List.{list_any, dedup, dedup_from}
 use Rattle.std.specs.List.Sorted.{IsPermutation}
-use Rattle.std.specs.Ordering.{eq_by_cmp, is_eq}
+use Rattle.std.specs.Ordering.{eq_by_cmp}
 use Rattle.std.specs.declared.cmp.Ordering.{Ordering}
-use Rattle.std.specs.declared.cmp.Ordering.TheVariants.{Less, Equal, Greater}
+use Rattle.std.specs.declared.cmp.Ordering.TheVariants.{Equal}
 use Rattle.std.proofs.lemmas.List.{map_more}
 use Rattle.std.proofs.lemmas.List.Elements.{filter-append}
 use Rattle.std.proofs.lemmas.List.Sorted.{list_any-IsPermutation}
 use Rattle.mc_model.specs.SameMembers.{SameMembers}
 use Rattle.mc_model.proofs.Members.{list_any-map}
 use Rattle.std.specs.Prelude.{IfSome, filter, Option, Some, None}
-use Rattle.std.specs.Ordering.{nat_cmp, ordering_then}
+use Rattle.std.specs.Ordering.{nat_cmp}
 use Rattle.std.specs.Cmp.Lexicographic.{slice_cmp}
-use Rattle.std.specs.FinMap.{nat_cmp-IsAntisymmetric, slice_cmp-IsAntisymmetric}
-use Rattle.mc_base.specs.declared.cid.Cid.{Cid}
+use Rattle.std.specs.FinMap.{nat_cmp-IsAntisymmetric}
+use Rattle.mc_base.proofs.Cids.{cid_same}
+use Rattle.mc_base.proofs.Orders.{then_equal}
 use Rattle.mc_model.specs.declared.block.Block.{Block}
 use Rattle.mc_model.specs.declared.delta.Tomb.{Tomb}
 use Rattle.mc_model.specs.Kept.{Kept, processed}
@@ -27,26 +28,20 @@ use Rattle.mc_rows.specs.Values.{has_key}
 use Rattle.mc_rows.specs.declared.elements.NewElement.{NewElement}
 use Rattle.std.specs.Str.{bytes_eq}
 use Rattle.std.proofs.lemmas.List.Folds.{list_any-append}
+use Rattle.std.proofs.lemmas.Map.Lookups.{exact_bytes}
+use Rattle.std.proofs.Math.Bool.{or_self_left}
+use Rattle.std.specs.Cmp.{Equal-is}
 use lib.Pointwise.{bytes_decides}
 use denote.Ref.{Bor}
-
-is_equal : (o : Ordering) → is_eq o ≡ true → o ≡ Equal
-is_equal Less e = absurd (let f : false ≡ true = e in cc)
-is_equal Equal e = refl
-is_equal Greater e = absurd (let f : false ≡ true = e in cc)
 
 module _ {X R : Type 0} (same : X → X → Bool) (row : X → R) (alike : (x y : X) → same x y ≡ true → row x ≡ row y) where
   any_from : (test : R → Bool) (x : X) (xs : List X) → list_any (λ y. test (row y)) (dedup_from same x xs) ≡ (test (row x) || list_any (λ y. test (row y)) xs)
   any_from test x [] = refl
   any_from test x (y ∷ ys) =
       elim (same y x) as (λ b. same y x ≡ b → list_any (λ z. test (row z)) (cond b (dedup_from same x ys) (x ∷ dedup_from same y ys)) ≡ (test (row x) || (test (row y) || list_any (λ z. test (row z)) ys))) [
-        | true ↦ λ e. any_from test x ys ∙ subst (λ z. (test (row x) || list_any (λ y. test (row y)) ys) ≡ (test (row x) || (test z || list_any (λ y. test (row y)) ys))) (sym (alike y x e)) (twice (test (row x)) (list_any (λ y. test (row y)) ys))
+        | true ↦ λ e. any_from test x ys ∙ subst (λ z. (test (row x) || list_any (λ y. test (row y)) ys) ≡ (test (row x) || (test z || list_any (λ y. test (row y)) ys))) (sym (alike y x e)) ((sym (or_self_left (test (row x)) (list_any (λ y. test (row y)) ys))))
         | false ↦ λ e. ap (λ rest. test (row x) || rest) (any_from test y ys)
       ] refl
-    where
-      twice : (a b : Bool) → (a || b) ≡ (a || (a || b))
-      twice true b = refl
-      twice false b = refl
 
   any_of : (test : R → Bool) (xs : List X) → list_any (λ y. test (row y)) (dedup same xs) ≡ list_any (λ y. test (row y)) xs
   any_of test [] = refl
@@ -62,37 +57,26 @@ pub sorted_members : {X R : Type 0} (cmp : X → X → Ordering) (row : X → R)
 sorted_members cmp row tied items sorted moved = record {
   same = λ test.
       list_any-map test row (dedup (eq_by_cmp cmp) sorted)
-      ∙ any_once (eq_by_cmp cmp) row (λ x y e. tied x y (is_equal (cmp x y) e)) test items sorted moved
+      ∙ any_once (eq_by_cmp cmp) row (λ x y e. tied x y ((Equal-is (cmp x y)).0 e)) test items sorted moved
       ∙ sym (list_any-map test row items);
 }
-
-then_equal : (a b : Ordering) → ordering_then a b ≡ Equal → (a ≡ Equal) × (b ≡ Equal)
-then_equal Less b e = absurd (cc)
-then_equal Equal b e = (refl, e)
-then_equal Greater b e = absurd (cc)
-
-bytes_tied : (v w : List ℕ) → slice_cmp nat_cmp v w ≡ Equal → v ≡ w
-bytes_tied v w e = slice_cmp-IsAntisymmetric nat_cmp-IsAntisymmetric v w e
-
-cid_same : (a b : Cid) → a.0 ≡ b.0 → a ≡ b
-cid_same a b e = ap (λ (digest : List ℕ). record { 0 = digest }) e
 
 pub key_tied : (x y : ElementRow) → key_cmp x y ≡ Equal → x ≡ y
 key_tied x y e =
     let last = then_equal _ (nat_cmp x.priority y.priority) e in
     let third = then_equal _ (slice_cmp nat_cmp x.value y.value) last.0 in
     let first = then_equal (slice_cmp nat_cmp x.key y.key) (slice_cmp nat_cmp x.cid.0 y.cid.0) third.0 in
-    let key : x.key ≡ y.key = bytes_tied x.key y.key first.0 in
-    let cid : x.cid ≡ y.cid = cid_same x.cid y.cid (bytes_tied x.cid.0 y.cid.0 first.1) in
-    let value : x.value ≡ y.value = bytes_tied x.value y.value third.1 in
+    let key : x.key ≡ y.key = exact_bytes x.key y.key first.0 in
+    let cid : x.cid ≡ y.cid = cid_same x.cid y.cid (exact_bytes x.cid.0 y.cid.0 first.1) in
+    let value : x.value ≡ y.value = exact_bytes x.value y.value third.1 in
     let priority : x.priority ≡ y.priority = nat_cmp-IsAntisymmetric x.priority y.priority last.1 in
     λ i. record { key = key i; cid = cid i; priority = priority i; value = value i }
 
 pub tomb_tied : (x y : TombRow) → tomb_cmp x y ≡ Equal → x ≡ y
 tomb_tied x y e =
     let parts = then_equal (slice_cmp nat_cmp x.key y.key) (slice_cmp nat_cmp x.id y.id) e in
-    let key : x.key ≡ y.key = bytes_tied x.key y.key parts.0 in
-    let id : x.id ≡ y.id = bytes_tied x.id y.id parts.1 in
+    let key : x.key ≡ y.key = exact_bytes x.key y.key parts.0 in
+    let id : x.id ≡ y.id = exact_bytes x.id y.id parts.1 in
     λ i. record { key = key i; id = id i }
 
 -- the same of the tombstones that a keeper doesn't have

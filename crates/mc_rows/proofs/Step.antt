@@ -10,6 +10,9 @@ use Rattle.std.proofs.lemmas.List.{append-nil, get_or-take, get_or_default, leng
 use Rattle.std.proofs.lemmas.List.Folds.{list_any-append, list_any_none, list_any_more, list_all-append}
 use Rattle.std.proofs.lemmas.Map.Keys.{Less-from_sorted}
 use Rattle.std.proofs.lemmas.Map.Text.{is_eq-slice_cmp}
+use Rattle.std.proofs.lemmas.Bool.{or_parts, and_from, and_parts}
+use Rattle.std.proofs.Math.Bool.{or-false}
+use Rattle.std.proofs.lemmas.Slice.Eq.{bytes_eq-Decides}
 use lib.Pointwise.{bytes_decides}
 use denote.Ref.{Bor}
 use Rattle.mc_model.specs.declared.block.Block.{Block}
@@ -17,7 +20,6 @@ use Rattle.mc_model.specs.Ascending.{is_once}
 use Rattle.mc_model.specs.Kept.{Kept, processed}
 use Rattle.mc_model.specs.Live.{value_row}
 use Rattle.mc_model.specs.Rank.{Ranked}
-use Rattle.mc_model.proofs.Counts.{or_none}
 use Rattle.mc_model.proofs.Greatest.{fold-append}
 use Rattle.mc_keep.specs.declared.rows.ElementRow.{ElementRow}
 use Rattle.mc_keep.specs.declared.rows.TombRow.{TombRow}
@@ -26,9 +28,6 @@ use Rattle.mc_keep.specs.Changes.{ranked_row, value_after, values_after}
 use Rattle.mc_keep.specs.Tables.{is_named}
 use Rattle.mc_rows.specs.Live.{new_row}
 use Rattle.mc_rows.specs.Values.{IsChange, change_list, has_key, has_change_of, ValuesFit}
-
-same_bytes : (a b : List ℕ) → bytes_eq a b ≡ true → a ≡ b
-same_bytes a b e = (bytes_decides a b).0 e
 
 itself : (a : List ℕ) → bytes_eq a a ≡ true
 itself a = (bytes_decides a a).1 refl
@@ -54,7 +53,7 @@ not_before keys i d sorted within =
 pub unspoken : (key : List ℕ) (row : Option Ranked) (changes : List ValueChange) → has_change_of changes key ≡ false → values_after key row changes ≡ row
 unspoken key row [] e = refl
 unspoken key row (c ∷ changes) e =
-    let parts = or_none (bytes_eq c.key key) (has_change_of changes key) e in
+    let parts = or_parts (bytes_eq c.key key) (has_change_of changes key) e in
     ap (λ (b : Bool). fold (value_after key) (cond b (ranked_row c.row) row) changes) parts.0 ∙ unspoken key row changes parts.1
 
 -- what one more change does to the row of a key
@@ -93,18 +92,11 @@ same_key a b = bytes_eq a.key b.key
 once_push : (changes : List ValueChange) (change : ValueChange) → is_once same_key changes ≡ true → has_change_of changes change.key ≡ false → is_once same_key (changes ++ change ∷ []) ≡ true
 once_push [] change once none = refl
 once_push (c ∷ changes) change once none =
-    let apart = or_none (bytes_eq c.key change.key) (has_change_of changes change.key) none in
-    let parts = both (not (list_any (same_key c) changes)) (is_once same_key changes) once in
-    join _ _ (ap not (list_any-append (same_key c) changes (change ∷ []) ∙ ap (λ b. list_any (same_key c) changes || (b || false)) apart.0 ∙ or_nothing (list_any (same_key c) changes)) ∙ parts.0)
+    let apart = or_parts (bytes_eq c.key change.key) (has_change_of changes change.key) none in
+    let parts = and_parts (not (list_any (same_key c) changes)) (is_once same_key changes) once in
+    and_from _ _ (ap not (list_any-append (same_key c) changes (change ∷ []) ∙ ap (λ b. list_any (same_key c) changes || (b || false)) apart.0 ∙ or_nothing (list_any (same_key c) changes)) ∙ parts.0)
     (once_push changes change parts.1 apart.1)
   where
-    both : (a b : Bool) → (a && b) ≡ true → (a ≡ true) × (b ≡ true)
-    both true b e = (refl, e)
-    both false b e = absurd (let no : false ≡ true = e in cc)
-
-    join : (a b : Bool) → a ≡ true → b ≡ true → (a && b) ≡ true
-    join a b e f = ap (λ z. z && b) e ∙ f
-
     or_nothing : (a : Bool) → (a || (false || false)) ≡ a
     or_nothing true = refl
     or_nothing false = refl
@@ -121,7 +113,7 @@ fit_more : (blocks : List Block) (elements : List ElementRow) (tombs : List Tomb
     → ValuesFit blocks elements tombs (take (i + 1) keys) (now ++ change_list change)
 fit_more blocks elements tombs keys i d key now change sorted within at before is = record {
   rows = λ k has. row k (bytes_eq key k) refl (sym (more k) ∙ has);
-  rest = λ k none. let parts = or_none (has_key (take i keys) k) (bytes_eq key k) (sym (more k) ∙ none) in
+  rest = λ k none. let parts = or_parts (has_key (take i keys) k) (bytes_eq key k) (sym (more k) ∙ none) in
       list_any-append (λ (c : ValueChange). bytes_eq c.key k) now (change_list change)
       ∙ ap (λ b. b || has_change_of (change_list change) k) (before.rest k parts.0)
       ∙ speaks_of key k (value_row blocks key) (new_row blocks elements tombs key) change parts.1 is;
@@ -137,14 +129,10 @@ fit_more blocks elements tombs keys i d key now change sorted within at before i
 
     row : (k : List ℕ) (b : Bool) → bytes_eq key k ≡ b → (has_key (take i keys) k || b) ≡ true → values_after k (value_row blocks k) (now ++ change_list change) ≡ new_row blocks elements tombs k
     row k true same has =
-        subst (λ (z : List ℕ). values_after z (value_row blocks z) (now ++ change_list change) ≡ new_row blocks elements tombs z) (same_bytes key k same)
+        subst (λ (z : List ℕ). values_after z (value_row blocks z) (now ++ change_list change) ≡ new_row blocks elements tombs z) ((bytes_eq-Decides key k).0 same)
         (own_row key (value_row blocks key) (new_row blocks elements tombs key) now change unsaid is)
     row k false apart has =
-        other_row key k (value_row blocks key) (new_row blocks elements tombs key) (value_row blocks k) now change apart is ∙ before.rows k (sym (or_nothing (has_key (take i keys) k)) ∙ has)
-      where
-        or_nothing : (a : Bool) → (a || false) ≡ a
-        or_nothing true = refl
-        or_nothing false = refl
+        other_row key k (value_row blocks key) (new_row blocks elements tombs key) (value_row blocks k) now change apart is ∙ before.rows k (sym (or-false (has_key (take i keys) k)) ∙ has)
 
 pub fit_more_told : (told : Option Kept) (elements : List ElementRow) (tombs : List TombRow) (keys : List (Bor (List ℕ))) (i : ℕ) (key : Bor (List ℕ)) (now new : List ValueChange) (change : Option ValueChange)
     → IsStrictlySortedBy (λ (x y : Bor (List ℕ)). slice_cmp nat_cmp x.now y.now) keys → i < length keys → key ≡ get_or keys i key

@@ -46,7 +46,7 @@ has_change_of changes key = list_any (λ (change : ValueChange). bytes_eq change
 pub record ValuesFit (blocks : List Block) (elements : List ElementRow) (tombs : List TombRow)
     (keys : List (Bor (List ℕ))) (changes : List ValueChange) : Type 0 where
   pub rows : (key : List ℕ) → has_key keys key ≡ true →
-    values_after key (value_row blocks key) changes ≡ new_row blocks elements tombs key
+      values_after key (value_row blocks key) changes ≡ new_row blocks elements tombs key
   pub rest : (key : List ℕ) → has_key keys key ≡ false → has_change_of changes key ≡ false
   pub named : list_all is_named changes ≡ true
   pub once : is_once (λ (a b : ValueChange). bytes_eq a.key b.key) changes ≡ true

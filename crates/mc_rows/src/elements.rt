@@ -41,8 +41,8 @@ impl<'a> PartialEq for NewElement<'a> {
     ghost eq = { eq_by_cmp new_element_cmp };
 
     ghost laws = { record {
-        symm = (eq_by_cmp_equiv new_element_total).symm;
-        trans = λ x y z e f. (eq_by_cmp_equiv new_element_total).congr x y z e ∙ f;
+      symm = (eq_by_cmp_equiv new_element_total).symm;
+      trans = λ x y z e f. (eq_by_cmp_equiv new_element_total).congr x y z e ∙ f;
     } };
 
     fn eq(&self, other: &NewElement<'a>) -> bool {

@@ -13,6 +13,3 @@ mod tombs;
 mod values;
 
 pub use merging::merge;
-
-#[cfg(test)]
-mod tests;

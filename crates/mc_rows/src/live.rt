@@ -119,7 +119,7 @@ pub(crate) fn best_with_new<'a, K: Keeper>(
     requires sorted { IsStrictlySortedBy new_tomb_cmp tombs.now }
     ensures best { IfTold (K.told keeper.old) result (λ kept found.
         ranked_best found ≡ fold greater (ranked_best best.entry)
-            (live_rows (hides (processed kept) (tombs_of tombs.now) key.now) (rows_of elements.now))) }
+        (live_rows (hides (processed kept) (tombs_of tombs.now) key.now) (rows_of elements.now))) }
     ensures reads { Reads K.Keeper (is_err result) keeper.old keeper.new }
 {
     let mut best = best;

@@ -37,9 +37,10 @@ pub fn merge<K: Keeper>(
     requires new { IfSome (K.told keeper.old) (λ kept. AreNew kept blocks.now) }
     ensures fit { OnOk result (IfSome (K.told keeper.old) (λ kept. RowsFit (processed kept) blocks.now changes.new)) }
     ensures others { changes.new ≡ record changes.old {
-        elements = changes.new.elements;
-        tombs = changes.new.tombs;
-        values = changes.new.values } }
+      elements = changes.new.elements;
+      tombs = changes.new.tombs;
+      values = changes.new.values;
+    } }
     ensures refused { OnErr result (changes.new ≡ changes.old) }
     ensures reads { Reads K.Keeper (is_fault result) keeper.old keeper.new }
 {

@@ -30,8 +30,8 @@ impl<'a> PartialEq for NewTomb<'a> {
     ghost eq = { eq_by_cmp new_tomb_cmp };
 
     ghost laws = { record {
-        symm = (eq_by_cmp_equiv new_tomb_total).symm;
-        trans = λ x y z e f. (eq_by_cmp_equiv new_tomb_total).congr x y z e ∙ f;
+      symm = (eq_by_cmp_equiv new_tomb_total).symm;
+      trans = λ x y z e f. (eq_by_cmp_equiv new_tomb_total).congr x y z e ∙ f;
     } };
 
     fn eq(&self, other: &NewTomb<'a>) -> bool {

@@ -34,7 +34,7 @@ pub(crate) fn change_of<K: Keeper>(
     requires tombs { IsStrictlySortedBy new_tomb_cmp tombs.now }
     ensures change { IfTold (K.told keeper.old) result (λ kept change.
         IsChange key.now (value_row (processed kept) key.now)
-            (new_row (processed kept) (rows_of elements.now) (tombs_of tombs.now) key.now) change) }
+        (new_row (processed kept) (rows_of elements.now) (tombs_of tombs.now) key.now) change) }
     ensures reads { Reads K.Keeper (is_fault result) keeper.old keeper.new }
 {
     let old = keeper.value(alloc, key)?;
@@ -90,7 +90,7 @@ fn change_anew<K: Keeper>(
     requires hides { IfSome (K.told keeper.old) (λ kept. HidesValue (processed kept) (tombs_of tombs.now) key.now) }
     ensures change { IfTold (K.told keeper.old) result (λ kept change.
         IsChange key.now (value_row (processed kept) key.now)
-            (row_from (processed kept) (rows_of elements.now) (tombs_of tombs.now) key.now) change) }
+        (row_from (processed kept) (rows_of elements.now) (tombs_of tombs.now) key.now) change) }
     ensures reads { Reads K.Keeper (is_fault result) keeper.old keeper.new }
 {
     let rows = keeper.elements(alloc, key)?;
@@ -113,7 +113,7 @@ fn change_on<K: Keeper>(
     requires stands { IfSome (K.told keeper.old) (λ kept. Stands (processed kept) (tombs_of tombs.now) key.now) }
     ensures change { IfTold (K.told keeper.old) result (λ kept change.
         IsChange key.now (value_row (processed kept) key.now)
-            (row_from (processed kept) (rows_of elements.now) (tombs_of tombs.now) key.now) change) }
+        (row_from (processed kept) (rows_of elements.now) (tombs_of tombs.now) key.now) change) }
     ensures reads { Reads K.Keeper (is_fault result) keeper.old keeper.new }
 {
     let found = best_with_new(keeper, key, elements, tombs, best_of(old))?;

@@ -10,6 +10,7 @@ use Rattle.mc_base.specs.WireRead.{Front, Whole, NoKey, NoContent, WireFault, fr
 use Rattle.mc_wire.proofs.ContentFacts.{ContentFound, content_is_read, content_read}
 use Rattle.mc_wire.proofs.Fronts.{fronts_end, fronts_field, fronts_fault}
 use Rattle.mc_wire.proofs.VarintFacts.{VarintAt, varint_is_read, varint_read}
+use Rattle.mc_wire.proofs.AllFields.{none_is_no, nothing_is}
 
 wire_type_small : (content : Content) → wire_type content < 8
 wire_type_small (Varint value) = omega arith
@@ -102,12 +103,6 @@ fields_are_read at text (field ∷ fields) (piece, rest, parts, is, more) =
     let after : drop (length piece) text ≡ rest = rw parts (drop-append_seam piece rest) in
     rw (fronts_field at text field (length piece) front read.some (omega (arith, read.some, read.within)), after, fields_are_read (at + length piece) rest fields more)
 
-none_is_not_some : {A : Type 0} {x : A} → ◌≡◌ {A = Option A} None (Some x) → ⊥
-none_is_not_some e = cc
-
-nothing_read : (fields : List Field) → ◌≡◌ {A = Option (List Field)} (Some []) (Some fields) → fields ≡ []
-nothing_read fields e = cc
-
 fields_from : (text : List ℕ) (field : Field) (len : ℕ) (fields : List Field) → PieceAt text field len → (rest : Option (List Field)) →
     ((more : List Field) → rest ≡ Some more → Fields (drop len text) more) → option_map (λ more. field ∷ more) rest ≡ Some fields → Fields text fields
 fields_from text field len fields piece None after found = absurd (cc)
@@ -119,9 +114,9 @@ fields_found_front : (most at : ℕ) (text : List ℕ) (fields : List Field) →
     ((at' : ℕ) (text' : List ℕ) (fields' : List Field) → length text' ≤ most → fields_in (fronts_from at' text') ≡ Some fields' → Fields text' fields') →
     (front : Front) → front_of text ≡ front → Fields text fields
 fields_found_front most at text fields inside within found smaller (NoKey fault) e =
-    absurd (none_is_not_some (rw (fronts_fault at text (rw e) inside, e) at found))
+    none_is_no (rw (fronts_fault at text (rw e) inside, e) at found)
 fields_found_front most at text fields inside within found smaller (NoContent number wire fault) e =
-    absurd (none_is_not_some (rw (fronts_fault at text (rw e) inside, e) at found))
+    none_is_no (rw (fronts_fault at text (rw e) inside, e) at found)
 fields_found_front most at text fields inside within found smaller (Whole field len) e =
     let piece = piece_read text field len e in
     fields_from text field len fields piece (fields_in (fronts_from (at + len) (drop len text)))
@@ -131,7 +126,7 @@ fields_found_front most at text fields inside within found smaller (Whole field 
 -- what is read is the fields of the text
 pub fields_found : (most at : ℕ) (text : List ℕ) (fields : List Field) → length text ≤ most → fields_in (fronts_from at text) ≡ Some fields → Fields text fields
 fields_found most at [] fields within found =
-    let same : fields ≡ [] = nothing_read fields (rw (fronts_end at) at found) in
+    let same : fields ≡ [] = nothing_is fields (rw (fronts_end at) at found) in
     rw same
 fields_found zero at (byte ∷ text) fields within found = absurd (omega arith)
 fields_found (suc most) at (byte ∷ text) fields within found =

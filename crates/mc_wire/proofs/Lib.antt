@@ -1,9 +1,11 @@
+pub mod AllFields
 pub mod ContentFacts
 pub mod FieldFacts
 pub mod Fronts
 pub mod Keys
 pub mod Reading
 pub mod Results
+pub mod Utf8
 pub mod VarintFacts
 pub mod Writing
 pub mod WrittenFacts

@@ -2,7 +2,7 @@
 use Rattle.std.proofs.Common.{◌≡◌, ◌≢◌, ◌⊎◌, inl, inr, ℕ, suc, ◌+◌, ◌-◌, ◌*◌, ◌^◌, ◌<◌, ◌≤◌, true, false, List, [], ◌∷◌, ◌++◌, length, map, take, drop, refl, ap, sym, ◌∙◌, subst, arith, length-append, append_assoc}
 use Rattle.std.specs.Prelude.{nat_le}
 use Rattle.std.proofs.lemmas.List.{append-nil, take_all, take-append-drop, take-map, drop-map, length-map, length-take-le, length-drop}
-use Rattle.std.proofs.lemmas.Bool.{leb-true, leb-false}
+use Rattle.std.proofs.lemmas.Bool.{leb-true, leb-false, and_from, and_parts}
 use Rattle.mc_base.specs.declared.cid.Cid.{Cid}
 use Rattle.mc_model.specs.declared.delta.Delta.{Delta}
 use Rattle.mc_model.specs.declared.delta.Element.{Element}
@@ -18,14 +18,13 @@ use Rattle.mc_write.specs.declared.pair.Pair.{Pair as Own}
 use Rattle.mc_write.specs.Lengths.{capped, links_length, block_length, tomb_length, IsRoom, IsTombLen}
 use Rattle.mc_write.specs.Seen.{seen, all_seen, has_digest, have_digests}
 use Rattle.mc_write.proofs.LengthFacts.{size_is, one_fits, made_link}
-use Rattle.mc_write.proofs.Membership.{and_both, both_and}
 
 digests_apart : (xs ys : List Pair) → have_digests (xs ++ ys) ≡ true → (have_digests xs ≡ true) × (have_digests ys ≡ true)
 digests_apart [] ys e = (refl, e)
 digests_apart (x ∷ xs) ys e =
-    let parts = and_both (has_digest x.cid) (have_digests (xs ++ ys)) e in
+    let parts = and_parts (has_digest x.cid) (have_digests (xs ++ ys)) e in
     let more = digests_apart xs ys parts.1 in
-    (both_and (has_digest x.cid) (have_digests xs) parts.0 more.0, more.1)
+    (and_from (has_digest x.cid) (have_digests xs) parts.0 more.0, more.1)
 
 -- one cut
 
@@ -65,7 +64,7 @@ pub too_large : (links : List Cid) (priority : ℕ) (key : List ℕ) (pairs : Li
     → IsRoom len base tomb most 0 → size ≡ capped (block_length len (base + tomb)) → IsTooLarge links priority key pairs size
 too_large links priority key [] len base tomb most size some digests left any len_is base_is tomb_is most_is room size_here = absurd (omega (arith, any))
 too_large links priority key (pair ∷ pairs) len base tomb most size some digests left any len_is base_is tomb_is most_is room size_here =
-    let parts = and_both (has_digest pair.cid) (have_digests pairs) digests in
+    let parts = and_parts (has_digest pair.cid) (have_digests pairs) digests in
     let one = size_is links priority key (pair ∷ []) some (rw parts.0 refl) in
     let delta : base + tomb ≡ length (priority_bytes priority) + 1 * tomb_length (length key) = omega (arith, base_is, tomb_is) in
     let same : base + (0 + 1) * tomb ≡ base + tomb = omega arith in
@@ -81,7 +80,7 @@ cuts_exist links priority key taken [] some short digests any fits below =
     let delta : Delta = tombs_delta key taken priority in
     (delta ∷ [], (taken, [], refl, record { some = any; made = refl; fits = fits; full = tt }, refl), λ e. absurd (cc))
 cuts_exist links priority key taken (next ∷ rest) some short digests any fits below =
-    let parts = and_both (has_digest next.cid) (have_digests rest) digests in
+    let parts = and_parts (has_digest next.cid) (have_digests rest) digests in
     (elim (nat_le (tombs_size links priority key (taken ++ next ∷ [])) block_max) as (λ b. nat_le (tombs_size links priority key (taken ++ next ∷ [])) block_max ≡ b
     → (deltas : List Delta) × IsCuts links priority key (taken ++ next ∷ rest) deltas × (deltas ≢ [])) [
       | true ↦ λ e.
@@ -169,14 +168,14 @@ cutting_refused heads first key pairs len now (pair ∷ rest) deltas (BlockTooLa
       let same : now ≡ first = omega (arith, cutting.counted, ap length at.0) in
       subst (λ (ps : List Pair). IsTooLarge heads first key ps size) at.2 (subst (λ (n : ℕ). IsTooLarge heads n key (pair ∷ rest) size) same (subst (λ (ls : List Cid). IsTooLarge ls now key (pair ∷ rest) size) at.1 refused))
   | inr one ↦
-      let parts = and_both (has_digest pair.cid) (have_digests rest) digests in
+      let parts = and_parts (has_digest pair.cid) (have_digests rest) digests in
       let fits = one_fits cutting.links now key pair one (omega (arith, refused.0)) some short parts.0 in
       absurd (omega (arith, fits, refused.1))
 ]
 cutting_refused heads first key pairs len now (pair ∷ rest) deltas PriorityFull cutting some short digests any refused = elim cutting.stage [
   | inl at ↦ inl (λ e. any (at.2 ∙ e), omega (arith, cutting.counted, ap length at.0, refused.0))
   | inr one ↦
-      let parts = and_both (has_digest pair.cid) (have_digests rest) digests in
+      let parts = and_parts (has_digest pair.cid) (have_digests rest) digests in
       let fits = one_fits cutting.links now key pair one (omega (arith, refused.0)) some short parts.0 in
       let more = cuts_exist cutting.links now key (pair ∷ []) rest some short parts.1 (λ n. absurd (cc)) fits (omega (arith, refused.0, refused.1)) in
       inr (deltas ++ more.0, cutting.so_far more.0 more.1, omega (arith, cutting.counted, refused.0, some_deltas deltas more.0 more.2))

@@ -15,10 +15,10 @@ use Rattle.std.proofs.lemmas.List.Filters.{dedup_is}
 use Rattle.std.specs.Cmp.{IsTotalOrder}
 use Rattle.std.specs.Cmp.Lexicographic.{slice_cmp}
 use Rattle.std.specs.Ordering.{nat_cmp, is_eq, match_ordering, ordering_then, eq_by_cmp}
-use Rattle.std.specs.declared.cmp.Ordering.{Ordering}
 use Rattle.std.specs.declared.cmp.Ordering.TheVariants.{Less, Equal, Greater}
 use Rattle.std.proofs.lemmas.Cmp.{nat_list_cmp_total, tied_itself, then_total, on_total}
 use Rattle.mc_base.specs.declared.cid.Cid.{Cid}
+use Rattle.mc_base.proofs.Orders.{then_equal}
 use Rattle.mc_model.specs.Ascending.{ascending, Ascends}
 use Rattle.mc_model.specs.Batch.{Deleted, deleted_cmp}
 use Rattle.mc_model.specs.Cuts.{Pair}
@@ -27,11 +27,13 @@ use Rattle.mc_model.specs.SameMembers.{SameMembers}
 use Rattle.mc_model.proofs.Ascending.{ascends_is}
 use Rattle.mc_model.proofs.Members.{list_any-map}
 use Rattle.std.specs.Prelude.{IsTrue, ◌↔◌}
+use Rattle.std.proofs.Math.Bool.{or-true, or-false}
+use Rattle.std.proofs.lemmas.Map.Lookups.{exact_bytes}
 use Rattle.mc_model.specs.Batch.{is_nil, is_empty_batch}
 use Rattle.mc_write.specs.declared.pair.Pair.{Pair as Own}
 use Rattle.mc_write.specs.Seen.{all_seen}
 use Rattle.mc_write.specs.Held.{Put, elements_in, Dropped, deleted_of, deleted_in, cid_cmp, AreHeld}
-use Rattle.mc_write.proofs.ElementFacts.{bytes_tied, bytes_same}
+use Rattle.mc_write.proofs.ElementFacts.{bytes_same}
 use Rattle.mc_model.proofs.SortFacts.{sorted_once}
 
 -- orders
@@ -40,21 +42,16 @@ pub cid_total : IsTotalOrder cid_cmp
 cid_total = on_total (λ (cid : Cid). cid.0) nat_list_cmp_total
 
 pub cid_tied : (x y : Cid) → cid_cmp x y ≡ Equal → x ≡ y
-cid_tied x y e = ap (λ (bytes : List ℕ). record { 0 = bytes }) (bytes_tied x.0 y.0 e)
+cid_tied x y e = ap (λ (bytes : List ℕ). record { 0 = bytes }) (exact_bytes x.0 y.0 e)
 
 deleted_total : IsTotalOrder deleted_cmp
 deleted_total = then_total (on_total (λ (d : Deleted). d.0) nat_list_cmp_total) (on_total (λ (d : Deleted). d.1.0) nat_list_cmp_total)
 
-then_equal : (a b : Ordering) → ordering_then a b ≡ Equal → (a ≡ Equal) × (b ≡ Equal)
-then_equal Less b e = absurd (cc)
-then_equal Equal b e = (refl, e)
-then_equal Greater b e = absurd (cc)
-
 deleted_tied : (x y : Deleted) → deleted_cmp x y ≡ Equal → x ≡ y
 deleted_tied x y e =
     let parts = then_equal (slice_cmp nat_cmp x.0 y.0) (slice_cmp nat_cmp x.1.0 y.1.0) e in
-    let key : x.0 ≡ y.0 = bytes_tied x.0 y.0 parts.0 in
-    let bytes : x.1.0 ≡ y.1.0 = bytes_tied x.1.0 y.1.0 parts.1 in
+    let key : x.0 ≡ y.0 = exact_bytes x.0 y.0 parts.0 in
+    let bytes : x.1.0 ≡ y.1.0 = exact_bytes x.1.0 y.1.0 parts.1 in
     λ i. (key i, record { 0 = bytes i })
 
 -- identifiers in order, each once
@@ -139,7 +136,7 @@ absorbed test (e ∷ es) key =
     ∙ (elim (string_cmp key e.0) as (λ o. string_cmp key e.0 ≡ o → (any_of test (string_bytes key) (unwrap_or (cond (is_eq o) (Some e.1) (lookup (is_at (string_cmp key)) es)) []) || (list_any test (deleted_of e) || list_any test (deleted_in es)))
     ≡ (list_any test (deleted_of e) || list_any test (deleted_in es))) [
       | Less ↦ λ t. within _ (list_any test (deleted_of e)) (list_any test (deleted_in es)) (absorbed test es key)
-      | Equal ↦ λ t. ap (λ (k : List ℕ). any_of test k e.1 || (list_any test (deleted_of e) || list_any test (deleted_in es))) (bytes_tied (string_bytes key) (string_bytes e.0) t) ∙ twice (list_any test (deleted_of e)) (list_any test (deleted_in es))
+      | Equal ↦ λ t. ap (λ (k : List ℕ). any_of test k e.1 || (list_any test (deleted_of e) || list_any test (deleted_in es))) (exact_bytes (string_bytes key) (string_bytes e.0) t) ∙ twice (list_any test (deleted_of e)) (list_any test (deleted_in es))
       | Greater ↦ λ t. within _ (list_any test (deleted_of e)) (list_any test (deleted_in es)) (absorbed test es key)
     ]) refl
     ∙ sym (list_any-append test (deleted_of e) (deleted_in es))
@@ -166,11 +163,7 @@ later false b c = refl
 -- the blocks of a key are those that it had and more
 any_put : (test : Deleted → Bool) (entries : List Dropped) (key : String Global) (cids more : List Cid) → any_of test (string_bytes key) cids ≡ (any_of test (string_bytes key) (found key entries) || any_of test (string_bytes key) more)
     → list_any test (deleted_in (insert_entry string_cmp entries key cids)) ≡ (list_any test (deleted_in entries) || any_of test (string_bytes key) more)
-any_put test [] key cids more parts = list_any-append test (map (λ (c : Cid). (string_bytes key, c)) cids) [] ∙ last (any_of test (string_bytes key) cids) ∙ parts
-  where
-    last : (b : Bool) → (b || false) ≡ b
-    last true = refl
-    last false = refl
+any_put test [] key cids more parts = list_any-append test (map (λ (c : Cid). (string_bytes key, c)) cids) [] ∙ or-false (any_of test (string_bytes key) cids) ∙ parts
 any_put test (e ∷ es) key cids more parts =
     (elim (string_cmp key e.0) as (λ o. string_cmp key e.0 ≡ o → any_of test (string_bytes key) cids ≡ (any_of test (string_bytes key) (unwrap_or (cond (is_eq o) (Some e.1) (lookup (is_at (string_cmp key)) es)) []) || any_of test (string_bytes key) more)
     → list_any test (deleted_in (match_ordering o ((key, cids) ∷ e ∷ es) ((e.0, cids) ∷ es) (e ∷ insert_entry string_cmp es key cids))) ≡ ((list_any test (deleted_of e) || list_any test (deleted_in es)) || any_of test (string_bytes key) more)) [
@@ -181,7 +174,7 @@ any_put test (e ∷ es) key cids more parts =
           ∙ first_of (any_of test (string_bytes key) (found key es)) (any_of test (string_bytes key) more) (list_any test (deleted_of e) || list_any test (deleted_in es))
           (within (any_of test (string_bytes key) (found key es)) (list_any test (deleted_of e)) (list_any test (deleted_in es)) (absorbed test es key))
       | Equal ↦ λ t p.
-          let same : string_bytes key ≡ string_bytes e.0 = bytes_tied (string_bytes key) (string_bytes e.0) t in
+          let same : string_bytes key ≡ string_bytes e.0 = exact_bytes (string_bytes key) (string_bytes e.0) t in
           list_any-append test (map (λ (c : Cid). (string_bytes e.0, c)) cids) (deleted_in es)
           ∙ ap (λ (k : List ℕ). any_of test k cids || list_any test (deleted_in es)) (sym same)
           ∙ ap (λ b. b || list_any test (deleted_in es)) p
@@ -210,11 +203,7 @@ any_taken test key (pair ∷ taken) = ap (λ b. test (key, pair.cid) || b) (any_
 -- where some are added, there are some
 not_none : (held : List Cid) (taken : List Pair) → taken ≢ [] → list_any (λ (c : Cid). true) (held ++ cids_of taken) ≡ true
 not_none held [] some = absurd (some refl)
-not_none held (pair ∷ taken) some = list_any-append (λ (c : Cid). true) held (cids_of (pair ∷ taken)) ∙ or_true (list_any (λ (c : Cid). true) held)
-  where
-    or_true : (b : Bool) → (b || true) ≡ true
-    or_true true = refl
-    or_true false = refl
+not_none held (pair ∷ taken) some = list_any-append (λ (c : Cid). true) held (cids_of (pair ∷ taken)) ∙ or-true (list_any (λ (c : Cid). true) held)
 
 added_some : (cids held : List Cid) (taken : List Pair) → SameMembers cids (held ++ cids_of taken) → taken ≢ [] → cids ≢ []
 added_some cids held taken same some e = absurd (let f : false ≡ true = ap (list_any (λ (c : Cid). true)) (sym e) ∙ same.same (λ (c : Cid). true) ∙ not_none held taken some in cc)

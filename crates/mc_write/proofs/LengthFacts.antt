@@ -2,8 +2,8 @@
 use Rattle.std.proofs.Common.{◌≡◌, ℕ, zero, suc, ◌+◌, ◌*◌, ◌/◌, ◌^◌, ◌<◌, ◌≤◌, true, false, not, ◌&&◌, ◌==◌, List, [], ◌∷◌, ◌++◌, length, map, refl, ap, sym, ◌∙◌, arith, length-append}
 use Rattle.std.proofs.lemmas.List.{length-map, append-nil}
 use Rattle.std.specs.Prelude.{nat_le, codes}
-use Rattle.std.proofs.Math.Dec.{ltb, leb}
-use Rattle.std.proofs.lemmas.Bool.{leb-true, ltb-true, ltb-false, eqb-true, ne_eqb}
+use Rattle.std.proofs.Math.Dec.{ltb}
+use Rattle.std.proofs.lemmas.Bool.{leb-true, ltb-true, ltb-false, eqb-true, ne_eqb, and_parts}
 use Rattle.std.specs.List.{flat_map, list_all, slice_index}
 use Rattle.mc_base.proofs.Digest.{digest_length}
 use Rattle.mc_base.specs.Base32.{byte_bits, fives, base32_of, alphabet32}
@@ -11,6 +11,7 @@ use Rattle.mc_base.specs.Node.{link_bytes}
 use Rattle.mc_base.specs.Wire.{varint_bytes, part_field_bytes}
 use Rattle.mc_base.specs.declared.base32.Case.TheVariants.{Upper}
 use Rattle.mc_base.specs.declared.cid.Cid.{Cid}
+use Rattle.mc_base.proofs.FiveBits.{bits_length}
 use Rattle.mc_wire.proofs.Writing.{varint_bytes-one, varint_bytes-more}
 use Rattle.mc_model.specs.declared.delta.Delta.{Delta}
 use Rattle.mc_model.specs.Cuts.{Pair, pair_tomb, tombs_delta, tombs_size}
@@ -23,7 +24,6 @@ use Rattle.mc_delta.proofs.LengthFacts.{tomb_bytes_len, priority_bytes_len}
 use Rattle.mc_key.specs.KeyRule.{is_key, begins, segments, is_empty, is_dots}
 use Rattle.mc_write.specs.Lengths.{links_length, field_length, block_length, tomb_length}
 use Rattle.mc_write.specs.Seen.{has_digest, have_digests}
-use Rattle.mc_write.proofs.Membership.{and_both}
 
 -- the length of an id
 
@@ -35,10 +35,6 @@ fives_length (a ∷ b ∷ []) = (omega arith, omega arith)
 fives_length (a ∷ b ∷ c ∷ []) = (omega arith, omega arith)
 fives_length (a ∷ b ∷ c ∷ d ∷ []) = (omega arith, omega arith)
 fives_length (a ∷ b ∷ c ∷ d ∷ e ∷ bits) = let more = fives_length bits in (omega (arith, more.0), omega (arith, more.1))
-
-bits_length : (bytes : List ℕ) → length (flat_map byte_bits bytes) ≡ 8 * length bytes
-bits_length [] = refl
-bits_length (byte ∷ bytes) = omega (arith, length-append (byte_bits byte) (flat_map byte_bits bytes), bits_length bytes)
 
 pub id_length : (digest : List ℕ) → length digest ≡ 32 → length (id_text digest) ≡ 56
 unfolding id_text
@@ -78,8 +74,8 @@ priority_most priority below = (elim (priority == 0) as (λ b. priority == 0 ≡
 pub key_length : (key : List ℕ) → is_key key ≡ true → (1 ≤ length key) × (length key ≤ 1024)
 key_length [] e = absurd (let f : false ≡ true = e in cc)
 key_length (byte ∷ key) e =
-    let parts = and_both (begins (byte ∷ key) && nat_le (length (byte ∷ key)) 1024) (list_all (λ segment. not (is_empty segment) && not (is_dots segment)) (segments (byte ∷ key))) e in
-    let within = and_both (begins (byte ∷ key)) (nat_le (length (byte ∷ key)) 1024) parts.0 in
+    let parts = and_parts (begins (byte ∷ key) && nat_le (length (byte ∷ key)) 1024) (list_all (λ segment. not (is_empty segment) && not (is_dots segment)) (segments (byte ∷ key))) e in
+    let within = and_parts (begins (byte ∷ key)) (nat_le (length (byte ∷ key)) 1024) parts.0 in
     (omega arith, leb-true (length (byte ∷ key)) 1024 within.1)
 
 -- the length of a tombstone
@@ -93,7 +89,7 @@ tomb_bytes_length key pair some digest =
 tombs_length : (key : List ℕ) (taken : List Pair) → 1 ≤ length key → have_digests taken ≡ true → length (flat_map tomb_bytes (map (pair_tomb key) taken)) ≡ length taken * tomb_length (length key)
 tombs_length key [] some digests = omega arith
 tombs_length key (pair ∷ taken) some digests =
-    let parts = and_both (has_digest pair.cid) (have_digests taken) digests in
+    let parts = and_parts (has_digest pair.cid) (have_digests taken) digests in
     omega (arith, length-append (tomb_bytes (pair_tomb key pair)) (flat_map tomb_bytes (map (pair_tomb key) taken)), tomb_bytes_length key pair some parts.0, tombs_length key taken some parts.1)
 
 -- the length of a block

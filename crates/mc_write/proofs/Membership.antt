@@ -2,6 +2,7 @@
 use Rattle.std.proofs.Common.{◌≡◌, Bool, true, false, cond, ◌||◌, ◌&&◌, not, List, [], ◌∷◌, ◌++◌, map, Option, Some, None, ◌⊎◌, inl, inr, sym, refl, ap, ◌∙◌, subst}
 use Rattle.std.specs.Prelude.{filter}
 use Rattle.std.specs.List.{list_any, list_all, flat_map, filter_map, cons_option}
+use Rattle.std.proofs.lemmas.Bool.{or_cases, or_right, or_left}
 use Rattle.mc_model.specs.SameMembers.{SameMembers}
 
 -- the item is one of the list
@@ -14,30 +15,6 @@ pub record Passing {X : Type 0} (test : X → Bool) (xs : List X) : Type 0 where
   pub item : X
   pub within : In item xs
   pub passes : test item ≡ true
-
-or_left : (a b : Bool) → a ≡ true → (a || b) ≡ true
-or_left true b e = refl
-or_left false b e = absurd (let f : false ≡ true = e in cc)
-
-or_right : (a b : Bool) → b ≡ true → (a || b) ≡ true
-or_right true b e = refl
-or_right false b e = e
-
-pub or_cases : (a b : Bool) → (a || b) ≡ true → (a ≡ true) ⊎ (b ≡ true)
-or_cases true b e = inl refl
-or_cases false b e = inr e
-
-pub and_both : (a b : Bool) → (a && b) ≡ true → (a ≡ true) × (b ≡ true)
-and_both true b e = (refl, e)
-and_both false b e = absurd (let f : false ≡ true = e in cc)
-
-pub both_and : (a b : Bool) → a ≡ true → b ≡ true → (a && b) ≡ true
-both_and true b e f = f
-both_and false b e f = absurd (let g : false ≡ true = e in cc)
-
-pub not_false : (b : Bool) → not b ≡ true → b ≡ false
-not_false true e = absurd (let f : false ≡ true = e in cc)
-not_false false e = refl
 
 pub any_from_in : {X : Type 0} (test : X → Bool) (x : X) (xs : List X) → In x xs → test x ≡ true → list_any test xs ≡ true
 any_from_in test x [] i e = absurd i
@@ -52,10 +29,6 @@ in_from_any test (x ∷ xs) e = elim (or_cases (test x) (list_any test xs) e) [
 ]
 
 -- two tests agree where each passes what the other does
-pub both_ways : (a b : Bool) → (a ≡ true → b ≡ true) → (b ≡ true → a ≡ true) → a ≡ b
-both_ways true b f g = sym (f refl)
-both_ways false true f g = g refl
-both_ways false false f g = refl
 
 -- lists with the same members have each other's, where equality can be tested
 pub in_same : {X : Type 0} (equal : X → X → Bool) → ((x : X) → equal x x ≡ true) → ((x y : X) → equal x y ≡ true → x ≡ y) → (xs ys : List X) → SameMembers xs ys → (x : X) → In x xs → In x ys

@@ -1,14 +1,15 @@
 -- Pairs in order.
-use Rattle.std.proofs.Common.{◌≡◌, ℕ, List, [], ◌∷◌, sym, refl, ◌∙◌, subst}
+use Rattle.std.proofs.Common.{◌≡◌, List, [], ◌∷◌, sym, ◌∙◌, subst}
 use Rattle.std.specs.List.{dedup, AllByRecursion}
 use Rattle.std.specs.List.Retain.{IsFiltered, DiffersFromLast}
 use Rattle.std.specs.List.Sorted.{IsSorted, IsPermutation, IsStrictlySortedBy}
 use Rattle.std.specs.Cmp.Lexicographic.{slice_cmp}
-use Rattle.std.specs.Ordering.{eq_by_cmp, nat_cmp, ordering_then}
-use Rattle.std.specs.declared.cmp.Ordering.{Ordering}
-use Rattle.std.specs.declared.cmp.Ordering.TheVariants.{Less, Equal, Greater}
-use Rattle.std.specs.FinMap.{nat_cmp-IsAntisymmetric, slice_cmp-IsAntisymmetric}
+use Rattle.std.specs.Ordering.{eq_by_cmp, nat_cmp}
+use Rattle.std.specs.declared.cmp.Ordering.TheVariants.{Less, Equal}
+use Rattle.std.specs.FinMap.{nat_cmp-IsAntisymmetric}
 use Rattle.std.proofs.lemmas.List.Filters.{dedup_is}
+use Rattle.std.proofs.lemmas.Map.Lookups.{exact_bytes}
+use Rattle.mc_base.proofs.Orders.{then_equal}
 use Rattle.mc_model.specs.Ascending.{Ascends}
 use Rattle.mc_model.specs.Cuts.{Pair, pair_cmp}
 use Rattle.mc_model.proofs.Members.{list_any-map}
@@ -17,21 +18,13 @@ use Rattle.mc_write.specs.PairOrder.{own_cmp, own_total}
 use Rattle.mc_write.specs.Seen.{seen, all_seen}
 use Rattle.mc_model.proofs.SortFacts.{sorted_once}
 
-then_equal : (a b : Ordering) → ordering_then a b ≡ Equal → (a ≡ Equal) × (b ≡ Equal)
-then_equal Less b e = absurd (cc)
-then_equal Equal b e = (refl, e)
-then_equal Greater b e = absurd (cc)
-
-bytes_tied : (v w : List ℕ) → slice_cmp nat_cmp v w ≡ Equal → v ≡ w
-bytes_tied v w e = slice_cmp-IsAntisymmetric nat_cmp-IsAntisymmetric v w e
-
 pub pair_tied : (x y : Pair) → pair_cmp x y ≡ Equal → x ≡ y
 pair_tied x y e =
     let last = then_equal _ (slice_cmp nat_cmp x.cid.0 y.cid.0) e in
     let first = then_equal (nat_cmp x.priority y.priority) (slice_cmp nat_cmp x.value y.value) last.0 in
     let priority : x.priority ≡ y.priority = nat_cmp-IsAntisymmetric x.priority y.priority first.0 in
-    let value : x.value ≡ y.value = bytes_tied x.value y.value first.1 in
-    let digest : x.cid.0 ≡ y.cid.0 = bytes_tied x.cid.0 y.cid.0 last.1 in
+    let value : x.value ≡ y.value = exact_bytes x.value y.value first.1 in
+    let digest : x.cid.0 ≡ y.cid.0 = exact_bytes x.cid.0 y.cid.0 last.1 in
     λ i. record { priority = priority i; value = value i; cid = record { 0 = digest i } }
 
 own_tied : (x y : Own) → own_cmp x y ≡ Equal → x ≡ y

@@ -7,11 +7,14 @@ use Rattle.std.specs.List.{list_any, dedup, filter_map}
 use Rattle.std.specs.Option.{option_map}
 use Rattle.std.specs.Str.{bytes_eq}
 use Rattle.std.specs.Cmp.Lexicographic.{slice_cmp}
-use Rattle.std.specs.Ordering.{eq_by_cmp, is_eq, is_gt, is_lt, nat_cmp, ordering_then, ordering_reverse}
+use Rattle.std.specs.Ordering.{eq_by_cmp, is_eq, is_gt, is_lt, nat_cmp, ordering_then}
 use Rattle.std.specs.declared.cmp.Ordering.{Ordering}
 use Rattle.std.specs.declared.cmp.Ordering.TheVariants.{Less, Equal, Greater}
 use Rattle.std.proofs.lemmas.Cmp.{nat_cmp_total, tied_itself}
+use Rattle.std.specs.Cmp.{Equal-is}
+use Rattle.std.proofs.lemmas.Bool.{not-true}
 use Rattle.mc_base.specs.declared.cid.Cid.{Cid}
+use Rattle.mc_base.proofs.Booleans.{same_truth}
 use Rattle.mc_model.specs.declared.block.Block.{Block}
 use Rattle.mc_model.specs.declared.block.Stored.{Stored}
 use Rattle.mc_model.specs.declared.delta.Element.{Element}
@@ -26,7 +29,7 @@ use Rattle.mc_model.specs.SameMembers.{SameMembers}
 use Rattle.mc_model.proofs.Ascending.{ascends_is}
 use Rattle.mc_model.proofs.Blocks.{block_in_cid}
 use Rattle.mc_model.proofs.Counts.{cid_is, cid_itself}
-use Rattle.mc_model.proofs.Greatest.{rank_tied, rank_total}
+use Rattle.mc_model.proofs.Greatest.{rank_tied, gt_lt}
 use Rattle.mc_keep.specs.declared.rows.ElementRow.{ElementRow}
 use Rattle.mc_keep.specs.ElementOrder.{element_cmp, element_total}
 use Rattle.mc_keep.specs.Tables.{element_row, element_rows, element_rows_of}
@@ -34,19 +37,11 @@ use Rattle.mc_keep.proofs.ElementTies.{element_tied}
 use Rattle.mc_write.specs.PairOrder.{pair_total}
 use Rattle.mc_write.specs.Rows.{same_block, last_rows, is_shown}
 use Rattle.mc_write.specs.Seen.{row_pair}
-use Rattle.mc_write.proofs.Membership.{In, any_from_in, in_from_any, both_ways, in_same, in_map, from_map, in_filter, from_filter, in_flat_map, from_flat_map, in_filter_map, from_filter_map, not_false}
+use Rattle.mc_write.proofs.Membership.{In, any_from_in, in_from_any, in_same, in_map, from_map, in_filter, from_filter, in_flat_map, from_flat_map, in_filter_map, from_filter_map}
 use Rattle.mc_write.proofs.PairFacts.{pair_tied}
 use Rattle.mc_write.proofs.RowOrder.{Descends, UpTo, reverse_cons, reverse_descends, in_dedup, last_of_block, has_last, value_up_to}
 
 -- the greatest of ranked values
-
-turn_gt : (o p : Ordering) → o ≡ ordering_reverse p → is_gt o ≡ is_lt p
-turn_gt o Less e = ap is_gt e
-turn_gt o Equal e = ap is_gt e
-turn_gt o Greater e = ap is_gt e
-
-gt_lt : (x y : Ranked) → is_gt (rank_cmp x y) ≡ is_lt (rank_cmp y x)
-gt_lt x y = turn_gt (rank_cmp x y) (rank_cmp y x) (rank_total.antisymm x y)
 
 neither : (x y : Ranked) → is_lt (rank_cmp x y) ≡ false → is_gt (rank_cmp x y) ≡ false → x ≡ y
 neither x y e f = rank_tied x y (only_equal (rank_cmp x y) e f)
@@ -108,12 +103,7 @@ itself_row : (row : ElementRow) → eq_by_cmp element_cmp row row ≡ true
 itself_row row = ap is_eq (tied_itself element_total row)
 
 tied_rows : (x y : ElementRow) → eq_by_cmp element_cmp x y ≡ true → x ≡ y
-tied_rows x y e = element_tied x y (is_equal (element_cmp x y) e)
-  where
-    is_equal : (o : Ordering) → is_eq o ≡ true → o ≡ Equal
-    is_equal Less e = absurd (let f : false ≡ true = e in cc)
-    is_equal Equal e = refl
-    is_equal Greater e = absurd (let f : false ≡ true = e in cc)
+tied_rows x y e = element_tied x y ((Equal-is (element_cmp x y)).0 e)
 
 rank_of_value : (p : ℕ) (v w : List ℕ) → is_gt (slice_cmp nat_cmp v w) ≡ false → is_gt (rank_cmp (p, v) (p, w)) ≡ false
 rank_of_value p v w e = ap (λ o. is_gt (ordering_then o (slice_cmp nat_cmp v w))) (tied_itself nat_cmp_total p) ∙ e
@@ -199,13 +189,10 @@ module _ (graph : List Stored) (order : List Cid) (key : List ℕ) (rows : List 
         let from = origin (blocks_in graph order) key row (back row (last_in (reverse rows) row i)) in
         let cid : row.cid ≡ from.block.cid = ap (λ (r : ElementRow). r.cid) from.is in
         let own : block_in graph row.cid ≡ from.block = ap (block_in graph) cid ∙ is_own graph order from.block from.within in
-        let same : (element : Element) → same_block row (element_row from.block element) ≡ true = λ element. subst (λ (c : Cid). same_cid c from.block.cid ≡ true) (sym cid) (own_same from.block.cid) in
+        let same : (element : Element) → same_block row (element_row from.block element) ≡ true = λ element. subst (λ (c : Cid). same_cid c from.block.cid ≡ true) (sym cid) (cid_itself from.block.cid) in
         ap (pair_in (blocks_in graph order) key) own ∙ pair_is (blocks_in graph order) key row from (λ element j e.
         let other = element_row from.block element in
         value_up_to other row (last_tops (reverse rows) descends row other i (forth other (has_row (blocks_in graph order) key from.block element from.within j e)) (same element)) (same element))
-      where
-        own_same : (c : Cid) → same_cid c c ≡ true
-        own_same c = cid_itself c
 
     kept_within : (row : ElementRow) → In row (last_rows rows) → In (block_in graph row.cid) (blocks_in graph order)
     kept_within row i =
@@ -221,7 +208,7 @@ module _ (graph : List Stored) (order : List Cid) (key : List ℕ) (rows : List 
         let found = in_from_any test (map row_pair (filter shown (last_rows rows))) e in
         let made = from_map row_pair found.item (filter shown (last_rows rows)) found.within in
         let kept = from_filter shown made.item (last_rows rows) made.within in
-        let free : has_tomb (blocks_in graph order) key (id_text made.item.cid.0) ≡ false = not_false (has_tomb (blocks_in graph order) key (id_text made.item.cid.0)) kept.1 in
+        let free : has_tomb (blocks_in graph order) key (id_text made.item.cid.0) ≡ false = not-true (has_tomb (blocks_in graph order) key (id_text made.item.cid.0)) kept.1 in
         let gives : pair_in (blocks_in graph order) key (block_in graph made.item.cid) ≡ Some found.item =
         kept_pair made.item kept.0 ∙ ap (λ (t : Bool). cond t None (Some (row_pair made.item))) free ∙ ap (λ (z : Pair). Some z) (sym made.is) in
         any_from_in test found.item (filter_map (pair_in (blocks_in graph order) key) (blocks_in graph order))
@@ -251,7 +238,7 @@ module _ (graph : List Stored) (order : List Cid) (key : List ℕ) (rows : List 
         some_same x y e = cc
 
     taken_members : SameMembers (map row_pair (filter (is_shown (blocks_in graph order) key) (last_rows rows))) (filter_map (pair_in (blocks_in graph order) key) (blocks_in graph order))
-    taken_members = record { same = λ test. both_ways _ _ (to_pairs test) (from_pairs test) }
+    taken_members = record { same = λ test. same_truth _ _ (to_pairs test) (from_pairs test) }
 
 swapped : (a b : Bool) → (a || (b || false)) ≡ (b || a)
 swapped true true = refl

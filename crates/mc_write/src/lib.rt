@@ -19,6 +19,4 @@ pub use error::WriteError;
 pub use put::put_delta;
 
 #[cfg(test)]
-mod fake;
-#[cfg(test)]
 mod tests;

@@ -1,6 +1,6 @@
 use Rattle.std.proofs.Common.{sym}
 use Rattle.std.proofs.lemmas.Str.{is_utf8-from_IsUtf8}
-use Rattle.mc_dagpb.proofs.Utf8.{no_text}
+use Rattle.mc_wire.proofs.Utf8.{no_text}
 use Rattle.mc_dagpb.proofs.link.is_text.Goals as goal
 
 pub returns-in-Ok : goal.returns-in-Ok

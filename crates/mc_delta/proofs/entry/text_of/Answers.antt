@@ -1,6 +1,6 @@
 use Rattle.std.proofs.Common.{refl}
 use Rattle.std.proofs.lemmas.Str.{is_utf8-from_IsUtf8}
-use Rattle.mc_delta.proofs.Utf8.{no_text}
+use Rattle.mc_wire.proofs.Utf8.{no_text}
 use Rattle.mc_delta.proofs.entry.text_of.Goals as goal
 
 pub returns-in-Ok-clause-text : goal.returns-in-Ok-clause-text

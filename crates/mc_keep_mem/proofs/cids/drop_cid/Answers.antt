@@ -1,6 +1,7 @@
 use Rattle.std.proofs.Common.{◌∙◌, ap, not, ◌&&◌}
 use Rattle.mc_model.specs.Front.{same_cid, is_among}
-use Rattle.mc_keep_mem.proofs.CidFacts.{same_cid-symm, cond_and}
+use Rattle.mc_model.proofs.Counts.{same_cid-symm}
+use Rattle.mc_keep_mem.proofs.CidFacts.{cond_and}
 use Rattle.mc_keep_mem.proofs.cids.drop_cid.Goals as goal
 
 pub returns-clause-among : goal.returns-clause-among

@@ -1,6 +1,7 @@
 use Rattle.std.proofs.Common.{◌∙◌, ap, ◌||◌}
+use Rattle.mc_base.proofs.Booleans.{cond_or}
 use Rattle.mc_model.specs.Front.{same_cid, is_among}
-use Rattle.mc_keep_mem.proofs.CidFacts.{same_cid-symm, cond_or}
+use Rattle.mc_model.proofs.Counts.{same_cid-symm}
 use Rattle.mc_keep_mem.proofs.OnOk.{on_ok}
 use Rattle.mc_keep_mem.proofs.cids.put_cid.Goals as goal
 

@@ -1,50 +1,32 @@
-use Rattle.std.proofs.Common.{◌≡◌, ◌<◌, ◌∙◌, ap, sym, ◌++◌, ◌∷◌, [], map, length, append_assoc, subst, true, List, Option, Some, ℕ}
-use Rattle.std.specs.Prelude.{slice_get}
-use Rattle.mc_keep_mem.specs.declared.elements.Node.{Node}
+use Rattle.std.proofs.Common.{◌∙◌, ap, sym, ◌++◌, ◌∷◌, [], append_assoc, List}
 use Rattle.std.proofs.lemmas.List.{append-nil}
-use Rattle.std.specs.HashMap.{get_by_text}
 use Rattle.mc_keep.specs.declared.rows.ElementRow.{ElementRow}
-use Rattle.mc_keep_mem.specs.Chains.{chain, row_of_node, is_before}
-use Rattle.mc_keep_mem.proofs.ChainFacts.{steps_left, chain_step, chain_done, got_at, is_none}
+use Rattle.mc_keep_mem.specs.Chains.{row_of_node}
+use Rattle.mc_keep_mem.proofs.WalkFacts.{rows_from, walk_begins, walk_steps, walk_ends}
 use Rattle.mc_keep_mem.proofs.elements.walk.Goals as goal
 
 pub loop-at-init : goal.loop-at-init
 loop-at-init g c =
-    let at : c.copied-at.result ≡ get_by_text c.args.elements.now.lasts c.args.key.now = c.copied-at.ensures ∙ c.get.ensures.value in
+    let begun = walk_begins (λ (rest : List ElementRow). rest) c.args.elements.now.chains (c.copied-at.ensures ∙ c.get.ensures.value) in
     record {
-      rows = ap (λ (z : Option ℕ). map (row_of_node c.args.key.now) (chain c.args.elements.now.nodes.items (length c.args.elements.now.nodes.items) z)) (sym at)
-          ∙ ap (λ (z : List ElementRow). z ++ map (row_of_node c.args.key.now) (chain c.args.elements.now.nodes.items (length c.args.elements.now.nodes.items) c.copied-at.result)) (sym c.new-rows.ensures.items);
-      there = ap (is_before (length c.args.elements.now.nodes.items)) at ∙ c.args.elements.now.chains.there c.args.key.now;
+      rows = begun.rows ∙ ap (λ (z : List ElementRow). z ++ rows_from c.args.elements.now.nodes.items c.args.key.now c.copied-at.result) (sym c.new-rows.ensures.items);
+      there = begun.there;
     }
 
 pub loop-at-smaller : goal.loop-at-smaller
-loop-at-smaller g c =
-    let items : c.deref.result.now ≡ c.args.elements.now.nodes.items = c.deref.ensures.value in
-    let got = subst (λ (z : List Node). slice_get z c.in-Some.place ≡ Some c.in-Some-get.node.now) items (got_at c.deref.result.now c.in-Some.place c.in-Some-get.node.now c.in-Some-get.ensures.lookup.0 c.in-Some-get.ensures.lookup.1) in
-    let there = subst (λ (z : Option ℕ). is_before (length c.args.elements.now.nodes.items) z ≡ true) c.in-Some.is c.loop-at.invariant.there in
-    subst (λ (z : Option ℕ). steps_left c.in-Some-get.node.now.before < steps_left z) (sym c.in-Some.is) ((chain_step c.args.elements.now.nodes.items c.args.elements.now.chains.back (length c.args.elements.now.nodes.items) c.in-Some.place c.in-Some-get.node.now there got).2)
+loop-at-smaller g c = (walk_steps c.args.elements.now.chains.back c.loop-at.invariant c.in-Some.is c.deref.ensures.value c.in-Some-get.ensures.lookup.0 c.in-Some-get.ensures.lookup.1).fewer
 
 pub loop-at-preserved : goal.loop-at-preserved
 loop-at-preserved g c =
-    let items : c.deref.result.now ≡ c.args.elements.now.nodes.items = c.deref.ensures.value in
-    let got = subst (λ (z : List Node). slice_get z c.in-Some.place ≡ Some c.in-Some-get.node.now) items (got_at c.deref.result.now c.in-Some.place c.in-Some-get.node.now c.in-Some-get.ensures.lookup.0 c.in-Some-get.ensures.lookup.1) in
-    let there = subst (λ (z : Option ℕ). is_before (length c.args.elements.now.nodes.items) z ≡ true) c.in-Some.is c.loop-at.invariant.there in
-    let step = chain_step c.args.elements.now.nodes.items c.args.elements.now.chains.back (length c.args.elements.now.nodes.items) c.in-Some.place c.in-Some-get.node.now there got in
-    let rest = map (row_of_node c.args.key.now) (chain c.args.elements.now.nodes.items (length c.args.elements.now.nodes.items) c.in-Some-get.node.now.before) in
+    let step = walk_steps c.args.elements.now.chains.back c.loop-at.invariant c.in-Some.is c.deref.ensures.value c.in-Some-get.ensures.lookup.0 c.in-Some-get.ensures.lookup.1 in
+    let rest = rows_from c.args.elements.now.nodes.items c.args.key.now c.in-Some-get.node.now.before in
     record {
-      rows = c.loop-at.invariant.rows
-          ∙ ap (λ (z : Option ℕ). c.loop-at.rows.items ++ map (row_of_node c.args.key.now) (chain c.args.elements.now.nodes.items (length c.args.elements.now.nodes.items) z)) c.in-Some.is
-          ∙ ap (λ z. c.loop-at.rows.items ++ map (row_of_node c.args.key.now) z) step.0
+      rows = step.rows
           ∙ sym (append_assoc c.loop-at.rows.items (row_of_node c.args.key.now c.in-Some-get.node.now ∷ []) rest)
           ∙ ap (λ (z : ElementRow). (c.loop-at.rows.items ++ z ∷ []) ++ rest) (sym c.in_ok-row_of.ensures)
           ∙ ap (λ (z : List ElementRow). z ++ rest) (sym c.in_ok-push.ensures.items);
-      there = step.1;
+      there = step.there;
     }
 
 pub returns : goal.returns
-returns g c =
-    let at = is_none c.loop-at.at c.in_default.not-Some in
-    sym (c.loop-at.invariant.rows
-    ∙ ap (λ (z : Option ℕ). c.loop-at.rows.items ++ map (row_of_node c.args.key.now) (chain c.args.elements.now.nodes.items (length c.args.elements.now.nodes.items) z)) at
-    ∙ ap (λ z. c.loop-at.rows.items ++ map (row_of_node c.args.key.now) z) (chain_done c.args.elements.now.nodes.items (length c.args.elements.now.nodes.items))
-    ∙ append-nil c.loop-at.rows.items)
+returns g c = sym (walk_ends c.loop-at.invariant c.in_default.not-Some ∙ append-nil c.loop-at.rows.items)

@@ -2,7 +2,7 @@ use Rattle.std.proofs.Common.{◌∙◌, ap, cond}
 use Rattle.std.specs.Prelude.{Some}
 use Rattle.indexmap.specs.IndexMap.{get}
 use Rattle.mc_model.specs.Front.{same_cid}
-use Rattle.mc_keep_mem.proofs.CidFacts.{same_cid-symm}
+use Rattle.mc_model.proofs.Counts.{same_cid-symm}
 use Rattle.mc_keep_mem.proofs.OnOk.{on_ok}
 use Rattle.mc_keep_mem.proofs.heads.put_head.Goals as goal
 

@@ -1,17 +1,15 @@
-use Rattle.std.proofs.Common.{◌≡◌, map, length, true}
-use Rattle.mc_keep_mem.specs.Chains.{chain, row_of_node, rows_in, is_before}
-use Rattle.mc_keep_mem.specs.Holder.{holder_among}
+use Rattle.mc_keep_mem.specs.Chains.{rows_in}
+use Rattle.mc_keep_mem.specs.Holder.{is_held}
 use Rattle.mc_keep_mem.specs.Tombs.{has_tomb_in}
 use Rattle.mc_keep_mem.proofs.ChainFacts.{steps_left}
+use Rattle.mc_keep_mem.proofs.WalkFacts.{IsWalking, first_that}
 use Rattle.mc_keep_mem.proofs.holder.holder_of.Given as goal
 
 -- no row of those before holds the value
 abbrev pub invariant-loop-at : goal.invariant-loop-at
-invariant-loop-at g l = record {
-  rows : holder_among (has_tomb_in l.tombs.keys.keys l.tombs.ids.keys l.tombs.pairs.keys l.key) (l.held.priority, l.held.value) (rows_in l.elements.nodes.items l.elements.lasts l.key)
-      ≡ holder_among (has_tomb_in l.tombs.keys.keys l.tombs.ids.keys l.tombs.pairs.keys l.key) (l.held.priority, l.held.value) (map (row_of_node l.key) (chain l.elements.nodes.items (length l.elements.nodes.items) l.at));
-  there : is_before (length l.elements.nodes.items) l.at ≡ true;
-}
+invariant-loop-at g l =
+    let test = is_held (has_tomb_in l.tombs.keys.keys l.tombs.ids.keys l.tombs.pairs.keys l.key) (l.held.priority, l.held.value) in
+    IsWalking l.elements.nodes.items l.key (first_that test (rows_in l.elements.nodes.items l.elements.lasts l.key)) (first_that test) l.at
 
 abbrev pub decreases-loop-at : goal.decreases-loop-at
 decreases-loop-at g l = steps_left l.at

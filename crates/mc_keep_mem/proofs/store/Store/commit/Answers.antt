@@ -1,10 +1,14 @@
+use Rattle.mc_keep_mem.specs.Fits.{kept_in}
 use Rattle.mc_keep_mem.proofs.FitAfter.{fits_after}
 use Rattle.mc_keep_mem.proofs.store.Store.commit.Goals as goal
 
 -- src/store.rt:40:9
 pub invariant_of-self : goal.invariant_of-self
 invariant_of-self g c =
+    let kept = kept_in c.args.self.now.tables in
     record {
-      fits = fits_after c.args.self.now.tables c.commit_tables-self.new.tables c.args.changes c.args.self.now.fits c.commit_tables-self.ensures.applied c.requires.fit;
+      fits = fits_after c.args.self.now.tables c.commit_tables-self.new.tables c.args.changes c.args.self.now.fits c.commit_tables-self.ensures.applied c.requires.fit
+          (c.commits_are_events.ensures.sound kept c.args.changes c.args.self.now.fits.kept c.requires.fit.store c.requires.fit.marks)
+          (c.changes_fit.ensures.processed kept c.args.changes c.args.self.now.fits.kept);
       roomy = c.commit_tables-self.ensures.room;
     }

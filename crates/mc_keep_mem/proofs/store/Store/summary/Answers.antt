@@ -2,7 +2,6 @@ use Rattle.std.proofs.Common.{◌∙◌, ap, refl, sym, length, ℕ, List}
 use Rattle.std.proofs.lemmas.List.{length-map}
 use Rattle.mc_base.specs.declared.cid.Cid.{Cid}
 use Rattle.mc_model.specs.Kept.{processed}
-use Rattle.mc_model.proofs.GapCount.{gap_count}
 use Rattle.mc_keep_mem.specs.Graph.{stored_of}
 use Rattle.mc_keep_mem.specs.Fits.{kept_in}
 use Rattle.mc_keep_mem.proofs.store.Store.summary.Goals as goal
@@ -11,6 +10,6 @@ pub returns-clause-summary : goal.returns-clause-summary
 returns-clause-summary g c = (
   ap length c.as_slice.ensures.keys,
   ap length (c.as_slice-2.ensures ∙ c.keys.ensures.rest) ∙ length-map c.args.self.now.tables.blocks.entries (λ (entry : Cid × List ℕ). entry.0) ∙ sym (length-map c.args.self.now.tables.blocks.entries stored_of),
-  ap length c.as_slice-3.ensures.keys ∙ gap_count c.args.self.now.tables.gaps.keys (processed (kept_in c.args.self.now.tables)) c.as_slice-3.ensures.unique c.args.self.now.fits.gaps,
+  ap length c.as_slice-3.ensures.keys ∙ c.gaps_are_counted.ensures c.args.self.now.tables.gaps.keys (processed (kept_in c.args.self.now.tables)) c.as_slice-3.ensures.unique c.args.self.now.fits.gaps,
   refl,
 )

@@ -1,0 +1,453 @@
+// Commits of groups of blocks into a keeper in memory.
+ghost use Rattle.std.specs.Prelude.{◌≡◌, ◌++◌, ◌∷◌, true, false, Ok, List, [], IfSome, IfOk, OnOk};
+ghost use Rattle.mc_model.specs.Offer.{offer};
+ghost use Rattle.std.specs.List.{list_all, list_any};
+ghost use Rattle.mc_model.specs.Ascending.{is_once};
+ghost use Rattle.mc_model.specs.Front.{same_cid, is_among};
+ghost use Rattle.mc_model.specs.Kept.{Kept, blocks_in, is_stored};
+ghost use Rattle.mc_keep.specs.Causes.{IfTold};
+
+use crate::given::{empty, is_sound, process_changes, store_of};
+use mc_base::{Bytes, Cid, Counted, List, Text};
+use mc_block::{read_block, write_block};
+use mc_keep::{HeadRow, KeepError, Keeper, changes_fit, commits_are_events};
+use mc_keep_mem::{FaultPlan, MemKeeper};
+use mc_model::{Block, Delta, Element, Tomb, id_of, kept_changes_are_events, kept_is_durable};
+use std::alloc::{AllocError, Global};
+use std::sync::Wait;
+use std::test::Fail;
+
+// Stores the bytes, which are a block, unless they are stored.
+fn store_bytes<K: Keeper>(keeper: &mut K, alloc: Global, bytes: Bytes) -> Result<Cid, KeepError> {
+    changes_fit();
+    let cid = Cid::of(bytes.as_slice());
+    read(alloc, &cid, &bytes)?;
+    if keeper.stored(&cid)? {
+        return Ok(cid);
+    }
+    let store = store_of(alloc, cid, bytes)?;
+    keeper.reserve(1)?;
+    keeper.commit(store)?;
+    Ok(cid)
+}
+
+fn read(alloc: Global, cid: &Cid, bytes: &Bytes) -> Result<Block, KeepError>
+    ensures { IfOk result (λ block. offer cid.now bytes.now ≡ Ok block) }
+{
+    match read_block(alloc, cid, bytes.as_slice()) {
+        Ok(block) => Ok(block),
+        Err(_) => Err(KeepError::Memory),
+    }
+}
+
+// The stored blocks with these identifiers.
+fn read_group<K: Keeper>(
+    keeper: &mut K,
+    alloc: Global,
+    cids: &[Cid],
+) -> Result<List<Block>, KeepError>
+    ensures blocks { IfTold (K.told keeper.old) result (λ kept blocks. blocks ≡ blocks_in kept.graph cids.now) }
+    ensures stored { OnOk result (IfSome (K.told keeper.old) (λ kept. list_all (is_stored kept.graph) cids.now ≡ true)) }
+    ensures told { K.told keeper.new ≡ K.told keeper.old }
+{
+    let mut blocks = List::new(alloc);
+    for cid in cids {
+        let block = read_stored(keeper, alloc, cid)?;
+        add(&mut blocks, block)?;
+    }
+    Ok(blocks)
+}
+
+fn add<T: Drop>(list: &mut List<T>, item: T) -> Result<(), AllocError>
+    ensures { OnOk result (list.new ≡ list.old ++ item ∷ []) }
+{
+    match list.push(item) {
+        Ok(()) => Ok(()),
+        Err(_) => Err(AllocError),
+    }
+}
+
+fn read_stored<K: Keeper>(keeper: &mut K, alloc: Global, cid: &Cid) -> Result<Block, KeepError>
+    ensures block { IfTold (K.told keeper.old) result (λ kept block. block ≡ Rattle.mc_model.specs.Kept.block_in kept.graph cid.now) }
+    ensures stored { OnOk result (IfSome (K.told keeper.old) (λ kept. is_stored kept.graph cid.now ≡ true)) }
+    ensures told { K.told keeper.new ≡ K.told keeper.old }
+{
+    match keeper.block(alloc, cid)? {
+        Some(bytes) => read(alloc, cid, &bytes),
+        None => Err(KeepError::Memory),
+    }
+}
+
+// Whether none of the blocks is processed.
+fn none_processed<K: Keeper>(keeper: &mut K, cids: &[Cid]) -> Result<bool, KeepError>
+    ensures none { IfTold (K.told keeper.old) result (λ kept none. none ≡ true → list_any (is_among kept.order) cids.now ≡ false) }
+    ensures told { K.told keeper.new ≡ K.told keeper.old }
+{
+    for cid in cids {
+        if is_processed(keeper, cid)? {
+            return Ok(false);
+        }
+    }
+    Ok(true)
+}
+
+fn is_processed<K: Keeper>(keeper: &mut K, cid: &Cid) -> Result<bool, KeepError>
+    ensures found { IfTold (K.told keeper.old) result (λ kept found. found ≡ is_among kept.order cid.now) }
+    ensures told { K.told keeper.new ≡ K.told keeper.old }
+{
+    Ok(keeper.position(cid)?.is_some())
+}
+
+// Whether no identifier stands twice, by comparing each with each.
+fn are_once(cids: &[Cid]) -> bool
+    ensures { result ≡ is_once same_cid cids.now }
+{
+    match cids {
+        [] => true,
+        [first, rest @ ..] => !has_cid(rest, first) && are_once(rest),
+    }
+}
+
+fn has_cid(cids: &[Cid], cid: &Cid) -> bool
+    ensures { result ≡ is_among cids.now cid.now }
+{
+    for other in cids {
+        if *cid == *other {
+            return true;
+        }
+    }
+    false
+}
+
+// Processes these stored blocks in one commit, and answers the number of gaps.
+fn process<K: Keeper>(
+    keeper: &mut K,
+    alloc: Global,
+    cids: &[Cid],
+    whole: bool,
+) -> Result<u64, KeepError> {
+    changes_fit();
+    commits_are_events();
+    kept_is_durable();
+    kept_changes_are_events();
+    is_sound(keeper);
+    let blocks = read_group(keeper, alloc, cids)?;
+    if !are_once(cids) {
+        return Err(KeepError::Memory);
+    }
+    if !none_processed(keeper, cids)? {
+        return Err(KeepError::Memory);
+    }
+    let changes = process_changes(keeper, alloc, blocks.as_slice(), whole)?;
+    let rows = changes.rows();
+    if rows == u64::MAX {
+        return Err(KeepError::Memory);
+    }
+    keeper.reserve(rows)?;
+    keeper.commit(changes)?;
+    Ok(keeper.summary()?.gaps)
+}
+
+// The bytes of a block of priority 1 that sets a key to one byte.
+fn element(alloc: Global, value: u8) -> Result<Bytes, AllocError> {
+    let mut delta = no_delta(alloc, 1);
+    delta.elements.push(Element {
+        key: Text::from_text(alloc, "/k")?,
+        value: Bytes::from_slice(alloc, &[value])?,
+    })?;
+    Ok(write_block(alloc, &[], &delta)?.bytes)
+}
+
+// Those of a block of priority 2 that hides the key in a block.
+fn tombstone(alloc: Global, cid: &Cid) -> Result<Bytes, AllocError> {
+    let mut delta = no_delta(alloc, 2);
+    delta.tombstones.push(Tomb {
+        key: Text::from_text(alloc, "/k")?,
+        id: id_of(alloc, cid)?,
+    })?;
+    Ok(write_block(alloc, &[], &delta)?.bytes)
+}
+
+// Those of a block that links to another one.
+fn link(alloc: Global, cid: Cid, priority: u64) -> Result<Bytes, AllocError> {
+    let delta = no_delta(alloc, priority);
+    Ok(write_block(alloc, &[cid], &delta)?.bytes)
+}
+
+fn no_delta(alloc: Global, priority: u64) -> Delta {
+    Delta {
+        elements: List::new(alloc),
+        tombstones: List::new(alloc),
+        priority,
+    }
+}
+
+// Stores a block and processes it, each in one commit.
+fn take_up<K: Keeper>(keeper: &mut K, alloc: Global, bytes: Bytes) -> Result<Cid, KeepError> {
+    let cid = store_bytes(keeper, alloc, bytes)?;
+    process(keeper, alloc, &[cid], true)?;
+    Ok(cid)
+}
+
+fn has_value<K: Keeper>(
+    keeper: &mut K,
+    alloc: Global,
+    priority: u64,
+    value: u8,
+) -> Result<bool, KeepError> {
+    match keeper.value(alloc, "/k")? {
+        Some(row) => Ok(row.priority == priority && row.value.as_slice() == [value].as_slice()),
+        None => Ok(false),
+    }
+}
+
+// The three blocks of which the last hides the second, taken up in this order or with the last first.
+fn hides_later<K: Keeper + Drop>(keeper: K, alloc: Global) -> Result<bool, KeepError> {
+    let mut keeper = keeper;
+    let kept = take_up(&mut keeper, alloc, element(alloc, 1)?)?;
+    let hidden = take_up(&mut keeper, alloc, element(alloc, 2)?)?;
+    let before = has_value(&mut keeper, alloc, 1, 2)?;
+    let hiding = take_up(&mut keeper, alloc, tombstone(alloc, &hidden)?)?;
+    Ok(
+        before
+            && has_value(&mut keeper, alloc, 1, 1)?
+            && has_blocks(&mut keeper, alloc, &[kept, hidden, hiding])?
+            && has_rows(&mut keeper, alloc, &kept, &hidden)?
+            && has_keys(&mut keeper, alloc)?,
+    )
+}
+
+fn hides_before<K: Keeper + Drop>(keeper: K, alloc: Global) -> Result<bool, KeepError> {
+    let mut keeper = keeper;
+    let hidden = Cid::of(element(alloc, 2)?.as_slice());
+    take_up(&mut keeper, alloc, tombstone(alloc, &hidden)?)?;
+    take_up(&mut keeper, alloc, element(alloc, 2)?)?;
+    take_up(&mut keeper, alloc, element(alloc, 1)?)?;
+    has_value(&mut keeper, alloc, 1, 1)
+}
+
+// Whether these are the processed blocks in their order, and the stored ones.
+fn has_blocks<K: Keeper>(keeper: &mut K, alloc: Global, cids: &[Cid]) -> Result<bool, KeepError> {
+    for (place, cid) in cids.iter().enumerate() {
+        if !has_block(keeper, alloc, cid, place as u64)? {
+            return Ok(false);
+        }
+    }
+    let count = cids.len() as u64;
+    let summary = keeper.summary()?;
+    Ok(keeper.at(count)?.is_none() && summary.stored == count && summary.processed == count)
+}
+
+fn has_block<K: Keeper>(
+    keeper: &mut K,
+    alloc: Global,
+    cid: &Cid,
+    place: u64,
+) -> Result<bool, KeepError> {
+    let Some(bytes) = keeper.block(alloc, cid)? else {
+        return Ok(false);
+    };
+    Ok(
+        Cid::of(bytes.as_slice()) == *cid
+            && keeper.stored(cid)?
+            && keeper.position(cid)? == Some(place)
+            && keeper.at(place)? == Some(*cid),
+    )
+}
+
+// Whether both blocks have an element row of the key, and just the second a tombstone.
+fn has_rows<K: Keeper>(
+    keeper: &mut K,
+    alloc: Global,
+    kept: &Cid,
+    hidden: &Cid,
+) -> Result<bool, KeepError> {
+    let rows = keeper.elements(alloc, "/k")?;
+    let none = keeper.elements(alloc, "/")?;
+    Ok(
+        rows.len() == 2
+            && none.len() == 0
+            && keeper.hidden("/k", id_of(alloc, hidden)?.as_str())?
+            && !keeper.hidden("/k", id_of(alloc, kept)?.as_str())?
+            && !keeper.hidden("/", id_of(alloc, hidden)?.as_str())?
+            && keeper.holder(alloc, "/k")? == Some(*kept)
+            && keeper.holder(alloc, "/")?.is_none(),
+    )
+}
+
+// Whether the one key with a value is that of the examples.
+fn has_keys<K: Keeper>(keeper: &mut K, alloc: Global) -> Result<bool, KeepError> {
+    let first = match keeper.value_from(alloc, "/", true)? {
+        Some(row) => row.key.as_str() == "/k",
+        None => false,
+    };
+    Ok(
+        first
+            && keeper.value_from(alloc, "/k", true)?.is_some()
+            && keeper.value_from(alloc, "/k", false)?.is_none()
+            && keeper.has("/k")?
+            && !keeper.has("/")?,
+    )
+}
+
+fn has_front<K: Keeper>(keeper: &mut K, gaps: u64, mark: bool) -> Result<bool, KeepError> {
+    let summary = keeper.summary()?;
+    Ok(summary.gaps == gaps && summary.mark == mark)
+}
+
+fn has_head<K: Keeper>(
+    keeper: &mut K,
+    alloc: Global,
+    cid: Cid,
+    height: u64,
+) -> Result<bool, KeepError> {
+    let heads = keeper.heads(alloc)?;
+    Ok(heads.as_slice() == [HeadRow { cid, height }].as_slice())
+}
+
+// The bytes of a node of one link, to the block of no bytes, without data.
+fn link_alone(alloc: Global) -> Result<Bytes, AllocError> {
+    let mut bytes = Bytes::from_slice(alloc, &[0x12, 0x2a, 0x0a, 0x24])?;
+    bytes.extend_from_slice(&Cid::of(&[]).bytes())?;
+    bytes.extend_from_slice(&[0x12, 0x00, 0x18, 0x00])?;
+    Ok(bytes)
+}
+
+// Whether another thread's desk reads the block, and finds no other.
+fn has_peer_block<W: Wait, K: Keeper>(
+    rt: &W,
+    keeper: &mut K,
+    alloc: Global,
+    cid: &Cid,
+) -> Result<bool, KeepError>
+where
+    K::Desk: Drop,
+{
+    let mut desk = keeper.desk(alloc)?;
+    let Some(bytes) = keeper.peer_block(alloc, &mut desk, cid, rt)? else {
+        return Ok(false);
+    };
+    let none = keeper.peer_block(alloc, &mut desk, &Cid([0; 32]), rt)?;
+    Ok(Cid::of(bytes.as_slice()) == *cid && none.is_none() && desk.faults() == 0)
+}
+
+// A link to a block that comes later.
+fn closes_a_gap<W: Wait, K: Keeper + Drop>(
+    rt: &W,
+    keeper: K,
+    alloc: Global,
+) -> Result<bool, KeepError>
+where
+    K::Desk: Drop,
+{
+    let mut keeper = keeper;
+    let empty = Cid::of(&[]);
+    let first = take_up(&mut keeper, alloc, link_alone(alloc)?)?;
+    let open = has_front(&mut keeper, 1, true)? && keeper.linked(&empty)?;
+    take_up(&mut keeper, alloc, Bytes::new(alloc))?;
+    Ok(
+        open && has_front(&mut keeper, 0, false)?
+            && has_head(&mut keeper, alloc, first, 0)?
+            && !keeper.linked(&first)?
+            && has_peer_block(rt, &mut keeper, alloc, &first)?,
+    )
+}
+
+// A chain of stored blocks, each linking to the one before, from the last to the first.
+fn chain<K: Keeper>(keeper: &mut K, alloc: Global, length: u64) -> Result<List<Cid>, KeepError> {
+    let mut cids = List::new(alloc);
+    let mut last = store_bytes(keeper, alloc, element(alloc, 0)?)?;
+    add(&mut cids, last)?;
+    for number in 1..length {
+        last = store_bytes(keeper, alloc, link(alloc, last, number)?)?;
+        add(&mut cids, last)?;
+    }
+    let mut cids = cids.into_vec();
+    cids.reverse();
+    Ok(List::from_vec(cids))
+}
+
+// Processes a chain backwards in groups. Before the last group its last block is the one head, and the one gap is the
+// block that comes next.
+fn closes_a_chain<K: Keeper + Drop>(
+    keeper: K,
+    alloc: Global,
+    group: usize,
+) -> Result<bool, KeepError> {
+    let mut keeper = keeper;
+    if group == 0 {
+        return Ok(false);
+    }
+    let cids = chain(&mut keeper, alloc, 100)?;
+    let cids = cids.as_slice();
+    let mut done: usize = 0;
+    for part in cids.chunks(group) {
+        done = done.saturating_add(part.len());
+        let gaps = process(&mut keeper, alloc, part, true)?;
+        let open = done < cids.len();
+        if gaps != u64::from(open)
+            || !has_front(&mut keeper, gaps, open)?
+            || !has_head(&mut keeper, alloc, cids[0], 99)?
+        {
+            return Ok(false);
+        }
+    }
+    Ok(done == 100 && keeper.summary()?.processed == 100)
+}
+
+// The first commit fails before its effect, and the third after it, and none other.
+fn fails_as_planned<K: Keeper + Drop>(keeper: K, alloc: Global) -> Result<bool, KeepError> {
+    let mut keeper = keeper;
+    let cid = Cid::of(element(alloc, 1)?.as_slice());
+    let first = store_bytes(&mut keeper, alloc, element(alloc, 1)?).is_err();
+    let not_stored = !keeper.stored(&cid)? && keeper.faults() == 1;
+    store_bytes(&mut keeper, alloc, element(alloc, 1)?)?;
+    let third = process(&mut keeper, alloc, &[cid], true).is_err();
+    let processed = keeper.position(&cid)? == Some(0) && keeper.faults() == 2;
+    take_up(&mut keeper, alloc, element(alloc, 2)?)?;
+    Ok(first && not_stored && third && processed && keeper.faults() == 2)
+}
+
+fn failing(alloc: Global) -> Result<MemKeeper, AllocError> {
+    let mut plan = FaultPlan::nothing(alloc);
+    plan.commits_before.push(1)?;
+    plan.commits_after.push(3)?;
+    MemKeeper::new(alloc, plan)
+}
+
+#[test]
+fn a_tombstone_hides_its_block_alone(rt: HostRuntime) -> Result<(), Fail> {
+    let alloc = rt.alloc();
+    assert!(rt; hides_later(empty(alloc)?, alloc)?);
+    Ok(())
+}
+
+#[test]
+fn a_tombstone_hides_what_comes_later(rt: HostRuntime) -> Result<(), Fail> {
+    let alloc = rt.alloc();
+    assert!(rt; hides_before(empty(alloc)?, alloc)?);
+    Ok(())
+}
+
+#[test]
+fn a_gap_is_closed(rt: HostRuntime) -> Result<(), Fail> {
+    let alloc = rt.alloc();
+    assert!(rt; closes_a_gap(&rt, empty(alloc)?, alloc)?);
+    Ok(())
+}
+
+#[test]
+fn a_chain_backwards(rt: HostRuntime) -> Result<(), Fail> {
+    let alloc = rt.alloc();
+    for group in [1, 7] {
+        assert!(rt; closes_a_chain(empty(alloc)?, alloc, group)?, "{group}");
+    }
+    Ok(())
+}
+
+#[test]
+fn planned_commits_fail(rt: HostRuntime) -> Result<(), Fail> {
+    let alloc = rt.alloc();
+    assert!(rt; fails_as_planned(failing(alloc)?, alloc)?);
+    Ok(())
+}

@@ -1,0 +1,81 @@
+// What the tests are given: keepers in memory, blocks that differ, and the changes of a group of blocks.
+ghost use Rattle.std.specs.Prelude.{◌≡◌, ◌∷◌, [], map, IfOk, IfSome};
+ghost use Rattle.mc_model.specs.declared.block.Block.{Block};
+ghost use Rattle.mc_model.specs.Ascending.{is_once};
+ghost use Rattle.mc_model.specs.Front.{same_cid, is_processed};
+ghost use Rattle.mc_model.specs.Kept.{IsKept, nothing_kept};
+ghost use Rattle.mc_keep.specs.Calls.{Reads};
+ghost use Rattle.mc_keep.specs.Causes.{IfTold};
+ghost use Rattle.mc_keep.specs.Changes.{no_changes};
+ghost use Rattle.mc_keep.specs.New.{AreNew};
+ghost use Rattle.mc_keep.specs.Plan.{is_fault};
+ghost use Rattle.mc_keep_mem.specs.Fits.{kept_in};
+ghost use Rattle.mc_core.specs.Plans.{Processes};
+
+use mc_base::{Bytes, Cid};
+use mc_front::front_changes;
+use mc_keep::{Changes, KeepError, Keeper, Stored};
+use mc_keep_mem::{FaultPlan, MemKeeper};
+use mc_model::Block;
+use mc_rows::merge;
+use std::alloc::{AllocError, Global};
+
+/// A keeper without blocks that never fails.
+pub fn empty(alloc: Global) -> Result<MemKeeper, AllocError>
+    ensures { IfOk result (λ keeper. kept_in keeper.store.tables ≡ nothing_kept) }
+{
+    MemKeeper::new(alloc, FaultPlan::nothing(alloc))
+}
+
+/// Whether no block stands twice, by comparing each with each.
+pub fn are_once(blocks: &[Block]) -> bool
+    ensures { result ≡ is_once (λ (a b : Block). same_cid a.cid b.cid) blocks.now }
+{
+    match blocks {
+        [] => true,
+        [first, rest @ ..] => !has_block(rest, &first.cid) && are_once(rest),
+    }
+}
+
+fn has_block(blocks: &[Block], cid: &Cid) -> bool
+    ensures { result ≡ is_processed blocks.now cid.now }
+{
+    for block in blocks {
+        if *cid == block.cid {
+            return true;
+        }
+    }
+    false
+}
+
+/// The changes that process these blocks, of which none is processed. Where `whole`, every gap is wanted.
+pub fn process_changes<K: Keeper>(
+    keeper: &mut K,
+    alloc: Global,
+    blocks: &[Block],
+    whole: bool,
+) -> Result<Changes, KeepError>
+    requires { IfSome (K.told keeper.old) (λ kept. AreNew kept blocks.now) }
+    ensures process { IfTold (K.told keeper.old) result (λ kept changes.
+        Processes kept whole blocks.now (map (λ (block : Block). block.cid) blocks.now) changes) }
+    ensures reads { Reads K.Keeper (is_fault result) keeper.old keeper.new }
+{
+    let mut changes = Changes::new(alloc);
+    merge(keeper, alloc, blocks, &mut changes)?;
+    front_changes(keeper, alloc, blocks, whole, &mut changes)?;
+    Ok(changes)
+}
+
+/// The changes that store these bytes.
+pub fn store_of(alloc: Global, cid: Cid, bytes: Bytes) -> Result<Changes, AllocError>
+    ensures { IfOk result (λ changes. changes ≡ record no_changes { store = record { cid = cid; bytes = bytes } ∷ [] }) }
+{
+    let mut changes = Changes::new(alloc);
+    changes.store.push(Stored { cid, bytes })?;
+    Ok(changes)
+}
+
+/// What the keeper tells is sound.
+pub fn is_sound<K: Keeper>(keeper: &K)
+    ensures { IfSome (K.told keeper.now) IsKept }
+{}

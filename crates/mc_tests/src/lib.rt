@@ -1,0 +1,19 @@
+//! Tests of the layers below the program over keepers: the rows, the front, the reads and the made deltas, each by
+//! itself, and groups of blocks that are committed into a keeper in memory. They stand above all of these layers, so
+//! that none of them is proved again for a test of another.
+#![tactic(auto)]
+
+#[cfg(test)]
+mod commits;
+#[cfg(test)]
+mod deltas;
+#[cfg(test)]
+mod front;
+#[cfg(test)]
+mod given;
+#[cfg(test)]
+mod hand_made;
+#[cfg(test)]
+mod queries;
+#[cfg(test)]
+mod rows;

@@ -1,0 +1,8 @@
+-- Whether bytes are UTF-8, as a test.
+use Rattle.std.proofs.Common.{◌≡◌, ℕ, List, false}
+use Rattle.std.proofs.lemmas.Bool.{false_from_ne_true}
+use Rattle.std.proofs.lemmas.Str.{IsUtf8-from_is_utf8}
+use Rattle.std.specs.Str.{IsUtf8, is_utf8}
+
+pub no_text : (bytes : List ℕ) → ¬ (IsUtf8 bytes) → is_utf8 bytes ≡ false
+no_text bytes none = false_from_ne_true (is_utf8 bytes) (λ e. none (IsUtf8-from_is_utf8 bytes e))
