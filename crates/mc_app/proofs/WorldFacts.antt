@@ -1,5 +1,5 @@
 -- Lines one after another in a world.
-use Rattle.std.proofs.Common.{◌≡◌, ◌≤◌, ◌∙◌, refl, arith, ℕ, Bool, true, false, List, Option, None, Some}
+use Rattle.std.proofs.Common.{◌≡◌, ◌≤◌, ◌∙◌, refl, arith, ℕ, Bool, true, false, Option, None, Some}
 use Rattle.std.specs.Prelude.{⊤}
 use Rattle.mc_base.specs.Causes.{Rose}
 use Rattle.mc_base.specs.Told.{Told}

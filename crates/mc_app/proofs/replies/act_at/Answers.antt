@@ -1,6 +1,5 @@
-use Rattle.std.proofs.Common.{◌∙◌, ap, sym, subst}
-use Rattle.mc_app.specs.Step.{CallRefusal, Leaves, Plan, answers_fault}
-use Rattle.mc_app.proofs.StepFacts.{err_row, fault_answered, ok_row}
+use Rattle.mc_app.specs.Step.{CallRefusal, Leaves, Plan}
+use Rattle.mc_app.proofs.StepFacts.{err_row, ok_row}
 use Rattle.mc_app.proofs.replies.act_at.Goals as goal
 
 pub returns-in-Ok-clause-step : goal.returns-in-Ok-clause-step

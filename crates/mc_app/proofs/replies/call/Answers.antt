@@ -1,5 +1,4 @@
 use Rattle.std.proofs.Common.{refl}
-use Rattle.std.specs.Prelude.{◌≡◌}
 use Rattle.mc_core.specs.Batches.{batch_delete_refusal, BatchDeletePlan, batch_put_refusal, BatchPutPlan, begin_refusal, BeginPlan, commit_refusal, CommitPlan}
 use Rattle.mc_core.specs.Calls.{Stays}
 use Rattle.mc_core.specs.Deletes.{DeleteRefusal, DeletePlan, DeleteShort}
