@@ -1,52 +1,35 @@
 -- A line whose command was done.
-use Rattle.std.proofs.Common.{◌≡◌, ◌≤◌, ℕ, true, List, [], Option, Some, Result, Ok, Err, refl, subst, sym, ap, arith}
+use Rattle.std.proofs.Common.{◌≡◌, ◌≤◌, ℕ, Bool, true, false, List, [], Option, Some, Result, Ok, Err, refl, subst, sym, ap, arith}
 use Rattle.std.specs.Prelude.{OnOk, IfOk, cond}
 use Rattle.std.specs.Io.KnownBytes.{Appends}
-use Rattle.mc_base.specs.Causes.{Counts, Rose}
+use Rattle.mc_base.specs.Causes.{Rose}
 use Rattle.mc_base.specs.Told.{Told, AppendsPart}
 use Rattle.mc_core.specs.Events.{ReplicaState}
 use Rattle.mc_script.specs.ReplyText.{reply_text}
 use Rattle.mc_script.specs.declared.command.Command.{Command}
 use Rattle.mc_script.specs.declared.reply.Reply.{Reply}
-use Rattle.mc_script.specs.declared.reply.Reply.TheVariants.{Done, Priority, Deleted, Value, Has, Rows, Heads, Stopped, FaultKeeper, RefusedKey, RefusedValue, RefusedSize, RefusedPriority, RefusedClash, RefusedBatch}
 use Rattle.mc_app.specs.declared.acting.ActError.{ActError}
 use Rattle.mc_app.specs.declared.entry.LineEntry.{LineEntry}
 use Rattle.mc_app.specs.Record.{Recorded}
-use Rattle.mc_app.specs.Runs.{IsWithin, is_fault, names_none}
-use Rattle.mc_app.specs.Step.{Step, has_replica}
+use Rattle.mc_app.specs.Runs.{IsWithin, names_none}
+use Rattle.mc_app.specs.Step.{Step, answers_fault, has_replica, is_fault}
 use Rattle.mc_app.specs.Executes.{Executes, ExecutesPart, IsAnswered}
 
-within_none : (before now : ℕ) → before ≤ now → IsWithin before now 0
-within_none before now later = omega (arith, later)
-
 -- one reply is at most one fault, and only where the count rose
-within_one : (reply : Reply) (before now : ℕ) → before ≤ now → (reply ≡ FaultKeeper → Rose before now) → IsWithin before now (cond (is_fault reply) 1 0)
-within_one FaultKeeper before now later rose = rose refl
-within_one Done before now later rose = within_none before now later
-within_one (Priority priority) before now later rose = within_none before now later
-within_one (Deleted blocks) before now later rose = within_none before now later
-within_one (Value value) before now later rose = within_none before now later
-within_one (Has found) before now later rose = within_none before now later
-within_one (Rows rows) before now later rose = within_none before now later
-within_one (Heads heads) before now later rose = within_none before now later
-within_one Stopped before now later rose = within_none before now later
-within_one (RefusedKey number) before now later rose = within_none before now later
-within_one RefusedValue before now later rose = within_none before now later
-within_one (RefusedSize len) before now later rose = within_none before now later
-within_one RefusedPriority before now later rose = within_none before now later
-within_one (RefusedClash cid) before now later rose = within_none before now later
-within_one RefusedBatch before now later rose = within_none before now later
+within_one : (fault : Bool) (before now : ℕ) → before ≤ now → (fault ≡ true → Rose before now) → IsWithin before now (cond fault 1 0)
+within_one true before now later rose = rose refl
+within_one false before now later rose = omega (arith, later)
 
 module _ (calm : Type 0) (old : Option (List ReplicaState)) (faults : ℕ) (command : Command) (new : Option (List ReplicaState)) (faults_now : ℕ) where
   pub answered : (Names : LineEntry → Type 0) (entries after : List LineEntry) (result : Result Reply ActError)
-      → IfOk result (λ reply. Recorded (λ e. Names e × (calm → e.own ≡ []) × Told old new (λ w w2. Step w command e reply w2)) entries after) → OnOk result (has_replica command ≡ true) → Counts faults faults_now (result ≡ Ok FaultKeeper)
+      → IfOk result (λ reply. Recorded (λ e. Names e × (calm → e.own ≡ []) × Told old new (λ w w2. Step w command e reply w2)) entries after) → OnOk result (has_replica command ≡ true) → faults ≤ faults_now → (answers_fault result ≡ true → Rose faults faults_now)
       → IfOk result (IsAnswered calm old faults command new faults_now)
-  answered Names entries after (Err error) line there cause = tt
-  answered Names entries after (Ok reply) line there cause = record {
+  answered Names entries after (Err error) line there later rose = tt
+  answered Names entries after (Ok reply) line there later rose = record {
     answer = record { reply = reply; entry = line.entry };
     says = refl;
     step = (there, line.holds.2);
-    counted = within_one reply faults faults_now cause.later (λ fault. cause.rose (ap (λ (r : Reply). Ok r) fault));
+    counted = within_one (is_fault reply) faults faults_now later rose;
     owned = λ c. ap names_none (line.holds.1 c);
   }
 

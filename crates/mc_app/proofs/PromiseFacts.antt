@@ -1,5 +1,5 @@
 -- What is promised of every run.
-use Rattle.std.proofs.Common.{◌≡◌, ℕ, zero, suc, Bool, true, false, true≢false, List, [], ◌∷◌, ◌++◌, length, Option, Some, None, refl, sym, ◌∙◌, ap, subst, inl, inr, slice_set}
+use Rattle.std.proofs.Common.{◌≡◌, ℕ, zero, suc, Bool, true, false, true≢false, List, [], ◌∷◌, ◌++◌, length, Option, Some, None, Result, Ok, Err, refl, sym, ◌∙◌, ap, subst, inl, inr, slice_set}
 use Rattle.std.specs.Prelude.{slice_get}
 use Rattle.std.proofs.lemmas.List.{append-nil, append_assoc}
 use Rattle.mc_base.specs.Told.{Told}
@@ -36,6 +36,7 @@ use Rattle.mc_script.specs.declared.command.Command.TheVariants.{Put, Del, Begin
 use Rattle.mc_script.specs.declared.reply.Reply.{Reply}
 use Rattle.mc_script.specs.declared.reply.Reply.TheVariants.{Priority, Deleted, Value, Has, Rows, Heads}
 use Rattle.mc_app.specs.declared.entry.LineEntry.{LineEntry}
+use Rattle.mc_app.specs.declared.acting.ActError.{ActError}
 use Rattle.mc_app.specs.Promises.{HasDeleted, HasProcessed, OnlyGrows, batch_cid, chain_cids, is_read}
 use Rattle.mc_app.specs.Runs.{Answer, LineStep, Runs}
 use Rattle.mc_app.specs.Step.{IsReply, Plan, ReplicaStep, Row, Step, batch_priority, is_named, place_of}
@@ -124,19 +125,16 @@ count_in : Reply → Option ℕ
 count_in (Deleted blocks) = Some blocks
 count_in reply = None
 
+abbrev said_in : (Reply → Option ℕ) → Result Reply ActError → Option ℕ
+said_in number (Ok reply) = number reply
+said_in number (Err error) = None
+
 -- no refusal is answered so
 no_number : (error : CoreError) (priority : ℕ) → IsReply error (Priority priority) → ⊥
 unfolding number_in
 no_number core.KeeperFault priority e = e
 no_number core.Memory priority e = e
-no_number (core.BadKey fault) priority e = true≢false (ap (λ r. is_some (number_in r)) e)
-no_number core.ValueTooLong priority e = true≢false (ap (λ r. is_some (number_in r)) e)
-no_number (core.BlockTooLarge len) priority e = true≢false (ap (λ r. is_some (number_in r)) e)
-no_number core.PriorityFull priority e = true≢false (ap (λ r. is_some (number_in r)) e)
-no_number (core.Clash cid) priority e = true≢false (ap (λ r. is_some (number_in r)) e)
-no_number core.Stopped priority e = true≢false (ap (λ r. is_some (number_in r)) e)
-no_number core.NoBatch priority e = true≢false (ap (λ r. is_some (number_in r)) e)
-no_number core.BatchOpen priority e = true≢false (ap (λ r. is_some (number_in r)) e)
+no_number error priority e = true≢false (sym (ap (λ (said : Result Reply ActError). is_some (said_in number_in said)) e))
 
 pub put_is_processed : (law : WrittenLaw) (w : List ReplicaState) (r : ℕ) (key bytes : List ℕ) (entry : LineEntry) (priority : ℕ) (w2 : List ReplicaState) → Step w (Put r key bytes) entry (Priority priority) w2
     → HasProcessed w r (λ kept. made_cid (next_links kept) (delta_of_put kept key bytes)) w2
@@ -274,14 +272,7 @@ no_count : (error : CoreError) (count : ℕ) → IsReply error (Deleted count) �
 unfolding count_in
 no_count core.KeeperFault count e = e
 no_count core.Memory count e = e
-no_count (core.BadKey fault) count e = true≢false (ap (λ r. is_some (count_in r)) e)
-no_count core.ValueTooLong count e = true≢false (ap (λ r. is_some (count_in r)) e)
-no_count (core.BlockTooLarge len) count e = true≢false (ap (λ r. is_some (count_in r)) e)
-no_count core.PriorityFull count e = true≢false (ap (λ r. is_some (count_in r)) e)
-no_count (core.Clash cid) count e = true≢false (ap (λ r. is_some (count_in r)) e)
-no_count core.Stopped count e = true≢false (ap (λ r. is_some (count_in r)) e)
-no_count core.NoBatch count e = true≢false (ap (λ r. is_some (count_in r)) e)
-no_count core.BatchOpen count e = true≢false (ap (λ r. is_some (count_in r)) e)
+no_count error count e = true≢false (sym (ap (λ (said : Result Reply ActError). is_some (said_in count_in said)) e))
 
 pub delete_is_processed : (w : List ReplicaState) (r : ℕ) (key : List ℕ) (entry : LineEntry) (count : ℕ) (w2 : List ReplicaState) → Step w (Del r key) entry (Deleted count) w2 → HasDeleted w r key count w2
 unfolding count_in

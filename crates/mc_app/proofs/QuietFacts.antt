@@ -1,5 +1,5 @@
 -- Where no keeper fails by itself and none has a fuse, no reply is a fault.
-use Rattle.std.proofs.Common.{◌≡◌, ℕ, zero, suc, Bool, true, false, true≢false, List, [], ◌∷◌, Option, Some, None, refl, sym, ◌∙◌, ap, subst, inl, inr, slice_set, arith, cond}
+use Rattle.std.proofs.Common.{◌≡◌, ℕ, zero, suc, Bool, true, false, true≢false, List, [], ◌∷◌, Option, Some, None, Result, refl, sym, ◌∙◌, ap, subst, inl, inr, slice_set, arith, cond}
 use Rattle.std.specs.Prelude.{⊤, slice_get, is_some}
 use Rattle.std.proofs.lemmas.Bool.{and_parts}
 use Rattle.mc_model.specs.Events.{Event, happens}
@@ -12,10 +12,11 @@ use Rattle.mc_core.specs.declared.error.CoreError.{CoreError}
 use Rattle.mc_core.specs.declared.error.CoreError.TheVariants as core
 use Rattle.mc_script.specs.Line.{line_of}
 use Rattle.mc_script.specs.declared.command.Command.{Command}
-use Rattle.mc_script.specs.declared.command.Command.TheVariants.{Put, Del, Begin, BatchPut, BatchDel, Commit, Get, Has as HasKey, Query, Heads as HeadsOf}
+use Rattle.mc_script.specs.declared.command.Command.TheVariants.{Put}
 use Rattle.mc_script.specs.declared.reply.Reply.{Reply}
-use Rattle.mc_app.specs.Runs.{Answer, LineStep, Runs, is_fault, names_none, owns_none, own_free, fault_of, faults_in}
-use Rattle.mc_app.specs.Step.{IsReply, Plan, Refuses, ReplicaStep, is_named, place_of}
+use Rattle.mc_app.specs.Runs.{Answer, LineStep, Runs, names_none, owns_none, own_free, fault_of, faults_in}
+use Rattle.mc_app.specs.declared.acting.ActError.{ActError}
+use Rattle.mc_app.specs.Step.{IsReply, Plan, ReplicaStep, answers_fault, is_fault, is_named, place_of}
 use Rattle.mc_app.specs.Worlds.{both_told, first_state}
 
 -- a keeper without a fuse does not get one
@@ -43,14 +44,7 @@ broken_by_itself events own s new none breaks = cut_by_itself breaks.rest own (a
 no_refusal : (error : CoreError) (reply : Reply) → IsReply error reply → is_fault reply ≡ false
 no_refusal core.KeeperFault reply e = absurd e
 no_refusal core.Memory reply e = absurd e
-no_refusal (core.BadKey fault) reply e = ap is_fault e
-no_refusal core.ValueTooLong reply e = ap is_fault e
-no_refusal (core.BlockTooLarge len) reply e = ap is_fault e
-no_refusal core.PriorityFull reply e = ap is_fault e
-no_refusal (core.Clash cid) reply e = ap is_fault e
-no_refusal core.Stopped reply e = ap is_fault e
-no_refusal core.NoBatch reply e = ap is_fault e
-no_refusal core.BatchOpen reply e = ap is_fault e
+no_refusal error reply e = sym (ap (λ (said : Result Reply ActError). answers_fault said) e)
 
 module _ (s new : ReplicaState) (named own : Type 0) (none : s.fuse ≡ None) (reply : Reply) where
   -- a command leaves a replica without a fuse, and its reply is no fault
@@ -63,28 +57,8 @@ module _ (s new : ReplicaState) (named own : Type 0) (none : s.fuse ≡ None) (r
     where
       says : (command : Command) → Plan s command done.events reply → is_fault reply ≡ false
       says (Put r key bytes) plan = ap is_fault plan.2
-      says (Del r key) plan = ap is_fault plan.2
-      says (Begin r) plan = ap is_fault plan.2
-      says (BatchPut r key bytes) plan = ap is_fault plan.2
-      says (BatchDel r key) plan = ap is_fault plan.2
-      says (Commit r) plan = ap is_fault plan.2
-      says (Get r key) plan = ap is_fault plan.2
-      says (HasKey r key) plan = ap is_fault plan.2
-      says (Query r prefix skip take) plan = ap is_fault plan.2
-      says (HeadsOf r) plan = ap is_fault plan.2
-  passes command never (inl (inl refused)) = (says command refused.cause, ap (λ (x : ReplicaState). x.fuse) refused.same ∙ none)
-    where
-      says : (command : Command) → Refuses s command (Some reply) → is_fault reply ≡ false
-      says (Put r key bytes) cause = no_refusal cause.0 reply cause.2
-      says (Del r key) cause = no_refusal cause.0 reply cause.2
-      says (Begin r) cause = no_refusal cause.0 reply cause.2
-      says (BatchPut r key bytes) cause = no_refusal cause.0 reply cause.2
-      says (BatchDel r key) cause = no_refusal cause.0 reply cause.2
-      says (Commit r) cause = no_refusal cause.0 reply cause.2
-      says (Get r key) cause = no_refusal cause.0 reply cause.2
-      says (HasKey r key) cause = no_refusal cause.0 reply cause.2
-      says (Query r prefix skip take) cause = no_refusal cause.0 reply cause.2
-      says (HeadsOf r) cause = no_refusal cause.0 reply cause.2
+      says command plan = ap is_fault plan.2
+  passes command never (inl (inl refused)) = (no_refusal refused.cause.0 reply refused.cause.2, ap (λ (x : ReplicaState). x.fuse) refused.same ∙ none)
 
 -- no replica has a fuse
 

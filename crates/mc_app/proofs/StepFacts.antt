@@ -1,17 +1,18 @@
 -- From a call of a replica to the step of a command.
-use Rattle.std.proofs.Common.{◌≡◌, List, Option, Some, None, Result, Ok, Err, refl, sym, subst, inl, inr}
-use Rattle.std.specs.Prelude.{IfOk}
+use Rattle.std.proofs.Common.{◌≡◌, true, List, [], Option, Some, None, Result, Ok, Err, refl, sym, ◌∙◌, ap, subst, inl, inr}
+use Rattle.std.specs.Prelude.{IfOk, IsErrAnd}
 use Rattle.mc_base.specs.Told.{Told}
 use Rattle.mc_model.specs.Events.{Event}
+use Rattle.mc_keep.specs.Causes.{Kind, Refusal, Fault, Shortage, is_fault_kind}
 use Rattle.mc_core.specs.declared.error.CoreError.{CoreError}
 use Rattle.mc_core.specs.declared.error.CoreError.TheVariants as core
-use Rattle.mc_core.specs.Calls.{Begins, Call}
+use Rattle.mc_core.specs.Calls.{Begins, Call, Faults}
 use Rattle.mc_core.specs.Events.{ReplicaState}
-use Rattle.mc_core.specs.Refusals.{OnFault}
+use Rattle.mc_core.specs.Refusals.{ByKind, kind_of}
 use Rattle.mc_core.proofs.EventFacts.{breaks_rose}
 use Rattle.mc_script.specs.declared.reply.Reply.{Reply}
 use Rattle.mc_app.specs.declared.acting.ActError.{ActError}
-use Rattle.mc_app.specs.Step.{answer_of, ByReply, Row}
+use Rattle.mc_app.specs.Step.{answer_of, answers_fault, ByReply, Row}
 
 -- what a plan of calls gives for a plan of replies
 abbrev pub Gives : {T : Type 0} → (List Event → T → Type 0) → (List Event → Reply → Type 0) → Type 0
@@ -21,32 +22,47 @@ begins_by : {T : Type 0} (P : List Event → T → Type 0) (Q : List Event → R
 begins_by P Q gives events (inl none) = inl none
 begins_by P Q gives events (inr plan) = inr (gives events plan.0 plan.1)
 
-module _ {T : Type 0} (Refusal : ReplicaState → Option CoreError → Type 0) (P : ReplicaState → List Event → T → Type 0) (Q : ReplicaState → List Event → Reply → Type 0) (gives : (s : ReplicaState) → Gives (P s) (Q s)) where
-  err_step : (Short : ReplicaState → Type 0) (named own : Type 0) (error : CoreError) (s new : ReplicaState) → OnFault {T = T} (Err error) named → Call (Refusal s) (P s) Short own (Err error) s new → IfOk (answer_of error) (λ reply. Row (ByReply (Refusal s)) (Q s) named own s new reply)
-  err_step Short named own core.KeeperFault s new fault call = inr (record { cause = fault; says = refl; faults = record { events = call.events; begins = begins_by (P s) (Q s) (gives s) call.events call.begins; breaks = call.breaks } })
-  err_step Short named own core.Memory s new fault call = tt
-  err_step Short named own (core.BadKey f) s new fault call = inl (inl (record { cause = (core.BadKey f, call.0, refl); same = call.1 }))
-  err_step Short named own core.ValueTooLong s new fault call = inl (inl (record { cause = (core.ValueTooLong, call.0, refl); same = call.1 }))
-  err_step Short named own (core.BlockTooLarge len) s new fault call = inl (inl (record { cause = (core.BlockTooLarge len, call.0, refl); same = call.1 }))
-  err_step Short named own core.PriorityFull s new fault call = inl (inl (record { cause = (core.PriorityFull, call.0, refl); same = call.1 }))
-  err_step Short named own (core.Clash cid) s new fault call = inl (inl (record { cause = (core.Clash cid, call.0, refl); same = call.1 }))
-  err_step Short named own core.Stopped s new fault call = inl (inl (record { cause = (core.Stopped, call.0, refl); same = call.1 }))
-  err_step Short named own core.NoBatch s new fault call = inl (inl (record { cause = (core.NoBatch, call.0, refl); same = call.1 }))
-  err_step Short named own core.BatchOpen s new fault call = inl (inl (record { cause = (core.BatchOpen, call.0, refl); same = call.1 }))
+fault_map : (A B B2 C : Type 0) (kind : Kind) → (B → B2) → ByKind A B C kind → ByKind A B2 C kind
+fault_map A B B2 C Refusal f holds = holds
+fault_map A B B2 C Fault f holds = f holds
+fault_map A B B2 C Shortage f holds = holds
 
-  -- a call that did nothing, or not all
-  pub err_row : (Short : ReplicaState → ReplicaState → Type 0) (old new : Option ReplicaState) (named own : Type 0) (error : CoreError) (result : Result Reply ActError) → result ≡ answer_of error → OnFault {T = T} (Err error) named → Told old new (λ s x. Call (Refusal s) (P s) (Short s) own (Err error) s x) → Told old new (λ s x. IfOk result (λ reply. Row (ByReply (Refusal s)) (Q s) named own s x reply))
-  err_row Short None new named own error result is fault call = tt
-  err_row Short (Some s) None named own error result is fault call = absurd call
-  err_row Short (Some s) (Some x) named own error result is fault call = subst (λ (y : Result Reply ActError). IfOk y (λ reply. Row (ByReply (Refusal s)) (Q s) named own s x reply)) (sym is) (err_step (Short s) named own error s x fault call)
+-- a call that did nothing, or not all, under the plan of its command
+pub err_call : {T : Type 0} (Due : ReplicaState → Option CoreError → Type 0) (P : ReplicaState → List Event → T → Type 0) (Q : ReplicaState → List Event → Reply → Type 0) (Short : ReplicaState → ReplicaState → Type 0) → ((s : ReplicaState) → Gives (P s) (Q s))
+    → (old new : Option ReplicaState) (own : Type 0) (error : CoreError) (result : Result Reply CoreError) → IsErrAnd result (λ e. e ≡ error)
+    → Told old new (λ s x. Call (Due s) (P s) (Short s) own (Err error) s x) → Told old new (λ s x. Call (Due s) (Q s) (Short s) own result s x)
+err_call Due P Q Short gives old new own error (Ok reply) is call = absurd is
+err_call Due P Q Short gives None new own error (Err e) is call = tt
+err_call Due P Q Short gives (Some s) None own error (Err e) is call = absurd call
+err_call Due P Q Short gives (Some s) (Some x) own error (Err e) is call =
+    subst (λ (e : CoreError). Call (Due s) (Q s) (Short s) own (Err e) s x) (sym is)
+    (fault_map _ (Faults (P s) own s x) (Faults (Q s) own s x) _ (kind_of error) (λ faults. record { events = faults.events; begins = begins_by (P s) (Q s) (gives s) faults.events faults.begins; breaks = faults.breaks }) call)
 
-  -- and one that did all
-  pub ok_row : (Short : ReplicaState → ReplicaState → Type 0) (old new : Option ReplicaState) (named own : Type 0) (value : T) (reply : Reply) → ((s : ReplicaState) (events : List Event) → P s events value → Q s events reply) → Told old new (λ s x. Call (Refusal s) (P s) (Short s) own (Ok value) s x) → Told old new (λ s x. Row (ByReply (Refusal s)) (Q s) named own s x reply)
-  ok_row Short None new named own value reply plans call = tt
-  ok_row Short (Some s) None named own value reply plans call = absurd call
-  ok_row Short (Some s) (Some x) named own value reply plans call = inl (inr (record { allowed = call.allowed; events = call.events; plan = plans s call.events call.plan; goes = call.goes }))
+module _ (Due : ReplicaState → Option CoreError → Type 0) (Q : ReplicaState → List Event → Reply → Type 0) (Short : ReplicaState → ReplicaState → Type 0) where
+  err_step : (named own : Type 0) (error : CoreError) (s x : ReplicaState) → (is_fault_kind (kind_of error) ≡ true → named) → Call (Due s) (Q s) (Short s) own (Err error) s x → IfOk (answer_of error) (λ reply. Row (ByReply (Due s)) (Q s) named own s x reply)
+  err_step named own core.KeeperFault s x rose call = inr (record { cause = rose refl; says = refl; faults = call })
+  err_step named own core.Memory s x rose call = tt
+  err_step named own error s x rose call = inl (inl (record { cause = (error, call.0, refl); same = call.1 }))
+
+  -- the reply to a call that did nothing, or not all
+  pub err_row : (old new : Option ReplicaState) (named own : Type 0) (error : CoreError) (result : Result Reply ActError) → result ≡ answer_of error → (is_fault_kind (kind_of error) ≡ true → named)
+      → Told old new (λ s x. Call (Due s) (Q s) (Short s) own (Err error) s x) → Told old new (λ s x. IfOk result (λ reply. Row (ByReply (Due s)) (Q s) named own s x reply))
+  err_row None new named own error result is rose call = tt
+  err_row (Some s) None named own error result is rose call = absurd call
+  err_row (Some s) (Some x) named own error result is rose call = subst (λ (y : Result Reply ActError). IfOk y (λ reply. Row (ByReply (Due s)) (Q s) named own s x reply)) (sym is) (err_step named own error s x rose call)
+
+  -- and to one that did all
+  pub ok_row : (old new : Option ReplicaState) (named own : Type 0) (reply : Reply) → Told old new (λ s x. Call (Due s) (Q s) (Short s) own (Ok reply) s x) → Told old new (λ s x. Row (ByReply (Due s)) (Q s) named own s x reply)
+  ok_row None new named own reply call = tt
+  ok_row (Some s) None named own reply call = absurd call
+  ok_row (Some s) (Some x) named own reply call = inl (inr (record { allowed = call.allowed; events = call.events; plan = call.plan; goes = call.goes }))
+
+-- the answer is `fault keeper` where the call failed
+pub fault_answered : (error : CoreError) → answers_fault (answer_of error) ≡ is_fault_kind (kind_of error)
+fault_answered core.KeeperFault = refl
+fault_answered error = refl
 
 -- a fault under other words
-pub row_map : (Refusal : Option Reply → Type 0) (Planned : List Event → Reply → Type 0) (P Q P2 Q2 : Type 0) (s new : ReplicaState) (reply : Reply) → (P → P2) → (Q → Q2) → Row Refusal Planned P Q s new reply → Row Refusal Planned P2 Q2 s new reply
-row_map Refusal Planned P Q P2 Q2 s new reply f g (inl calm) = inl calm
-row_map Refusal Planned P Q P2 Q2 s new reply f g (inr fault) = inr (record { cause = f fault.cause; says = fault.says; faults = record { events = fault.faults.events; begins = fault.faults.begins; breaks = breaks_rose fault.faults.events Q Q2 s new g fault.faults.breaks } })
+pub row_map : (Due : Option Reply → Type 0) (Planned : List Event → Reply → Type 0) (P Q P2 Q2 : Type 0) (s new : ReplicaState) (reply : Reply) → (P → P2) → (Q → Q2) → Row Due Planned P Q s new reply → Row Due Planned P2 Q2 s new reply
+row_map Due Planned P Q P2 Q2 s new reply f g (inl calm) = inl calm
+row_map Due Planned P Q P2 Q2 s new reply f g (inr fault) = inr (record { cause = f fault.cause; says = fault.says; faults = record { events = fault.faults.events; begins = fault.faults.begins; breaks = breaks_rose fault.faults.events Q Q2 s new g fault.faults.breaks } })

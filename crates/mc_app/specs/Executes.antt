@@ -7,9 +7,10 @@ use Rattle.mc_script.specs.declared.command.Command.{Command}
 use Rattle.mc_script.specs.declared.reply.Reply.{Reply}
 use Rattle.mc_app.specs.Runs.{Answer, LineStep, IsWithin, fault_of, owns_none, text_of_answer}
 
--- this was read of a line, it was done and answered, and the answer was written; the keeper's count rose from one number to
--- another; and where all was calm, the record names no keeper that failed by itself
-pub record Executes (calm : Type 0) (old : Option (List ReplicaState)) (faults : ℕ) (read : Option (Option Command)) (new : Option (List ReplicaState)) (faults_now : ℕ) (before after : Option (List ℕ)) : Type 0 where
+-- this was read of a line, it was done and answered, and the answer was written; the keeper's count rose from one
+-- number to another; and where all was calm, the record names no keeper that failed by itself
+pub record Executes (calm : Type 0) (old : Option (List ReplicaState)) (faults : ℕ) (read : Option (Option Command))
+    (new : Option (List ReplicaState)) (faults_now : ℕ) (before after : Option (List ℕ)) : Type 0 where
   pub answer : Option Answer
   pub step : LineStep old read new answer
   pub counted : IsWithin faults faults_now (fault_of answer)
@@ -17,7 +18,8 @@ pub record Executes (calm : Type 0) (old : Option (List ReplicaState)) (faults :
   pub written : Appends before after (text_of_answer answer)
 
 -- and some first bytes of the answer were written
-pub record ExecutesPart (calm : Type 0) (old : Option (List ReplicaState)) (faults : ℕ) (read : Option (Option Command)) (new : Option (List ReplicaState)) (faults_now : ℕ) (before after : Option (List ℕ)) : Type 0 where
+pub record ExecutesPart (calm : Type 0) (old : Option (List ReplicaState)) (faults : ℕ) (read : Option (Option Command))
+    (new : Option (List ReplicaState)) (faults_now : ℕ) (before after : Option (List ℕ)) : Type 0 where
   pub answer : Option Answer
   pub step : LineStep old read new answer
   pub counted : IsWithin faults faults_now (fault_of answer)
@@ -25,7 +27,8 @@ pub record ExecutesPart (calm : Type 0) (old : Option (List ReplicaState)) (faul
   pub written : AppendsPart before after (text_of_answer answer)
 
 -- a command was done and answered, and nothing is written yet
-pub record IsAnswered (calm : Type 0) (old : Option (List ReplicaState)) (faults : ℕ) (command : Command) (new : Option (List ReplicaState)) (faults_now : ℕ) (reply : Reply) : Type 0 where
+pub record IsAnswered (calm : Type 0) (old : Option (List ReplicaState)) (faults : ℕ) (command : Command)
+    (new : Option (List ReplicaState)) (faults_now : ℕ) (reply : Reply) : Type 0 where
   pub answer : Answer
   pub says : answer.reply ≡ reply
   pub step : LineStep old (Some (Some command)) new (Some answer)

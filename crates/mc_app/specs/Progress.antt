@@ -8,9 +8,10 @@ use Rattle.mc_app.specs.Lines.{lines_of, line_max, script_max, IsTooLong}
 use Rattle.mc_app.specs.Runs.{Answer, Runs}
 use Rattle.mc_app.specs.Step.{has_replica}
 
--- the first lines of a script, which keep the limits, with their answers and what is told of the world after them; `May` says
--- what may be answered
-pub record Progress (script : List ℕ) (start : Option (List ReplicaState)) (May : List (Option Answer) → Type 0) : Type 0 where
+-- the first lines of a script, which keep the limits, with their answers and what is told of the world after them; `May`
+-- says what may be answered
+pub record Progress (script : List ℕ) (start : Option (List ReplicaState)) (May : List (Option Answer) → Type 0)
+    : Type 0 where
   pub taken : List ℕ
   pub ahead : List ℕ
   pub lines : List (List ℕ)
@@ -41,7 +42,8 @@ abbrev pub IsBadLine : ℕ → List ℕ → Type 0
 IsBadLine room ahead = IsTooLong room ahead ⊎ IsNoCommand ahead
 
 -- the line behind those that were answered has this number, counted from 1, and is bad
-pub record MeetsBadLine (script : List ℕ) (start : Option (List ReplicaState)) (May : List (Option Answer) → Type 0) (progress : Progress script start May) (number : ℕ) : Type 0 where
+pub record MeetsBadLine (script : List ℕ) (start : Option (List ReplicaState)) (May : List (Option Answer) → Type 0)
+    (progress : Progress script start May) (number : ℕ) : Type 0 where
   pub counted : number ≡ length progress.lines + 1
   pub bad : IsBadLine (script_max - length progress.taken) progress.ahead
 

@@ -24,7 +24,8 @@ pub record HasProcessed (w : List ReplicaState) (r : ℕ) (cid : Kept → Cid) (
   pub new : ReplicaState
   pub stood : slice_get w r ≡ Some old
   pub stands : slice_get w2 r ≡ Some new
-  pub processed : slice_get new.state.durable.order (length old.state.durable.order) ≡ Some (cid (kept_of old.state.durable))
+  pub processed :
+      slice_get new.state.durable.order (length old.state.durable.order) ≡ Some (cid (kept_of old.state.durable))
 
 -- the identifiers of blocks of which the first has these links, and each later one links to the one before
 abbrev pub chain_cids : List Cid → List Delta → List Cid
@@ -40,7 +41,8 @@ pub record HasDeleted (w : List ReplicaState) (r : ℕ) (key : List ℕ) (count 
   pub stands : slice_get w2 r ≡ Some new
   pub are : IsDeltas (kept_of old.state.durable) key deltas
   pub counted : count ≡ length deltas
-  pub processed : new.state.durable.order ≡ old.state.durable.order ++ chain_cids (next_links (kept_of old.state.durable)) deltas
+  pub processed : new.state.durable.order
+      ≡ old.state.durable.order ++ chain_cids (next_links (kept_of old.state.durable)) deltas
 
 -- the block of a batch
 abbrev pub batch_cid : OpenBatch → Kept → Cid

@@ -1,8 +1,7 @@
 -- What a world stands for.
-use Rattle.std.specs.Prelude.{◌≡◌, ◌≤◌, ℕ, Bool, List, [], ◌∷◌, Option, Some, None}
-use Rattle.mc_base.specs.Causes.{Rose}
+use Rattle.std.specs.Prelude.{◌≡◌, true, false, List, [], ◌∷◌, Option, Some, None}
 use Rattle.mc_model.specs.Kept.{Kept}
-use Rattle.mc_keep.specs.Causes.{StaysQuiet}
+use Rattle.mc_keep.specs.Calls.{Members, Reads}
 use Rattle.mc_keep.specs.declared.fuse.Fuse.{Fuse}
 use Rattle.mc_core.specs.Events.{ReplicaState}
 use Rattle.mc_core.specs.Replica.{replica_state, opened_state}
@@ -21,7 +20,8 @@ told_all tell [] = Some []
 told_all tell (x ∷ xs) = both_told (tell x) (told_all tell xs)
 
 -- the replicas of a world, in order of name
-abbrev pub world_state : {K Desk : Type 0} → (K → Option Kept) → (K → Option Fuse) → World K Desk → Option (List ReplicaState)
+abbrev pub world_state : {K Desk : Type 0} → (K → Option Kept) → (K → Option Fuse) → World K Desk
+    → Option (List ReplicaState)
 world_state told fuse world = told_all (replica_state told fuse) (world.replica ∷ [])
 
 -- those that are opened over what some keepers tell, with no fuse
@@ -44,28 +44,17 @@ AreParts fuse [] = ⊥
 AreParts fuse (part ∷ []) = IsFresh fuse part
 AreParts fuse (part ∷ next ∷ parts) = ⊥
 
--- a part whose keeper failed in opening by itself: it tells what it told, and has counted the fault
-pub record IsLeft {K Desk : Type 0} (told : K → Option Kept) (fuse : K → Option Fuse) (faults own : K → ℕ) (quiet : K → Bool) (part left : Part K Desk) : Type 0 where
-  pub tells : told left.keeper ≡ told part.keeper
-  pub keeps_fuse : fuse left.keeper ≡ fuse part.keeper
-  pub keeps_desks : left.desks ≡ part.desks
-  pub rose : Rose (faults part.keeper) (faults left.keeper)
-  pub own_rose : Rose (own part.keeper) (own left.keeper)
-  pub stays : StaysQuiet (quiet part.keeper) (quiet left.keeper) (own part.keeper) (own left.keeper)
+module _ {K Desk : Type 0} (k : Members K Desk) where
+  -- a part whose keeper failed in opening: only a read has come to it, which failed
+  abbrev pub IsLeft : Part K Desk → Part K Desk → Type 0
+  IsLeft part left = Reads k true part.keeper left.keeper × (left.desks ≡ part.desks)
 
--- the parts that are handed back where no world was made
-abbrev pub AreLeft : {K Desk : Type 0} → (K → Option Kept) → (K → Option Fuse) → (K → ℕ) → (K → ℕ) → (K → Bool) → List (Part K Desk) → List (Part K Desk) → Type 0
-AreLeft told fuse faults own quiet (part ∷ []) (left ∷ []) = IsLeft told fuse faults own quiet part left
-AreLeft told fuse faults own quiet parts left = ⊥
+  -- the parts that are handed back where no world was made
+  abbrev pub AreLeft : List (Part K Desk) → List (Part K Desk) → Type 0
+  AreLeft (part ∷ []) (left ∷ []) = IsLeft part left
+  AreLeft parts left = ⊥
 
--- the keeper of the only part stays quiet while it becomes this one
-abbrev pub StaysQuietIn : {K Desk : Type 0} → (K → Bool) → (K → ℕ) → List (Part K Desk) → K → Type 0
-StaysQuietIn quiet own [] keeper = ⊥
-StaysQuietIn quiet own (part ∷ []) keeper = StaysQuiet (quiet part.keeper) (quiet keeper) (own part.keeper) (own keeper)
-StaysQuietIn quiet own (part ∷ next ∷ parts) keeper = ⊥
-
--- its count does not fall
-abbrev pub ComesLater : {K Desk : Type 0} → (K → ℕ) → List (Part K Desk) → K → Type 0
-ComesLater faults [] keeper = ⊥
-ComesLater faults (part ∷ []) keeper = faults part.keeper ≤ faults keeper
-ComesLater faults (part ∷ next ∷ parts) keeper = ⊥
+  -- only reads have come to the keeper of the only part
+  abbrev pub IsOpened : List (Part K Desk) → K → Type 0
+  IsOpened (part ∷ []) keeper = Reads k false part.keeper keeper
+  IsOpened parts keeper = ⊥

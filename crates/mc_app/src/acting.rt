@@ -1,18 +1,13 @@
 // One command in a world.
-ghost use Rattle.std.specs.Prelude.{◌≡◌, ◌≤◌, ◌↔◌, ◌++◌, [], ◌∷◌, true, false, Ok, IfOk, OnOk, IsErrOf, ⊤};
-ghost use Rattle.mc_base.specs.Causes.{Counts, Rose};
-ghost use Rattle.mc_base.specs.Told.{Told};
-ghost use Rattle.mc_keep.specs.Causes.{StaysQuiet};
-ghost use Rattle.mc_core.specs.Replica.{replica_state};
-ghost use Rattle.mc_script.specs.declared.reply.Reply.TheVariants.{FaultKeeper};
-ghost use Rattle.mc_app.specs.Record.{IsCalm, NamesRisen, Recorded, numbers_of};
-ghost use Rattle.mc_app.specs.Step.{ReplicaStep, Step, has_replica};
-ghost use Rattle.mc_app.specs.Worlds.{world_state};
+ghost use Rattle.std.specs.Prelude.{◌≡◌, ◌↔◌, ◌++◌, [], ◌∷◌, true, false, IfOk, OnOk, IsErrOf};
+ghost use Rattle.mc_base.specs.Causes.{Rose};
+ghost use Rattle.mc_app.specs.Record.{numbers_of};
+ghost use Rattle.mc_app.specs.Step.{answers_fault, has_replica};
+ghost use Rattle.mc_app.specs.Words.{Records, WorldKeeps};
 
-use crate::replies::{batch_delete, batch_put, begin, commit, delete, get, has, heads, put, query};
+use crate::replies::act_at;
 use crate::{LineEntry, World};
 use mc_base::List;
-use mc_core::Replica;
 use mc_keep::Keeper;
 use mc_script::{Command, Reply};
 use std::alloc::{AllocError, Global};
@@ -49,16 +44,10 @@ pub fn act<K: Keeper>(
     alloc: Global,
     command: &Command,
 ) -> Result<Reply, ActError>
-    ensures line { IfOk result (λ reply. Recorded (λ entry. NamesRisen K.faults K.own (world.old.replica.keeper ∷ []) (world.new.replica.keeper ∷ []) entry
-        × (IsCalm (K.quiet world.old.replica.keeper) (K.own world.old.replica.keeper) → entry.own ≡ [])
-        × Told (world_state K.told K.fuse world.old) (world_state K.told K.fuse world.new) (λ w w2. Step w command.now entry reply w2)) world.old.entries world.new.entries) }
-    ensures told { Told (world_state K.told K.fuse world.old) (world_state K.told K.fuse world.new) (λ _ _. ⊤) }
+    ensures line { IfOk result (Records K.Keeper command.now world.old world.new) }
     ensures there { OnOk result (has_replica command.now ≡ true) }
     ensures bad { IsErrOf result ActError.BadLine → (has_replica command.now ≡ false) × (world.new ≡ world.old) }
-    ensures cause { Counts (K.faults world.old.replica.keeper) (K.faults world.new.replica.keeper) (result ≡ Ok FaultKeeper) }
-    ensures own { K.own world.old.replica.keeper ≤ K.own world.new.replica.keeper }
-    ensures quiet { StaysQuiet (K.quiet world.old.replica.keeper) (K.quiet world.new.replica.keeper) (K.own world.old.replica.keeper) (K.own world.new.replica.keeper) }
-    ensures desks { world.new.desks ≡ world.old.desks }
+    ensures keeps { WorldKeeps K.Keeper (answers_fault result) world.old world.new }
 {
     if !has_replica(command) {
         return Err(ActError::BadLine);
@@ -76,40 +65,6 @@ pub fn act<K: Keeper>(
     };
     push_entry(&mut world.entries, entry)?;
     Ok(reply)
-}
-
-// Executes a command at its replica.
-fn act_at<K: Keeper>(
-    replica: &mut Replica<K>,
-    alloc: Global,
-    command: &Command,
-) -> Result<Reply, ActError>
-    ensures step { Told (replica_state K.told K.fuse replica.old) (replica_state K.told K.fuse replica.new) (λ s new. IfOk result (λ reply.
-        ReplicaStep s command.now (Rose (K.faults replica.old.keeper) (K.faults replica.new.keeper)) (Rose (K.own replica.old.keeper) (K.own replica.new.keeper)) new reply)) }
-    ensures not_bad { IsErrOf result ActError.BadLine → ⊥ }
-    ensures cause { Counts (K.faults replica.old.keeper) (K.faults replica.new.keeper) (result ≡ Ok FaultKeeper) }
-    ensures own { K.own replica.old.keeper ≤ K.own replica.new.keeper }
-    ensures quiet { StaysQuiet (K.quiet replica.old.keeper) (K.quiet replica.new.keeper) (K.own replica.old.keeper) (K.own replica.new.keeper) }
-{
-    match command {
-        Command::Put { r, key, bytes } => put(replica, alloc, *r, key.as_str(), bytes.as_slice()),
-        Command::Del { r, key } => delete(replica, alloc, *r, key.as_str()),
-        Command::Begin { r } => begin(replica, alloc, *r),
-        Command::BatchPut { r, key, bytes } => {
-            batch_put(replica, *r, key.as_str(), bytes.as_slice())
-        }
-        Command::BatchDel { r, key } => batch_delete(replica, *r, key.as_str()),
-        Command::Commit { r } => commit(replica, alloc, *r),
-        Command::Get { r, key } => get(replica, alloc, *r, key.as_str()),
-        Command::Has { r, key } => has(replica, *r, key.as_str()),
-        Command::Query {
-            r,
-            prefix,
-            skip,
-            take,
-        } => query(replica, alloc, *r, prefix.as_str(), *skip, *take),
-        Command::Heads { r } => heads(replica, alloc, *r),
-    }
 }
 
 // Whether a command names the replica.

@@ -3,15 +3,12 @@ ghost use Rattle.std.specs.Prelude.{◌≡◌, ◌≤◌, OnOk, IfOk, IsErrOf, S
 ghost use Rattle.std.specs.Io.KnownBytes.{Appends, Keeps};
 ghost use Rattle.mc_base.specs.Causes.{Counts};
 ghost use Rattle.mc_base.specs.Told.{AppendsPart};
-ghost use Rattle.mc_keep.specs.Causes.{StaysQuiet};
 ghost use Rattle.mc_script.specs.Line.{line_of};
 ghost use Rattle.mc_script.specs.ReplyText.{reply_text};
 ghost use Rattle.mc_app.specs.declared.acting.ActError.{ActError};
-ghost use Rattle.mc_app.specs.Executes.{Executes, ExecutesPart, IsAnswered};
 ghost use Rattle.mc_app.specs.Progress.{IsBadCommand};
-ghost use Rattle.mc_app.specs.Record.{IsCalm};
 ghost use Rattle.mc_app.specs.Step.{has_replica};
-ghost use Rattle.mc_app.specs.Worlds.{world_state};
+ghost use Rattle.mc_app.specs.Words.{AnswersIn, ExecutesIn, ExecutesPartIn, WorldKeeps};
 ghost use Rattle.mc_app.specs.declared.execute.ExecuteError.TheVariants.{Failed as WriteFailed, Memory};
 
 use crate::write::write_text;
@@ -61,13 +58,14 @@ pub fn execute_line<K: Keeper, O: Sink>(
     line: &[u8],
     out: &mut O,
 ) -> Result<(), ExecuteError>
-    ensures ok { OnOk result (Executes (IsCalm (K.quiet world.old.replica.keeper) (K.own world.old.replica.keeper)) (world_state K.told K.fuse world.old) (K.faults world.old.replica.keeper) (line_of line.now) (world_state K.told K.fuse world.new) (K.faults world.new.replica.keeper) (O.written out.old) (O.written out.new)) }
-    ensures bad { IsErrOf result ExecuteError.Bad → IsBadCommand (line_of line.now) × Keeps (O.written out.old) (O.written out.new) }
-    ensures failed { IsErrOf result ExecuteError.Failed → ExecutesPart (IsCalm (K.quiet world.old.replica.keeper) (K.own world.old.replica.keeper)) (world_state K.told K.fuse world.old) (K.faults world.old.replica.keeper) (line_of line.now) (world_state K.told K.fuse world.new) (K.faults world.new.replica.keeper) (O.written out.old) (O.written out.new) }
+    ensures ok { OnOk result (ExecutesIn K.Keeper (line_of line.now) world.old world.new
+        (O.written out.old) (O.written out.new)) }
+    ensures bad { IsErrOf result ExecuteError.Bad →
+        IsBadCommand (line_of line.now) × Keeps (O.written out.old) (O.written out.new) }
+    ensures failed { IsErrOf result ExecuteError.Failed → ExecutesPartIn K.Keeper (line_of line.now)
+        world.old world.new (O.written out.old) (O.written out.new) }
     ensures memory { IsErrOf result ExecuteError.Memory → Keeps (O.written out.old) (O.written out.new) }
-    ensures later { K.faults world.old.replica.keeper ≤ K.faults world.new.replica.keeper }
-    ensures quiet { StaysQuiet (K.quiet world.old.replica.keeper) (K.quiet world.new.replica.keeper) (K.own world.old.replica.keeper) (K.own world.new.replica.keeper) }
-    ensures desks { world.new.desks ≡ world.old.desks }
+    ensures keeps { WorldKeeps K.Keeper false world.old world.new }
     ensures cause { Counts (O.faults out.old) (O.faults out.new) (IsErrOf result ExecuteError.Failed) }
 {
     match read_line(alloc, line) {
@@ -85,13 +83,14 @@ fn answer<K: Keeper, O: Sink>(
     command: &Command,
     out: &mut O,
 ) -> Result<(), ExecuteError>
-    ensures ok { OnOk result (Executes (IsCalm (K.quiet world.old.replica.keeper) (K.own world.old.replica.keeper)) (world_state K.told K.fuse world.old) (K.faults world.old.replica.keeper) (Some (Some command.now)) (world_state K.told K.fuse world.new) (K.faults world.new.replica.keeper) (O.written out.old) (O.written out.new)) }
-    ensures bad { IsErrOf result ExecuteError.Bad → (has_replica command.now ≡ false) × Keeps (O.written out.old) (O.written out.new) }
-    ensures failed { IsErrOf result ExecuteError.Failed → ExecutesPart (IsCalm (K.quiet world.old.replica.keeper) (K.own world.old.replica.keeper)) (world_state K.told K.fuse world.old) (K.faults world.old.replica.keeper) (Some (Some command.now)) (world_state K.told K.fuse world.new) (K.faults world.new.replica.keeper) (O.written out.old) (O.written out.new) }
+    ensures ok { OnOk result (ExecutesIn K.Keeper (Some (Some command.now)) world.old world.new
+        (O.written out.old) (O.written out.new)) }
+    ensures bad { IsErrOf result ExecuteError.Bad →
+        (has_replica command.now ≡ false) × Keeps (O.written out.old) (O.written out.new) }
+    ensures failed { IsErrOf result ExecuteError.Failed → ExecutesPartIn K.Keeper (Some (Some command.now))
+        world.old world.new (O.written out.old) (O.written out.new) }
     ensures memory { IsErrOf result ExecuteError.Memory → Keeps (O.written out.old) (O.written out.new) }
-    ensures later { K.faults world.old.replica.keeper ≤ K.faults world.new.replica.keeper }
-    ensures quiet { StaysQuiet (K.quiet world.old.replica.keeper) (K.quiet world.new.replica.keeper) (K.own world.old.replica.keeper) (K.own world.new.replica.keeper) }
-    ensures desks { world.new.desks ≡ world.old.desks }
+    ensures keeps { WorldKeeps K.Keeper false world.old world.new }
     ensures cause { Counts (O.faults out.old) (O.faults out.new) (IsErrOf result ExecuteError.Failed) }
 {
     let reply = match act_on(alloc, world, command) {
@@ -106,7 +105,8 @@ fn answer<K: Keeper, O: Sink>(
 fn write_answer<O: Sink>(alloc: Global, reply: &Reply, out: &mut O) -> Result<(), ExecuteError>
     ensures ok { OnOk result (Appends (O.written out.old) (O.written out.new) (reply_text reply.now)) }
     ensures not_bad { IsErrOf result ExecuteError.Bad → ⊥ }
-    ensures failed { IsErrOf result ExecuteError.Failed → AppendsPart (O.written out.old) (O.written out.new) (reply_text reply.now) }
+    ensures failed { IsErrOf result ExecuteError.Failed →
+        AppendsPart (O.written out.old) (O.written out.new) (reply_text reply.now) }
     ensures memory { IsErrOf result ExecuteError.Memory → Keeps (O.written out.old) (O.written out.new) }
     ensures cause { Counts (O.faults out.old) (O.faults out.new) (IsErrOf result ExecuteError.Failed) }
 {
@@ -121,11 +121,9 @@ fn act_on<K: Keeper>(
     world: &mut World<K>,
     command: &Command,
 ) -> Result<Reply, ActError>
-    ensures answered { IfOk result (IsAnswered (IsCalm (K.quiet world.old.replica.keeper) (K.own world.old.replica.keeper)) (world_state K.told K.fuse world.old) (K.faults world.old.replica.keeper) command.now (world_state K.told K.fuse world.new) (K.faults world.new.replica.keeper)) }
+    ensures answered { IfOk result (AnswersIn K.Keeper command.now world.old world.new) }
     ensures bad { IsErrOf result ActError.BadLine → has_replica command.now ≡ false }
-    ensures later { K.faults world.old.replica.keeper ≤ K.faults world.new.replica.keeper }
-    ensures quiet { StaysQuiet (K.quiet world.old.replica.keeper) (K.quiet world.new.replica.keeper) (K.own world.old.replica.keeper) (K.own world.new.replica.keeper) }
-    ensures desks { world.new.desks ≡ world.old.desks }
+    ensures keeps { WorldKeeps K.Keeper false world.old world.new }
 {
     act(world, alloc, command)
 }

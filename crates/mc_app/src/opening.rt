@@ -1,6 +1,6 @@
 // How a world begins and ends.
 ghost use Rattle.std.specs.Prelude.{◌≡◌, [], ◌∷◌, IfOk, IfErr};
-ghost use Rattle.mc_app.specs.Worlds.{AreLeft, AreParts, ComesLater, StaysQuietIn, world_state, first_state, starts_of};
+ghost use Rattle.mc_app.specs.Worlds.{AreLeft, AreParts, IsOpened, world_state, first_state, starts_of};
 
 use crate::room::Room;
 use crate::{NoWorld, Part, World};
@@ -17,9 +17,8 @@ impl<K: Keeper> World<K> {
         ensures first { IfOk result (λ world. world_state K.told K.fuse world ≡ first_state (starts_of K.told parts)) }
         ensures entries { IfOk result (λ world. world.entries ≡ []) }
         ensures desks { IfOk result (λ world. world.desks ≡ []) }
-        ensures quiet { IfOk result (λ world. StaysQuietIn K.quiet K.own parts world.replica.keeper) }
-        ensures later { IfOk result (λ world. ComesLater K.faults parts world.replica.keeper) }
-        ensures refused { IfErr result (λ refused. AreLeft K.told K.fuse K.faults K.own K.quiet parts refused.parts) }
+        ensures reads { IfOk result (λ world. IsOpened K.Keeper parts world.replica.keeper) }
+        ensures refused { IfErr result (λ refused. AreLeft K.Keeper parts refused.parts) }
     {
         let (part, room) = Room::take(parts);
         let Part { keeper, desks } = part;

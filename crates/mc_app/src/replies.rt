@@ -1,23 +1,89 @@
 // What each command does at its replica.
-ghost use Rattle.std.specs.Prelude.{◌≡◌, ◌≤◌, Ok, IfOk, IsErrOf, map};
-ghost use Rattle.mc_base.specs.Causes.{Counts, Rose};
-ghost use Rattle.mc_base.specs.Told.{Told};
-ghost use Rattle.mc_keep.specs.Causes.{StaysQuiet};
+ghost use Rattle.std.specs.Prelude.{◌≡◌, false, IfOk, IsErrOf, map};
 ghost use Rattle.mc_keep.specs.Changes.{heads_in_rows};
 ghost use Rattle.mc_query.specs.Places.{pair_of};
-ghost use Rattle.mc_core.specs.Replica.{replica_state};
-ghost use Rattle.mc_script.specs.declared.command.Command.TheVariants.{Put, Del, Begin, BatchPut, BatchDel, Commit, Get, Has as HasKey, Query, Heads as HeadsOf};
-ghost use Rattle.mc_script.specs.declared.reply.Reply.TheVariants.{FaultKeeper};
+ghost use Rattle.mc_core.specs.Refusals.{is_fault};
+ghost use Rattle.mc_core.specs.Words.{Acts, Continues};
 ghost use Rattle.mc_app.specs.declared.acting.ActError.{ActError};
-ghost use Rattle.mc_app.specs.Step.{Plan, Refuses, Row, answer_of, batch_priority};
+ghost use Rattle.mc_app.specs.Step.{CallRefusal, Leaves, Plan, answer_of, answers_fault, batch_priority};
+ghost use Rattle.mc_app.specs.Words.{Replies};
 
 use crate::ActError;
 use mc_base::{Bytes, Cid, List, Text};
 use mc_core::{CoreError, Replica, Written};
 use mc_keep::{HeadRow, Keeper};
 use mc_query::Pair;
-use mc_script::Reply;
+use mc_script::{Command, Reply};
 use std::alloc::{AllocError, Global};
+
+// Executes a command at its replica.
+pub(crate) fn act_at<K: Keeper>(
+    replica: &mut Replica<K>,
+    alloc: Global,
+    command: &Command,
+) -> Result<Reply, ActError>
+    ensures step { Replies K.Keeper command.now result replica.old replica.new }
+    ensures not_bad { IsErrOf result ActError.BadLine → ⊥ }
+    ensures keeps { Continues K.Keeper (answers_fault result) replica.old replica.new }
+{
+    match call(replica, alloc, command) {
+        Ok(reply) => Ok(reply),
+        Err(error) => answer(error),
+    }
+}
+
+// Calls the replica for a command, and gives the reply to what it did.
+fn call<K: Keeper>(
+    replica: &mut Replica<K>,
+    alloc: Global,
+    command: &Command,
+) -> Result<Reply, CoreError>
+    ensures call { Acts K.Keeper (λ s. CallRefusal s command.now) (λ s. Plan s command.now) (Leaves command.now)
+        result replica.old replica.new }
+    ensures keeps { Continues K.Keeper (is_fault result) replica.old replica.new }
+    ensures value { answers_fault result ≡ false }
+{
+    match command {
+        Command::Put { key, bytes, .. } => Ok(Reply::Priority {
+            priority: replica.put(alloc, key.as_str(), bytes.as_slice())?.priority,
+        }),
+        Command::Del { key, .. } => Ok(Reply::Deleted {
+            blocks: replica.delete(alloc, key.as_str())?.blocks,
+        }),
+        Command::Begin { .. } => {
+            replica.batch_begin(alloc)?;
+            Ok(Reply::Done)
+        }
+        Command::BatchPut { key, bytes, .. } => {
+            replica.batch_put(key.as_str(), bytes.as_slice())?;
+            Ok(Reply::Done)
+        }
+        Command::BatchDel { key, .. } => {
+            replica.batch_delete(key.as_str())?;
+            Ok(Reply::Done)
+        }
+        Command::Commit { .. } => Ok(Reply::Priority {
+            priority: batch_priority(replica.batch_commit(alloc)?),
+        }),
+        Command::Get { key, .. } => Ok(Reply::Value {
+            value: replica.get(alloc, key.as_str())?,
+        }),
+        Command::Has { key, .. } => Ok(Reply::Has {
+            yes: replica.has(key.as_str())?,
+        }),
+        Command::Query {
+            prefix,
+            skip,
+            take,
+            ..
+        } => Ok(Reply::Rows {
+            rows: rows_of(alloc, replica.query(alloc, prefix.as_str(), *skip, *take)?)?,
+        }),
+        Command::Heads { .. } => Ok(Reply::Heads {
+            heads: heads_of(alloc, replica.heads(alloc)?.as_slice())?,
+        }),
+    }
+}
 
 // The reply to a call that did nothing, or not all.
 fn answer(error: CoreError) -> Result<Reply, ActError>
@@ -36,200 +102,6 @@ fn answer(error: CoreError) -> Result<Reply, ActError>
         CoreError::NoBatch => Ok(Reply::RefusedBatch),
         CoreError::BatchOpen => Ok(Reply::RefusedBatch),
         CoreError::Memory => Err(ActError::Memory),
-    }
-}
-
-pub(crate) fn put<K: Keeper>(
-    replica: &mut Replica<K>,
-    alloc: Global,
-    r: u64,
-    key: &str,
-    bytes: &[u8],
-) -> Result<Reply, ActError>
-    ensures step { Told (replica_state K.told K.fuse replica.old) (replica_state K.told K.fuse replica.new) (λ s new. IfOk result (λ reply.
-        Row (Refuses s (Put r key.now bytes.now)) (Plan s (Put r key.now bytes.now)) (Rose (K.faults replica.old.keeper) (K.faults replica.new.keeper)) (Rose (K.own replica.old.keeper) (K.own replica.new.keeper)) s new reply)) }
-    ensures cause { Counts (K.faults replica.old.keeper) (K.faults replica.new.keeper) (result ≡ Ok FaultKeeper) }
-    ensures own { K.own replica.old.keeper ≤ K.own replica.new.keeper }
-    ensures quiet { StaysQuiet (K.quiet replica.old.keeper) (K.quiet replica.new.keeper) (K.own replica.old.keeper) (K.own replica.new.keeper) }
-    ensures not_bad { IsErrOf result ActError.BadLine → ⊥ }
-{
-    match replica.put(alloc, key, bytes) {
-        Ok(written) => Ok(Reply::Priority {
-            priority: written.priority,
-        }),
-        Err(error) => answer(error),
-    }
-}
-
-pub(crate) fn delete<K: Keeper>(
-    replica: &mut Replica<K>,
-    alloc: Global,
-    r: u64,
-    key: &str,
-) -> Result<Reply, ActError>
-    ensures step { Told (replica_state K.told K.fuse replica.old) (replica_state K.told K.fuse replica.new) (λ s new. IfOk result (λ reply.
-        Row (Refuses s (Del r key.now)) (Plan s (Del r key.now)) (Rose (K.faults replica.old.keeper) (K.faults replica.new.keeper)) (Rose (K.own replica.old.keeper) (K.own replica.new.keeper)) s new reply)) }
-    ensures cause { Counts (K.faults replica.old.keeper) (K.faults replica.new.keeper) (result ≡ Ok FaultKeeper) }
-    ensures own { K.own replica.old.keeper ≤ K.own replica.new.keeper }
-    ensures quiet { StaysQuiet (K.quiet replica.old.keeper) (K.quiet replica.new.keeper) (K.own replica.old.keeper) (K.own replica.new.keeper) }
-    ensures not_bad { IsErrOf result ActError.BadLine → ⊥ }
-{
-    match replica.delete(alloc, key) {
-        Ok(deleted) => Ok(Reply::Deleted {
-            blocks: deleted.blocks,
-        }),
-        Err(error) => answer(error),
-    }
-}
-
-pub(crate) fn begin<K: Keeper>(
-    replica: &mut Replica<K>,
-    alloc: Global,
-    r: u64,
-) -> Result<Reply, ActError>
-    ensures step { Told (replica_state K.told K.fuse replica.old) (replica_state K.told K.fuse replica.new) (λ s new. IfOk result (λ reply.
-        Row (Refuses s (Begin r)) (Plan s (Begin r)) (Rose (K.faults replica.old.keeper) (K.faults replica.new.keeper)) (Rose (K.own replica.old.keeper) (K.own replica.new.keeper)) s new reply)) }
-    ensures cause { Counts (K.faults replica.old.keeper) (K.faults replica.new.keeper) (result ≡ Ok FaultKeeper) }
-    ensures own { K.own replica.old.keeper ≤ K.own replica.new.keeper }
-    ensures quiet { StaysQuiet (K.quiet replica.old.keeper) (K.quiet replica.new.keeper) (K.own replica.old.keeper) (K.own replica.new.keeper) }
-    ensures not_bad { IsErrOf result ActError.BadLine → ⊥ }
-{
-    match replica.batch_begin(alloc) {
-        Ok(()) => Ok(Reply::Done),
-        Err(error) => answer(error),
-    }
-}
-
-pub(crate) fn batch_put<K: Keeper>(
-    replica: &mut Replica<K>,
-    r: u64,
-    key: &str,
-    bytes: &[u8],
-) -> Result<Reply, ActError>
-    ensures step { Told (replica_state K.told K.fuse replica.old) (replica_state K.told K.fuse replica.new) (λ s new. IfOk result (λ reply.
-        Row (Refuses s (BatchPut r key.now bytes.now)) (Plan s (BatchPut r key.now bytes.now)) (Rose (K.faults replica.old.keeper) (K.faults replica.new.keeper)) (Rose (K.own replica.old.keeper) (K.own replica.new.keeper)) s new reply)) }
-    ensures cause { Counts (K.faults replica.old.keeper) (K.faults replica.new.keeper) (result ≡ Ok FaultKeeper) }
-    ensures own { K.own replica.old.keeper ≤ K.own replica.new.keeper }
-    ensures quiet { StaysQuiet (K.quiet replica.old.keeper) (K.quiet replica.new.keeper) (K.own replica.old.keeper) (K.own replica.new.keeper) }
-    ensures not_bad { IsErrOf result ActError.BadLine → ⊥ }
-{
-    match replica.batch_put(key, bytes) {
-        Ok(()) => Ok(Reply::Done),
-        Err(error) => answer(error),
-    }
-}
-
-pub(crate) fn batch_delete<K: Keeper>(
-    replica: &mut Replica<K>,
-    r: u64,
-    key: &str,
-) -> Result<Reply, ActError>
-    ensures step { Told (replica_state K.told K.fuse replica.old) (replica_state K.told K.fuse replica.new) (λ s new. IfOk result (λ reply.
-        Row (Refuses s (BatchDel r key.now)) (Plan s (BatchDel r key.now)) (Rose (K.faults replica.old.keeper) (K.faults replica.new.keeper)) (Rose (K.own replica.old.keeper) (K.own replica.new.keeper)) s new reply)) }
-    ensures cause { Counts (K.faults replica.old.keeper) (K.faults replica.new.keeper) (result ≡ Ok FaultKeeper) }
-    ensures own { K.own replica.old.keeper ≤ K.own replica.new.keeper }
-    ensures quiet { StaysQuiet (K.quiet replica.old.keeper) (K.quiet replica.new.keeper) (K.own replica.old.keeper) (K.own replica.new.keeper) }
-    ensures not_bad { IsErrOf result ActError.BadLine → ⊥ }
-{
-    match replica.batch_delete(key) {
-        Ok(()) => Ok(Reply::Done),
-        Err(error) => answer(error),
-    }
-}
-
-pub(crate) fn commit<K: Keeper>(
-    replica: &mut Replica<K>,
-    alloc: Global,
-    r: u64,
-) -> Result<Reply, ActError>
-    ensures step { Told (replica_state K.told K.fuse replica.old) (replica_state K.told K.fuse replica.new) (λ s new. IfOk result (λ reply.
-        Row (Refuses s (Commit r)) (Plan s (Commit r)) (Rose (K.faults replica.old.keeper) (K.faults replica.new.keeper)) (Rose (K.own replica.old.keeper) (K.own replica.new.keeper)) s new reply)) }
-    ensures cause { Counts (K.faults replica.old.keeper) (K.faults replica.new.keeper) (result ≡ Ok FaultKeeper) }
-    ensures own { K.own replica.old.keeper ≤ K.own replica.new.keeper }
-    ensures quiet { StaysQuiet (K.quiet replica.old.keeper) (K.quiet replica.new.keeper) (K.own replica.old.keeper) (K.own replica.new.keeper) }
-    ensures not_bad { IsErrOf result ActError.BadLine → ⊥ }
-{
-    match replica.batch_commit(alloc) {
-        Ok(written) => Ok(Reply::Priority {
-            priority: batch_priority(written),
-        }),
-        Err(error) => answer(error),
-    }
-}
-
-pub(crate) fn get<K: Keeper>(
-    replica: &mut Replica<K>,
-    alloc: Global,
-    r: u64,
-    key: &str,
-) -> Result<Reply, ActError>
-    ensures step { Told (replica_state K.told K.fuse replica.old) (replica_state K.told K.fuse replica.new) (λ s new. IfOk result (λ reply.
-        Row (Refuses s (Get r key.now)) (Plan s (Get r key.now)) (Rose (K.faults replica.old.keeper) (K.faults replica.new.keeper)) (Rose (K.own replica.old.keeper) (K.own replica.new.keeper)) s new reply)) }
-    ensures cause { Counts (K.faults replica.old.keeper) (K.faults replica.new.keeper) (result ≡ Ok FaultKeeper) }
-    ensures own { K.own replica.old.keeper ≤ K.own replica.new.keeper }
-    ensures quiet { StaysQuiet (K.quiet replica.old.keeper) (K.quiet replica.new.keeper) (K.own replica.old.keeper) (K.own replica.new.keeper) }
-    ensures not_bad { IsErrOf result ActError.BadLine → ⊥ }
-{
-    match replica.get(alloc, key) {
-        Ok(value) => Ok(Reply::Value { value }),
-        Err(error) => answer(error),
-    }
-}
-
-pub(crate) fn has<K: Keeper>(replica: &mut Replica<K>, r: u64, key: &str) -> Result<Reply, ActError>
-    ensures step { Told (replica_state K.told K.fuse replica.old) (replica_state K.told K.fuse replica.new) (λ s new. IfOk result (λ reply.
-        Row (Refuses s (HasKey r key.now)) (Plan s (HasKey r key.now)) (Rose (K.faults replica.old.keeper) (K.faults replica.new.keeper)) (Rose (K.own replica.old.keeper) (K.own replica.new.keeper)) s new reply)) }
-    ensures cause { Counts (K.faults replica.old.keeper) (K.faults replica.new.keeper) (result ≡ Ok FaultKeeper) }
-    ensures own { K.own replica.old.keeper ≤ K.own replica.new.keeper }
-    ensures quiet { StaysQuiet (K.quiet replica.old.keeper) (K.quiet replica.new.keeper) (K.own replica.old.keeper) (K.own replica.new.keeper) }
-    ensures not_bad { IsErrOf result ActError.BadLine → ⊥ }
-{
-    match replica.has(key) {
-        Ok(yes) => Ok(Reply::Has { yes }),
-        Err(error) => answer(error),
-    }
-}
-
-pub(crate) fn query<K: Keeper>(
-    replica: &mut Replica<K>,
-    alloc: Global,
-    r: u64,
-    prefix: &str,
-    skip: u64,
-    take: u64,
-) -> Result<Reply, ActError>
-    ensures step { Told (replica_state K.told K.fuse replica.old) (replica_state K.told K.fuse replica.new) (λ s new. IfOk result (λ reply.
-        Row (Refuses s (Query r prefix.now skip take)) (Plan s (Query r prefix.now skip take)) (Rose (K.faults replica.old.keeper) (K.faults replica.new.keeper)) (Rose (K.own replica.old.keeper) (K.own replica.new.keeper)) s new reply)) }
-    ensures cause { Counts (K.faults replica.old.keeper) (K.faults replica.new.keeper) (result ≡ Ok FaultKeeper) }
-    ensures own { K.own replica.old.keeper ≤ K.own replica.new.keeper }
-    ensures quiet { StaysQuiet (K.quiet replica.old.keeper) (K.quiet replica.new.keeper) (K.own replica.old.keeper) (K.own replica.new.keeper) }
-    ensures not_bad { IsErrOf result ActError.BadLine → ⊥ }
-{
-    match replica.query(alloc, prefix, skip, take) {
-        Ok(pairs) => Ok(Reply::Rows {
-            rows: rows_of(alloc, pairs)?,
-        }),
-        Err(error) => answer(error),
-    }
-}
-
-pub(crate) fn heads<K: Keeper>(
-    replica: &mut Replica<K>,
-    alloc: Global,
-    r: u64,
-) -> Result<Reply, ActError>
-    ensures step { Told (replica_state K.told K.fuse replica.old) (replica_state K.told K.fuse replica.new) (λ s new. IfOk result (λ reply.
-        Row (Refuses s (HeadsOf r)) (Plan s (HeadsOf r)) (Rose (K.faults replica.old.keeper) (K.faults replica.new.keeper)) (Rose (K.own replica.old.keeper) (K.own replica.new.keeper)) s new reply)) }
-    ensures cause { Counts (K.faults replica.old.keeper) (K.faults replica.new.keeper) (result ≡ Ok FaultKeeper) }
-    ensures own { K.own replica.old.keeper ≤ K.own replica.new.keeper }
-    ensures quiet { StaysQuiet (K.quiet replica.old.keeper) (K.quiet replica.new.keeper) (K.own replica.old.keeper) (K.own replica.new.keeper) }
-    ensures not_bad { IsErrOf result ActError.BadLine → ⊥ }
-{
-    match replica.heads(alloc) {
-        Ok(rows) => Ok(Reply::Heads {
-            heads: heads_of(alloc, rows.as_slice())?,
-        }),
-        Err(error) => answer(error),
     }
 }
 

@@ -6,4 +6,4 @@ pub returns-in-Err-clause-outcome : goal.returns-in-Err-clause-outcome
 returns-in-Err-clause-outcome g c = not_begun _ _ _ c.in-Err.ensures.refused _ _ _ _ (omega arith, λ calm. refl)
 
 pub returns-in-Ok-clause-outcome : goal.returns-in-Ok-clause-outcome
-returns-in-Ok-clause-outcome g c = outcome_opened _ _ _ _ _ _ _ _ _ (λ calm. still_calm _ _ _ _ c.in-Ok.ensures.quiet calm) (rw c.in-Ok.ensures.first at c.run_world.ensures.outcome)
+returns-in-Ok-clause-outcome g c = outcome_opened _ _ _ _ _ _ _ _ _ (λ calm. still_calm _ _ _ _ c.in-Ok.ensures.reads.still_quiet calm) (rw c.in-Ok.ensures.first at c.run_world.ensures.outcome)

@@ -1,0 +1,75 @@
+-- The words of what is done at a replica and in a world, at a bound `K: Keeper`.
+use Rattle.std.specs.Prelude.{◌≡◌, ◌≤◌, ⊤, ℕ, Bool, true, false, List, [], ◌∷◌, Option, Result, IfOk}
+use Rattle.mc_base.specs.Causes.{Rose}
+use Rattle.mc_base.specs.Told.{Told}
+use Rattle.mc_base.specs.declared.counted.Counted as counted
+use Rattle.mc_model.specs.Kept.{Kept}
+use Rattle.mc_keep.specs.Calls.{Members}
+use Rattle.mc_keep.specs.Causes.{StaysQuiet}
+use Rattle.mc_keep.specs.declared.fuse.Fuse.{Fuse}
+use Rattle.mc_keep.specs.declared.keeper.Keeper as keeper
+use Rattle.mc_core.specs.Events.{ReplicaState}
+use Rattle.mc_core.specs.Words.{Becomes}
+use Rattle.mc_core.specs.declared.replica.Replica.{Replica}
+use Rattle.mc_script.specs.declared.command.Command.{Command}
+use Rattle.mc_script.specs.declared.reply.Reply.{Reply}
+use Rattle.mc_app.specs.declared.acting.ActError.{ActError}
+use Rattle.mc_app.specs.declared.world.World.{World}
+use Rattle.mc_app.specs.Executes.{Executes, ExecutesPart, IsAnswered}
+use Rattle.mc_app.specs.Record.{IsCalm, NamesRisen, Recorded}
+use Rattle.mc_app.specs.Step.{ReplicaStep, Step}
+use Rattle.mc_app.specs.Worlds.{world_state}
+
+-- What every call leaves of a world: whether its keeper tells, and the desks; counts don't fall, what is quiet stays so,
+-- and where the answer is `fault keeper`, the keeper's count rose.
+pub record WorldKeepsAt {K D : Type 0} (told : K → Option Kept) (fuse : K → Option Fuse) (own faults : K → ℕ)
+    (quiet : K → Bool) (failed : Bool) (old new : World K D) : Type 0 where
+  pub tells : Told (world_state told fuse old) (world_state told fuse new) (λ _ _. ⊤)
+  pub desks_same : new.desks ≡ old.desks
+  pub own_later : own old.replica.keeper ≤ own new.replica.keeper
+  pub still_quiet : StaysQuiet (quiet old.replica.keeper) (quiet new.replica.keeper)
+      (own old.replica.keeper) (own new.replica.keeper)
+  pub later : faults old.replica.keeper ≤ faults new.replica.keeper
+  pub rose : failed ≡ true → Rose (faults old.replica.keeper) (faults new.replica.keeper)
+
+module _ {K D : Type 0} (k : Members K D) where
+  abbrev pub WorldKeeps : Bool → World K D → World K D → Type 0
+  WorldKeeps = WorldKeepsAt k.told k.fuse k.own k.faults k.quiet
+
+  -- a command is answered at its replica, where the keeper tells
+  abbrev pub Replies : Command → Result Reply ActError → Replica K D → Replica K D → Type 0
+  Replies command result old new = Becomes k (λ own s after. IfOk result (λ reply.
+      ReplicaStep s command (Rose (k.faults old.keeper) (k.faults new.keeper)) own after reply)) old new
+
+  -- what is told of a world, and whether its keeper is calm
+  abbrev pub told_of : World K D → Option (List ReplicaState)
+  told_of world = world_state k.told k.fuse world
+
+  abbrev pub Calm : World K D → Type 0
+  Calm world = IsCalm (k.quiet world.replica.keeper) (k.own world.replica.keeper)
+
+  -- a command is answered in a world, and its entry of the record names no keeper that had no part in it
+  abbrev pub Records : Command → World K D → World K D → Reply → Type 0
+  Records command old new reply = Recorded (λ entry.
+      NamesRisen k.faults k.own (old.replica.keeper ∷ []) (new.replica.keeper ∷ []) entry
+      × (Calm old → entry.own ≡ [])
+      × Told (told_of old) (told_of new) (λ w w2. Step w command entry reply w2)) old.entries new.entries
+
+  -- the same of a reply that is not yet written
+  abbrev pub AnswersIn : Command → World K D → World K D → Reply → Type 0
+  AnswersIn command old new = IsAnswered (Calm old) (told_of old) (k.faults old.replica.keeper) command
+      (told_of new) (k.faults new.replica.keeper)
+
+  -- and of a line whose reply is written, or some first bytes of it
+  abbrev pub ExecutesIn : Option (Option Command) → World K D → World K D → Option (List ℕ) → Option (List ℕ) → Type 0
+  ExecutesIn read old new = Executes (Calm old) (told_of old) (k.faults old.replica.keeper) read
+      (told_of new) (k.faults new.replica.keeper)
+
+  abbrev pub ExecutesPartIn : Option (Option Command) → World K D → World K D → Option (List ℕ) → Option (List ℕ)
+      → Type 0
+  ExecutesPartIn read old new = ExecutesPart (Calm old) (told_of old) (k.faults old.replica.keeper) read
+      (told_of new) (k.faults new.replica.keeper)
+
+-- The same of a loop over lines, in a proof file.
+abbrev pub HasKeptWorld : {K D : Type 0} → keeper.Ghosts K D → counted.Ghosts K → World K D → World K D → Type 0
+HasKeptWorld k c = WorldKeepsAt k.told k.fuse k.own c.faults k.quiet false
