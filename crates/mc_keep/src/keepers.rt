@@ -43,7 +43,8 @@ pub trait Keepers: Counted {
     /// Makes the keeper of the replica with this index, with the count 0 and no fuse.
     fn make(&mut self, alloc: Global, plan: &KeeperPlan, index: u64) -> Result<Self::K, KeepError>
         ensures told { IfOk result (λ keeper. Self.K.told keeper ≡ starts self.old plan.now index) }
-        ensures fresh { IfOk result (λ keeper. (Self.K.faults keeper ≡ 0) × (Self.K.own keeper ≡ 0) × (Self.K.fuse keeper ≡ None)) }
+        ensures fresh { IfOk result (λ keeper.
+            (Self.K.faults keeper ≡ 0) × (Self.K.own keeper ≡ 0) × (Self.K.fuse keeper ≡ None)) }
         ensures quiet { quiet self.old plan.now ≡ true → IfOk result (λ keeper. Self.K.quiet keeper ≡ true) }
         ensures same { (plan : KeeperPlan) → quiet self.new plan ≡ quiet self.old plan }
         ensures lost { lost self.new ≡ lost self.old }
@@ -52,7 +53,8 @@ pub trait Keepers: Counted {
 
     /// Takes a keeper and its desks back. It takes no memory, and does not fail.
     fn end(&mut self, keeper: Self::K, desks: List<<Self::K as Keeper>::Desk>)
-        ensures lost { lost self.new ≡ min (lost self.old + Self.K.faults keeper + sum_by Self.K.Desk.faults desks) (2 ^ 64 - 1) }
+        ensures lost { lost self.new ≡
+            min (lost self.old + Self.K.faults keeper + sum_by Self.K.Desk.faults desks) (2 ^ 64 - 1) }
         ensures same { (plan : KeeperPlan) → quiet self.new plan ≡ quiet self.old plan }
         ensures planned { schedule self.new ≡ schedule self.old }
         ensures count { Self.faults self.new ≡ Self.faults self.old };

@@ -16,28 +16,37 @@ ghost use Rattle.mc_keep.specs.Tables.{StoreFits, MarksFit, RowsFit, FrontFits, 
 /// definitions give, is the event that processes them; and one that only clears the mark is a walk's end without a gap.
 /// Each may come where the commit's needs are met, and what they leave is sound.
 pub fn commits_are_events()
-    ensures store { (kept : Kept) (changes : Changes) (run : Running) → IsKept kept → StoreFits kept changes → changes.marks ≡ [] → changes.mark ≡ None →
+    ensures store { (kept : Kept) (changes : Changes) (run : Running) → IsKept kept → StoreFits kept changes →
+        changes.marks ≡ [] → changes.mark ≡ None →
         MayRun (durable_of kept) run (Store (vertices changes.store))
         × ((runs (durable_of kept) run (Store (vertices changes.store))).durable ≡ durable_of (changed kept changes)) }
-    ensures process { (kept : Kept) (changes : Changes) (run : Running) → IsKept kept → MarksFit kept changes → changes.store ≡ [] → changes.marks ≢ [] →
+    ensures process { (kept : Kept) (changes : Changes) (run : Running) → IsKept kept → MarksFit kept changes →
+        changes.store ≡ [] → changes.marks ≢ [] →
         unwrap_or changes.mark kept.mark ≡ processed_mark run.whole (durable_of kept) (kept.order ++ changes.marks) →
         MayRun (durable_of kept) run (Process changes.marks)
         × ((runs (durable_of kept) run (Process changes.marks)).durable ≡ durable_of (changed kept changes)) }
-    ensures sound { (kept : Kept) (changes : Changes) → IsKept kept → StoreFits kept changes → MarksFit kept changes → IsKept (changed kept changes) }
+    ensures sound { (kept : Kept) (changes : Changes) → IsKept kept → StoreFits kept changes → MarksFit kept changes →
+        IsKept (changed kept changes) }
     ensures clear { (kept : Kept) (run : Running) → no_gaps (durable_of kept).graph kept.order ≡ true →
-        (runs (durable_of kept) run WalkEnd).durable ≡ durable_of (changed kept (record no_changes { mark = Some false })) }
+        (runs (durable_of kept) run WalkEnd).durable ≡
+        durable_of (changed kept (record no_changes { mark = Some false })) }
 {}
 
-/// What makes changes fit. Changes that only store good new blocks do, and leave what is processed as it was. Changes that
-/// only process stored and unprocessed blocks, with the rows and the front of these, do. After any changes that a keeper
-/// takes the processed blocks are those before, and then the new ones.
+/// What makes changes fit. Changes that only store good new blocks do, and leave what is processed as it was. Changes
+/// that only process stored and unprocessed blocks, with the rows and the front of these, do. After any changes that a
+/// keeper takes the processed blocks are those before, and then the new ones.
 pub fn changes_fit()
-    ensures store { (kept : Kept) (stored : List Stored) → StoreFits kept (record no_changes { store = stored }) → ChangesFit kept (record no_changes { store = stored }) }
-    ensures stored { (kept : Kept) (stored : List Stored) →
-        changed kept (record no_changes { store = stored }) ≡ record { graph = kept.graph ++ stored; order = kept.order; mark = kept.mark } }
-    ensures same { (kept : Kept) (stored : List Stored) → IsKept kept → processed (changed kept (record no_changes { store = stored })) ≡ processed kept }
-    ensures process { (kept : Kept) (blocks : List Block) (changes : Changes) → changes.store ≡ [] → changes.marks ≡ map (λ (block : Block). block.cid) blocks → AreNew kept blocks →
-        list_all (is_stored kept.graph) (map (λ (block : Block). block.cid) blocks) ≡ true → blocks_in kept.graph (map (λ (block : Block). block.cid) blocks) ≡ blocks →
+    ensures store { (kept : Kept) (stored : List Stored) → StoreFits kept (record no_changes { store = stored }) →
+        ChangesFit kept (record no_changes { store = stored }) }
+    ensures stored { (kept : Kept) (stored : List Stored) → changed kept (record no_changes { store = stored }) ≡
+        record { graph = kept.graph ++ stored; order = kept.order; mark = kept.mark } }
+    ensures same { (kept : Kept) (stored : List Stored) → IsKept kept →
+        processed (changed kept (record no_changes { store = stored })) ≡ processed kept }
+    ensures process { (kept : Kept) (blocks : List Block) (changes : Changes) → changes.store ≡ [] →
+        changes.marks ≡ map (λ (block : Block). block.cid) blocks → AreNew kept blocks →
+        list_all (is_stored kept.graph) (map (λ (block : Block). block.cid) blocks) ≡ true →
+        blocks_in kept.graph (map (λ (block : Block). block.cid) blocks) ≡ blocks →
         RowsFit (processed kept) blocks changes → FrontFits (processed kept) blocks changes → ChangesFit kept changes }
-    ensures processed { (kept : Kept) (changes : Changes) → IsKept kept → processed (changed kept changes) ≡ processed kept ++ newly_processed kept changes }
+    ensures processed { (kept : Kept) (changes : Changes) → IsKept kept →
+        processed (changed kept changes) ≡ processed kept ++ newly_processed kept changes }
 {}
