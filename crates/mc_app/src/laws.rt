@@ -24,15 +24,18 @@ use mc_model::{order_and_store_grow, same_blocks_same_answers};
 /// No line takes a block out of the processed ones of a replica, or changes its position; nor out of the stored ones, or
 /// changes its bytes: whatever faults came. So a block that was acknowledged stays in every later state.
 pub fn runs_only_grow()
-    ensures step { (w : List ReplicaState) (command : Asked) (entry : Entry) (reply : Said) (w2 : List ReplicaState) → Step w command entry reply w2 → OnlyGrows w w2 }
-    ensures runs { (lines : List (List ℕ)) (answers : List (Option Answer)) (old new : Option (List ReplicaState)) → Runs old lines answers new → Told old new OnlyGrows }
+    ensures step { (w : List ReplicaState) (command : Asked) (entry : Entry) (reply : Said) (w2 : List ReplicaState) →
+        Step w command entry reply w2 → OnlyGrows w w2 }
+    ensures runs { (lines : List (List ℕ)) (answers : List (Option Answer)) (old new : Option (List ReplicaState)) →
+        Runs old lines answers new → Told old new OnlyGrows }
 {
     order_and_store_grow();
 }
 
 /// A put that is answered by `ok` has processed its block, at the end of what was processed before.
 pub fn acknowledged_puts_are_processed()
-    ensures { (w : List ReplicaState) (r : ℕ) (key bytes : List ℕ) (entry : Entry) (priority : ℕ) (w2 : List ReplicaState) → Step w (Put r key bytes) entry (Priority priority) w2 →
+    ensures { (w : List ReplicaState) (r : ℕ) (key bytes : List ℕ) (entry : Entry) (priority : ℕ)
+        (w2 : List ReplicaState) → Step w (Put r key bytes) entry (Priority priority) w2 →
         HasProcessed w r (λ kept. made_cid (next_links kept) (delta_of_put kept key bytes)) w2 }
 {
     written_blocks_stand();
@@ -41,7 +44,8 @@ pub fn acknowledged_puts_are_processed()
 /// A commit of a batch that is answered by `ok` and a number that isn't 0 has processed the batch's block, at the end of
 /// what was processed before.
 pub fn acknowledged_commits_are_processed()
-    ensures { (w : List ReplicaState) (r : ℕ) (entry : Entry) (priority : ℕ) (w2 : List ReplicaState) → Step w (Commit r) entry (Priority priority) w2 → priority ≢ 0 →
+    ensures { (w : List ReplicaState) (r : ℕ) (entry : Entry) (priority : ℕ) (w2 : List ReplicaState) →
+        Step w (Commit r) entry (Priority priority) w2 → priority ≢ 0 →
         (batch : OpenBatch) × HasProcessed w r (batch_cid batch) w2 }
 {
     order_and_store_grow();
@@ -50,13 +54,15 @@ pub fn acknowledged_commits_are_processed()
 
 /// A delete that is answered by `deleted N` has processed its N blocks, at the end of what was processed before.
 pub fn acknowledged_deletes_are_processed()
-    ensures { (w : List ReplicaState) (r : ℕ) (key : List ℕ) (entry : Entry) (count : ℕ) (w2 : List ReplicaState) → Step w (Del r key) entry (Deleted count) w2 → HasDeleted w r key count w2 }
+    ensures { (w : List ReplicaState) (r : ℕ) (key : List ℕ) (entry : Entry) (count : ℕ)
+        (w2 : List ReplicaState) → Step w (Del r key) entry (Deleted count) w2 → HasDeleted w r key count w2 }
 {}
 
 /// Replicas with equal processed blocks, in whatever order, give equal answers to every command that only reads.
 pub fn equal_blocks_answer_equally()
-    ensures { (s t : ReplicaState) (command : Asked) (events others : List Event) (reply other : Said) → is_read command ≡ true →
-        SameMembers (blocks_of s.state.durable) (blocks_of t.state.durable) → Plan s command events reply → Plan t command others other → reply ≡ other }
+    ensures { (s t : ReplicaState) (command : Asked) (events others : List Event) (reply other : Said) →
+        is_read command ≡ true → SameMembers (blocks_of s.state.durable) (blocks_of t.state.durable) →
+        Plan s command events reply → Plan t command others other → reply ≡ other }
 {
     same_blocks_same_answers();
 }
@@ -64,6 +70,7 @@ pub fn equal_blocks_answer_equally()
 /// Where keepers that tell begin without a fuse, and the record of the lines names none that failed by itself, no reply is
 /// `fault keeper`. The records of a run over quiet keepers name none (`run`).
 pub fn quiet_runs_have_no_fault()
-    ensures { (starts : List (Option Kept)) (lines : List (List ℕ)) (answers : List (Option Answer)) (new : Option (List ReplicaState)) → Runs (first_state starts) lines answers new →
+    ensures { (starts : List (Option Kept)) (lines : List (List ℕ)) (answers : List (Option Answer))
+        (new : Option (List ReplicaState)) → Runs (first_state starts) lines answers new →
         is_some (first_state starts) ≡ true → own_free answers ≡ true → faults_in answers ≡ 0 }
 {}

@@ -80,16 +80,19 @@ impl LineReader {
     /// `Failed` only where the source failed before the line's end was seen.
     pub fn next_line<S: Source>(&mut self, source: &mut S) -> Result<bool, ReadError>
         ensures line { IfOk result (λ more. more ≡ true → Told (S.left source.old) (S.left source.new) (λ before after.
-            TakesLine self.new.line self.old.given self.new.given (self.old.ahead ++ before) (self.new.ahead ++ after))) }
+            TakesLine self.new.line self.old.given self.new.given
+            (self.old.ahead ++ before) (self.new.ahead ++ after))) }
         ensures moves { IfOk result (λ more. more ≡ true → self.old.given < self.new.given) }
         ensures end { IfOk result (λ more. more ≡ false → Told (S.left source.old) (S.left source.new) (λ before after.
             self.old.ahead ++ before ≡ [])) }
-        ensures too_long { IsErrOf result ReadError.TooLong → Told (S.left source.old) (S.left source.new) (λ before after.
+        ensures too_long { IsErrOf result ReadError.TooLong →
+            Told (S.left source.old) (S.left source.new) (λ before after.
             IsTooLong (script_max - self.old.given) (self.old.ahead ++ before)) }
         ensures part { IsErrOf result ReadError.Failed → Told (S.left source.old) (S.left source.new) (λ before after.
             TakesPart (self.old.ahead ++ before) after) }
         ensures told { Told (S.left source.old) (S.left source.new) (λ _ _. ⊤) }
-        ensures endless { S.endless source.old ≡ true → (S.endless source.new ≡ true) × IfOk result (λ more. more ≡ true) }
+        ensures endless { S.endless source.old ≡ true →
+            (S.endless source.new ≡ true) × IfOk result (λ more. more ≡ true) }
         ensures cause { Counts (S.faults source.old) (S.faults source.new) (IsErrOf result ReadError.Failed) }
     {
         let room = SCRIPT_MAX - self.given;
@@ -110,8 +113,10 @@ impl LineReader {
 // Moves the bytes ahead to a line, up to the line feed or all, and says whether the line has ended.
 fn take_piece(ahead: &mut BytesAhead, line: &mut Bytes, room: usize) -> Result<bool, ReadError>
     requires { length line.old ≤ line_max }
-    ensures ended { IfOk result (λ ended. ended ≡ true → EndsLine line.old line.new ahead.old ahead.new × (length line.new < room)) }
-    ensures more { IfOk result (λ ended. ended ≡ false → (line.new ≡ line.old ++ ahead.old) × NoFeed ahead.old × (ahead.new ≡ []) × (length line.new ≤ room)) }
+    ensures ended { IfOk result (λ ended. ended ≡ true →
+        EndsLine line.old line.new ahead.old ahead.new × (length line.new < room)) }
+    ensures more { IfOk result (λ ended. ended ≡ false →
+        (line.new ≡ line.old ++ ahead.old) × NoFeed ahead.old × (ahead.new ≡ []) × (length line.new ≤ room)) }
     ensures within { IfOk result (λ _. length line.new ≤ line_max) }
     ensures too_long { IsErrOf result ReadError.TooLong → NoFeed line.old → IsTooLong room (line.old ++ ahead.old) }
     ensures no_fault { IsErrOf result ReadError.Failed → ⊥ }
@@ -136,7 +141,8 @@ fn take_piece(ahead: &mut BytesAhead, line: &mut Bytes, room: usize) -> Result<b
 
 // Where the first line feed stands.
 fn feed_in(bytes: &[u8]) -> Option<usize>
-    ensures found { IfSome result (λ at. (at < length bytes.now) × NoFeed (take at bytes.now) × (bytes.now ≡ take at bytes.now ++ 10 ∷ drop (at + 1) bytes.now)) }
+    ensures found { IfSome result (λ at. (at < length bytes.now) × NoFeed (take at bytes.now)
+        × (bytes.now ≡ take at bytes.now ++ 10 ∷ drop (at + 1) bytes.now)) }
     ensures none { IfNone result (NoFeed bytes.now) }
 {
     memchr(b'\n', bytes)

@@ -17,5 +17,4 @@ pub mod PutFacts
 pub mod RefusalFacts
 pub mod ShortFacts
 pub mod TakenFacts
-pub mod TestFacts
 pub mod ValueFacts

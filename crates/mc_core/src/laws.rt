@@ -26,5 +26,6 @@ pub fn replicas_only_grow()
 pub fn written_blocks_stand()
     ensures { (kept : Kept) (links : List Cid) (delta : Delta) (s new : ReplicaState) →
         kept ≡ kept_of s.state.durable → Goes (made_events kept links delta) s new →
-        slice_get new.state.durable.order (written_of kept links delta).position ≡ Some (written_of kept links delta).cid }
+        slice_get new.state.durable.order (written_of kept links delta).position
+        ≡ Some (written_of kept links delta).cid }
 {}

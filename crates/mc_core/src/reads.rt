@@ -71,7 +71,8 @@ impl<K: Keeper> Replica<K> {
         count: u64,
     ) -> Result<List<Pair>, CoreError>
         ensures call { Answers K.Keeper (λ kept pairs.
-            map pair_of pairs ≡ answers.query (processed kept) (is_under prefix.now) skip count) result self.old self.new }
+            map pair_of pairs ≡ answers.query (processed kept) (is_under prefix.now) skip count)
+            result self.old self.new }
         ensures keeps { Continues K.Keeper (is_fault result) self.old self.new }
     {
         kept_is_durable();

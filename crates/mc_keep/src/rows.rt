@@ -28,7 +28,10 @@ pub struct ElementRow {
 impl PartialEq for ElementRow {
     ghost eq = { eq_by_cmp element_cmp };
 
-    ghost laws = { record { symm = (eq_by_cmp_equiv element_total).symm; trans = λ x y z e f. (eq_by_cmp_equiv element_total).congr x y z e ∙ f } };
+    ghost laws = { record {
+      symm = (eq_by_cmp_equiv element_total).symm;
+      trans = λ x y z e f. (eq_by_cmp_equiv element_total).congr x y z e ∙ f;
+    } };
 
     fn eq(&self, other: &ElementRow) -> bool {
         self.cmp(other).is_eq()
@@ -100,7 +103,10 @@ pub struct HeadRow {
 impl PartialEq for HeadRow {
     ghost eq = { eq_by_cmp head_row_cmp };
 
-    ghost laws = { record { symm = (eq_by_cmp_equiv head_row_total).symm; trans = λ x y z e f. (eq_by_cmp_equiv head_row_total).congr x y z e ∙ f } };
+    ghost laws = { record {
+      symm = (eq_by_cmp_equiv head_row_total).symm;
+      trans = λ x y z e f. (eq_by_cmp_equiv head_row_total).congr x y z e ∙ f;
+    } };
 
     fn eq(&self, other: &HeadRow) -> bool {
         self.cmp(other).is_eq()

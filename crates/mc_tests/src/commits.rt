@@ -4,7 +4,7 @@ ghost use Rattle.mc_model.specs.Offer.{offer};
 ghost use Rattle.std.specs.List.{list_all, list_any};
 ghost use Rattle.mc_model.specs.Ascending.{is_once};
 ghost use Rattle.mc_model.specs.Front.{same_cid, is_among};
-ghost use Rattle.mc_model.specs.Kept.{Kept, blocks_in, is_stored};
+ghost use Rattle.mc_model.specs.Kept.{block_in, blocks_in, is_stored};
 ghost use Rattle.mc_keep.specs.Causes.{IfTold};
 
 use crate::given::{empty, is_sound, process_changes, store_of};
@@ -47,7 +47,8 @@ fn read_group<K: Keeper>(
     cids: &[Cid],
 ) -> Result<List<Block>, KeepError>
     ensures blocks { IfTold (K.told keeper.old) result (λ kept blocks. blocks ≡ blocks_in kept.graph cids.now) }
-    ensures stored { OnOk result (IfSome (K.told keeper.old) (λ kept. list_all (is_stored kept.graph) cids.now ≡ true)) }
+    ensures stored { OnOk result (IfSome (K.told keeper.old) (λ kept.
+        list_all (is_stored kept.graph) cids.now ≡ true)) }
     ensures told { K.told keeper.new ≡ K.told keeper.old }
 {
     let mut blocks = List::new(alloc);
@@ -68,7 +69,7 @@ fn add<T: Drop>(list: &mut List<T>, item: T) -> Result<(), AllocError>
 }
 
 fn read_stored<K: Keeper>(keeper: &mut K, alloc: Global, cid: &Cid) -> Result<Block, KeepError>
-    ensures block { IfTold (K.told keeper.old) result (λ kept block. block ≡ Rattle.mc_model.specs.Kept.block_in kept.graph cid.now) }
+    ensures block { IfTold (K.told keeper.old) result (λ kept block. block ≡ block_in kept.graph cid.now) }
     ensures stored { OnOk result (IfSome (K.told keeper.old) (λ kept. is_stored kept.graph cid.now ≡ true)) }
     ensures told { K.told keeper.new ≡ K.told keeper.old }
 {
@@ -80,7 +81,8 @@ fn read_stored<K: Keeper>(keeper: &mut K, alloc: Global, cid: &Cid) -> Result<Bl
 
 // Whether none of the blocks is processed.
 fn none_processed<K: Keeper>(keeper: &mut K, cids: &[Cid]) -> Result<bool, KeepError>
-    ensures none { IfTold (K.told keeper.old) result (λ kept none. none ≡ true → list_any (is_among kept.order) cids.now ≡ false) }
+    ensures none { IfTold (K.told keeper.old) result (λ kept none.
+        none ≡ true → list_any (is_among kept.order) cids.now ≡ false) }
     ensures told { K.told keeper.new ≡ K.told keeper.old }
 {
     for cid in cids {

@@ -68,7 +68,8 @@ pub fn process_changes<K: Keeper>(
 
 /// The changes that store these bytes.
 pub fn store_of(alloc: Global, cid: Cid, bytes: Bytes) -> Result<Changes, AllocError>
-    ensures { IfOk result (λ changes. changes ≡ record no_changes { store = record { cid = cid; bytes = bytes } ∷ [] }) }
+    ensures { IfOk result (λ changes.
+        changes ≡ record no_changes { store = record { cid = cid; bytes = bytes } ∷ [] }) }
 {
     let mut changes = Changes::new(alloc);
     changes.store.push(Stored { cid, bytes })?;

@@ -35,7 +35,8 @@ fn an_empty_keeper_has_no_keys(rt: HostRuntime) -> Result<(), Fail> {
     Ok(())
 }
 
-// Whether the calls fail where the keeper does: at its first three reads. No row is asked for where none is to be given.
+// Whether the calls fail where the keeper does: at its first three reads. No row is asked for where none is to be
+// given.
 fn fails_thrice<K: Keeper + Drop>(keeper: K, alloc: Global) -> Result<bool, KeepError> {
     let mut keeper = keeper;
     Ok(
@@ -67,8 +68,8 @@ fn four_keys(alloc: Global, left: u64) -> Result<HandMade, AllocError> {
     Ok(HandMade::of_values(alloc, rows, left))
 }
 
-// A prefix, how many keys are passed over and how many taken at most, the keys and values that are given, and how many rows
-// are asked for.
+// A prefix, how many keys are passed over and how many taken at most, the keys and values that are given, and how many
+// rows are asked for.
 #[derive(Drop)]
 struct Case {
     prefix: &'static str,

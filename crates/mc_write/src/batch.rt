@@ -34,9 +34,13 @@ impl Model for Batch {
 
     ghost Value = { OpenBatch };
 
-    ghost view = { λ batch. record { elements = elements_in batch.elements.entries; pairs = deleted_in batch.dropped.entries } };
+    ghost view = { λ batch. record {
+      elements = elements_in batch.elements.entries;
+      pairs = deleted_in batch.dropped.entries;
+    } };
 
-    ghost invariant = { λ batch. IsOrdered string_cmp batch.elements × IsOrdered string_cmp batch.dropped × AreHeld batch.dropped.entries };
+    ghost invariant = { λ batch.
+        IsOrdered string_cmp batch.elements × IsOrdered string_cmp batch.dropped × AreHeld batch.dropped.entries };
 }
 
 impl Batch {

@@ -30,9 +30,11 @@ pub fn delete_deltas<K: Keeper>(
     key: &Key<'_>,
 ) -> Result<List<Delta>, WriteError>
     ensures cuts { IfTold (K.told keeper.old) result (λ kept deltas.
-        IsCuts (head_cids (processed kept)) (next_priority (processed kept)) key.now (pairs (processed kept) key.now) deltas) }
+        IsCuts (head_cids (processed kept)) (next_priority (processed kept)) key.now
+        (pairs (processed kept) key.now) deltas) }
     ensures refused { IfSome (K.told keeper.old) (λ kept. IfErr result (λ error.
-        CutsRefused (head_cids (processed kept)) (next_priority (processed kept)) key.now (pairs (processed kept) key.now) error)) }
+        CutsRefused (head_cids (processed kept)) (next_priority (processed kept)) key.now
+        (pairs (processed kept) key.now) error)) }
     ensures reads { Reads K.Keeper (is_fault result) keeper.old keeper.new }
 {
     let pairs = seen_pairs(keeper, alloc, key.as_str())?;

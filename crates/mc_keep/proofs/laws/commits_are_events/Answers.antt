@@ -1,4 +1,4 @@
-use Rattle.std.proofs.Common.{◌≡◌, true, false, List, [], ◌++◌, Some, sym, ap, ◌∙◌, subst, cond, Bool}
+use Rattle.std.proofs.Common.{◌≡◌, true, false, List, [], ◌++◌, sym, ap, ◌∙◌, subst, cond, Bool}
 use Rattle.std.specs.List.{list_all}
 use Rattle.std.specs.Prelude.{unwrap_or}
 use Rattle.std.proofs.lemmas.List.{append-nil}
