@@ -8,8 +8,8 @@ use Rattle.mc_app.specs.Lines.{lines_of, line_max, script_max, IsTooLong}
 use Rattle.mc_app.specs.Runs.{Answer, Runs}
 use Rattle.mc_app.specs.Step.{has_replica}
 
--- the first lines of a script, which keep the limits, with their answers and what is told of the world after them; `May`
--- says what may be answered
+-- the first lines of a script, which keep the limits, with their answers and what is told of the world after them;
+-- `May` says what may be answered
 pub record Progress (script : List ℕ) (start : Option (List ReplicaState)) (May : List (Option Answer) → Type 0)
     : Type 0 where
   pub taken : List ℕ

@@ -20,8 +20,8 @@ use Rattle.mc_app.specs.Record.{IsCalm, NamesRisen, Recorded}
 use Rattle.mc_app.specs.Step.{ReplicaStep, Step}
 use Rattle.mc_app.specs.Worlds.{world_state}
 
--- What every call leaves of a world: whether its keeper tells, and the desks; counts don't fall, what is quiet stays so,
--- and where the answer is `fault keeper`, the keeper's count rose.
+-- What every call leaves of a world: whether its keeper tells, and the desks; counts don't fall, what is quiet stays
+-- so, and where the answer is `fault keeper`, the keeper's count rose.
 pub record WorldKeepsAt {K D : Type 0} (told : K → Option Kept) (fuse : K → Option Fuse) (own faults : K → ℕ)
     (quiet : K → Bool) (failed : Bool) (old new : World K D) : Type 0 where
   pub tells : Told (world_state told fuse old) (world_state told fuse new) (λ _ _. ⊤)

@@ -49,9 +49,9 @@ impl From<AllocError> for ExecuteError {
     }
 }
 
-/// Executes a line, and writes its reply. `Bad` comes exactly where the line is no command or names a replica that isn't
-/// there, and then nothing is written and nothing changes. `Failed` comes only where the sink failed, and then some first
-/// bytes of the reply are written.
+/// Executes a line, and writes its reply. `Bad` comes exactly where the line is no command or names a replica that
+/// isn't there, and then nothing is written and nothing changes. `Failed` comes only where the sink failed, and then
+/// some first bytes of the reply are written.
 pub fn execute_line<K: Keeper, O: Sink>(
     alloc: Global,
     world: &mut World<K>,

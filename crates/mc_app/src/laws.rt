@@ -21,8 +21,8 @@ ghost use Rattle.mc_app.specs.Worlds.{first_state};
 use mc_core::written_blocks_stand;
 use mc_model::{order_and_store_grow, same_blocks_same_answers};
 
-/// No line takes a block out of the processed ones of a replica, or changes its position; nor out of the stored ones, or
-/// changes its bytes: whatever faults came. So a block that was acknowledged stays in every later state.
+/// No line takes a block out of the processed ones of a replica, or changes its position; nor out of the stored ones,
+/// or changes its bytes: whatever faults came. So a block that was acknowledged stays in every later state.
 pub fn runs_only_grow()
     ensures step { (w : List ReplicaState) (command : Asked) (entry : Entry) (reply : Said) (w2 : List ReplicaState) →
         Step w command entry reply w2 → OnlyGrows w w2 }
@@ -41,8 +41,8 @@ pub fn acknowledged_puts_are_processed()
     written_blocks_stand();
 }
 
-/// A commit of a batch that is answered by `ok` and a number that isn't 0 has processed the batch's block, at the end of
-/// what was processed before.
+/// A commit of a batch that is answered by `ok` and a number that isn't 0 has processed the batch's block, at the end
+/// of what was processed before.
 pub fn acknowledged_commits_are_processed()
     ensures { (w : List ReplicaState) (r : ℕ) (entry : Entry) (priority : ℕ) (w2 : List ReplicaState) →
         Step w (Commit r) entry (Priority priority) w2 → priority ≢ 0 →
@@ -67,8 +67,8 @@ pub fn equal_blocks_answer_equally()
     same_blocks_same_answers();
 }
 
-/// Where keepers that tell begin without a fuse, and the record of the lines names none that failed by itself, no reply is
-/// `fault keeper`. The records of a run over quiet keepers name none (`run`).
+/// Where keepers that tell begin without a fuse, and the record of the lines names none that failed by itself, no reply
+/// is `fault keeper`. The records of a run over quiet keepers name none (`run`).
 pub fn quiet_runs_have_no_fault()
     ensures { (starts : List (Option Kept)) (lines : List (List ℕ)) (answers : List (Option Answer))
         (new : Option (List ReplicaState)) → Runs (first_state starts) lines answers new →
