@@ -86,8 +86,8 @@ impl<K: Keeper> Replica<K> {
 
     /// Makes one block of the open batch, over the heads, stores it unless it is stored, processes it, and closes the
     /// batch. An empty batch is closed without a block. All memory is taken before the first commit. Refusals in their
-    /// order: `Stopped`, `NoBatch`, `PriorityFull`, `BlockTooLarge`, `Clash`; these and `Memory` leave the batch open and
-    /// the replica as it was.
+    /// order: `Stopped`, `NoBatch`, `PriorityFull`, `BlockTooLarge`, `Clash`; these and `Memory` leave the batch open
+    /// and the replica as it was.
     pub fn batch_commit(&mut self, alloc: Global) -> Result<Option<Written>, CoreError>
         ensures call { Acts K.Keeper (λ s. Is (commit_refusal s)) CommitPlan Stays result self.old self.new }
         ensures keeps { Continues K.Keeper (is_fault result) self.old self.new }

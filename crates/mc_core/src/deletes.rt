@@ -42,11 +42,11 @@ pub(crate) struct MadeBlock {
 }
 
 impl<K: Keeper> Replica<K> {
-    /// Makes blocks with tombstones for all live elements of a key, stores each unless it is stored, and processes it, one
-    /// after another. The first links to the heads, each later one to the one before. All are made, and each is looked at
-    /// for a clash, before the first commit. Refusals in their order: `Stopped`, `BadKey`, `PriorityFull`,
-    /// `BlockTooLarge`, `Clash`; these leave the replica as it was. After `Memory` some first blocks, but not all, may have
-    /// been processed, and the key has the value that it had.
+    /// Makes blocks with tombstones for all live elements of a key, stores each unless it is stored, and processes it,
+    /// one after another. The first links to the heads, each later one to the one before. All are made, and each is
+    /// looked at for a clash, before the first commit. Refusals in their order: `Stopped`, `BadKey`, `PriorityFull`,
+    /// `BlockTooLarge`, `Clash`; these leave the replica as it was. After `Memory` some first blocks, but not all, may
+    /// have been processed, and the key has the value that it had.
     pub fn delete(&mut self, alloc: Global, key: &str) -> Result<Deleted, CoreError>
         ensures call { Acts K.Keeper (λ s. DeleteRefusal s key.now) (λ s. DeletePlan s key.now)
             (λ s. DeleteShort s key.now) result self.old self.new }

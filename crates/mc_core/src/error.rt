@@ -9,8 +9,8 @@ use mc_write::WriteError;
 use std::alloc::AllocError;
 use thiserror::Error;
 
-/// Why a call of a replica did nothing, or not all. After `KeeperFault` the replica has stopped; after every other one it
-/// is as it was, unless the call says more.
+/// Why a call of a replica did nothing, or not all. After `KeeperFault` the replica has stopped; after every other one
+/// it is as it was, unless the call says more.
 #[derive(Clone, Copy, Debug, PartialEq, Eq, Error)]
 pub enum CoreError {
     /// The key breaks the key rule, by this fault first.

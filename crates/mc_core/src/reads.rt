@@ -21,7 +21,8 @@ use mc_query::Pair;
 use std::alloc::Global;
 
 impl<K: Keeper> Replica<K> {
-    /// The value of a key over the processed blocks, or none where it has none. The key is any text. Refusals: `Stopped`.
+    /// The value of a key over the processed blocks, or none where it has none. The key is any text. Refusals:
+    /// `Stopped`.
     pub fn get(&mut self, alloc: Global, key: &str) -> Result<Option<Bytes>, CoreError>
         ensures call { Answers K.Keeper (λ kept found.
             found ≡ value (processed kept) key.now) result self.old self.new }
@@ -61,8 +62,8 @@ impl<K: Keeper> Replica<K> {
         }
     }
 
-    /// The keys with a value that a prefix selects, ascending by their bytes, each with its value: those after the first
-    /// `skip` of them, and at most `count`. Refusals: `Stopped`.
+    /// The keys with a value that a prefix selects, ascending by their bytes, each with its value: those after the
+    /// first `skip` of them, and at most `count`. Refusals: `Stopped`.
     pub fn query(
         &mut self,
         alloc: Global,

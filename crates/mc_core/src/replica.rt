@@ -10,8 +10,8 @@ use mc_keep::Keeper;
 use mc_write::Batch;
 
 /// One replica over its keeper: the stored blocks, the order of the processed ones and the dirty mark are the keeper's;
-/// what is lost at a stop is the replica's. What it does is a list of events of the replica; where the keeper fails, these
-/// are cut short, and the replica has stopped.
+/// what is lost at a stop is the replica's. What it does is a list of events of the replica; where the keeper fails,
+/// these are cut short, and the replica has stopped.
 #[derive(Drop)]
 pub struct Replica<K: Keeper> {
     pub(crate) keeper: K,

@@ -17,8 +17,8 @@ use std::alloc::{AllocError, Global};
 use std::collections::BTreeMap;
 use std::marker::Model;
 
-/// Puts and deletes that become one block. It has at most one element of a key; a contract sees it as an open batch: the
-/// elements, ascending by the key, and the deleted keys with the blocks that had live elements of them, ascending.
+/// Puts and deletes that become one block. It has at most one element of a key; a contract sees it as an open batch:
+/// the elements, ascending by the key, and the deleted keys with the blocks that had live elements of them, ascending.
 #[derive(Drop)]
 pub struct Batch {
     alloc: Global,
@@ -65,8 +65,8 @@ impl Batch {
         put_element(&mut self.elements, name, value)
     }
 
-    /// Drops the batch's element of the key, and adds the blocks with a live element of it that a delete would take now. A
-    /// refusal leaves the batch unchanged.
+    /// Drops the batch's element of the key, and adds the blocks with a live element of it that a delete would take
+    /// now. A refusal leaves the batch unchanged.
     pub fn delete<K: Keeper>(&mut self, key: &Key<'_>, keeper: &mut K) -> Result<(), KeepError>
         ensures ok { OnOk result (IfSome (K.told keeper.old) (λ kept.
             self.new ≡ batch_delete key.now (pairs (processed kept) key.now) self.old)) }

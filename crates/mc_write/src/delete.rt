@@ -19,11 +19,11 @@ use mc_model::Delta;
 use std::alloc::Global;
 
 /// The deltas of a delete of the key: tombstones for the processed blocks with a live element of it, cut so that each
-/// block has as many as it has room for. The first block links to the heads, each later one to the block before alone, and
-/// the priorities ascend by one. No deltas where no element is live, whatever the heads are.
+/// block has as many as it has room for. The first block links to the heads, each later one to the block before alone,
+/// and the priorities ascend by one. No deltas where no element is live, whatever the heads are.
 ///
-/// `PriorityFull` where a priority would pass `u64::MAX`; `BlockTooLarge` where a priority is left for the first block, and
-/// it is too large with one tombstone already. Nothing is changed.
+/// `PriorityFull` where a priority would pass `u64::MAX`; `BlockTooLarge` where a priority is left for the first block,
+/// and it is too large with one tombstone already. Nothing is changed.
 pub fn delete_deltas<K: Keeper>(
     keeper: &mut K,
     alloc: Global,

@@ -29,7 +29,10 @@ pub(crate) struct Pair {
 impl PartialEq for Pair {
     ghost eq = { eq_by_cmp own_cmp };
 
-    ghost laws = { record { symm = (eq_by_cmp_equiv own_total).symm; trans = λ x y z e f. (eq_by_cmp_equiv own_total).congr x y z e ∙ f } };
+    ghost laws = { record {
+      symm = (eq_by_cmp_equiv own_total).symm;
+      trans = λ x y z e f. (eq_by_cmp_equiv own_total).congr x y z e ∙ f;
+    } };
 
     fn eq(&self, other: &Pair) -> bool {
         self.cmp(other).is_eq()
