@@ -6,6 +6,7 @@ use Rattle.mc_model.specs.declared.block.Block.{Block}
 use Rattle.mc_model.specs.Ascending.{is_once}
 use Rattle.mc_model.specs.Front.{same_cid, is_among, is_processed}
 use Rattle.mc_model.specs.Kept.{Kept, nothing_kept}
+use Rattle.mc_model.proofs.Members.{none_passes}
 use Rattle.mc_keep.specs.New.{AreNew}
 use Rattle.mc_front.proofs.Heights.{cids_of, among_cids}
 
@@ -15,10 +16,6 @@ once_cids (b ∷ blocks) =
     ap (λ t. not t && is_once same_cid (cids_of blocks)) (among_cids b.cid blocks)
     ∙ ap (λ t. not (is_processed blocks b.cid) && t) (once_cids blocks)
 
-none_among : (cids : List Cid) → list_any (is_among []) cids ≡ false
-none_among [] = refl
-none_among (c ∷ cids) = none_among cids
-
 pub first_group : (kept : Kept) (blocks : List Block) → kept ≡ nothing_kept → is_once (λ (a b : Block). same_cid a.cid b.cid) blocks ≡ true → AreNew kept blocks
 first_group kept blocks e once =
-    subst (λ (z : Kept). AreNew z blocks) (sym e) (once_cids blocks ∙ once, none_among (cids_of blocks))
+    subst (λ (z : Kept). AreNew z blocks) (sym e) (once_cids blocks ∙ once, none_passes (cids_of blocks))
