@@ -6,7 +6,7 @@ use Rattle.mc_keep_mem.specs.Fits.{kept_in}
 use Rattle.mc_tests.proofs.FirstGroup.{first_group}
 use Rattle.mc_tests.proofs.front.changes_of.Goals as goal
 
-pub changes_in-requires-clause-new : goal.changes_in-requires-clause-new
-changes_in-requires-clause-new c κs =
+pub changes_in-requires : goal.changes_in-requires
+changes_in-requires c =
     let once : is_once (λ (a b : Block). same_cid a.cid b.cid) c.args.blocks.now ≡ true = cc in
-    first_group (kept_in c.in_ok-keeper.keeper.store.tables) c.args.blocks.now c.in_ok-keeper.ensures.told once
+    record { new = first_group (kept_in c.in_ok-keeper.keeper.store.tables) c.args.blocks.now c.in_ok-keeper.ensures once }
