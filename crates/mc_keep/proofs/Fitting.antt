@@ -1,5 +1,6 @@
--- Changes that only store and changes that only process fit.
-use Rattle.std.proofs.Common.{◌≡◌, true, List, [], ◌++◌, map, sym, refl, ap, subst, ◌∙◌}
+-- Changes that only store, changes of the mark alone and changes that only process fit.
+use Rattle.std.proofs.Common.{◌≡◌, Bool, true, List, [], ◌++◌, map, Option, unwrap_or, sym, refl, ap, subst, ◌∙◌}
+use Rattle.std.specs.Prelude.{None}
 use Rattle.std.specs.List.{list_any, list_all}
 use Rattle.std.proofs.lemmas.List.{append-nil}
 use Rattle.std.proofs.Math.Bool.{or-false}
@@ -20,10 +21,16 @@ use Rattle.mc_keep.proofs.Processed.{processed_after}
 abbrev storing : List Stored → Changes
 storing blocks = record no_changes { store = blocks }
 
+abbrev marking : Option Bool → Changes
+marking mark = record no_changes { mark = mark }
+
+abbrev storing_marking : List Stored → Option Bool → Changes
+storing_marking blocks mark = record no_changes { store = blocks; mark = mark }
+
 -- nothing is processed, and no row changes
 
-no_rows : (blocks : List Block) (stored : List Stored) → RowsFit blocks [] (storing stored)
-no_rows blocks stored = record {
+no_rows : (blocks : List Block) (stored : List Stored) (mark : Option Bool) → RowsFit blocks [] (storing_marking stored mark)
+no_rows blocks stored mark = record {
   elements = record { same = λ test. refl };
   elements_once = refl;
   tombs = λ key id. ap (λ b. has_tomb b key id) (append-nil blocks) ∙ sym (or-false (has_tomb blocks key id));
@@ -34,8 +41,8 @@ no_rows blocks stored = record {
   values_once = refl;
 }
 
-no_front : (blocks : List Block) (stored : List Stored) → FrontFits blocks [] (storing stored)
-no_front blocks stored = record {
+no_front : (blocks : List Block) (stored : List Stored) (mark : Option Bool) → FrontFits blocks [] (storing_marking stored mark)
+no_front blocks stored mark = record {
   links = λ cid. ap (λ b. is_linked b cid) (append-nil blocks) ∙ sym (or-false (is_linked blocks cid));
   links_new = refl;
   links_once = refl;
@@ -43,9 +50,21 @@ no_front blocks stored = record {
   heads_once = refl;
 }
 
+stores_or_marks : (kept : Kept) (stored : List Stored) (mark : Option Bool) → StoreFits kept (storing_marking stored mark) → ChangesFit kept (storing_marking stored mark)
+stores_or_marks kept stored mark fits =
+    record { store = fits; marks = record { stored = refl; new = refl; once = refl }; rows = no_rows (processed kept) stored mark; front = no_front (processed kept) stored mark }
+
 pub store_fits : (kept : Kept) (stored : List Stored) → StoreFits kept (storing stored) → ChangesFit kept (storing stored)
-store_fits kept stored fits =
-    record { store = fits; marks = record { stored = refl; new = refl; once = refl }; rows = no_rows (processed kept) stored; front = no_front (processed kept) stored }
+store_fits kept stored fits = stores_or_marks kept stored None fits
+
+pub mark_fits : (kept : Kept) (mark : Option Bool) → ChangesFit kept (marking mark)
+mark_fits kept mark = stores_or_marks kept [] mark (record { good = refl; new = refl; once = refl })
+
+pub marked_after : (kept : Kept) (mark : Option Bool) → changed kept (marking mark) ≡ record { graph = kept.graph; order = kept.order; mark = unwrap_or mark kept.mark }
+marked_after kept mark = λ i. record { graph = append-nil kept.graph i; order = append-nil kept.order i; mark = unwrap_or mark kept.mark }
+
+pub mark_processes_nothing : (kept : Kept) (mark : Option Bool) → IsKept kept → processed (changed kept (marking mark)) ≡ processed kept
+mark_processes_nothing kept mark sound = processed_after kept (marking mark) sound ∙ append-nil (processed kept)
 
 pub stored_after : (kept : Kept) (stored : List Stored) → changed kept (storing stored) ≡ record { graph = kept.graph ++ stored; order = kept.order; mark = kept.mark }
 stored_after kept stored = λ i. record { graph = kept.graph ++ stored; order = append-nil kept.order i; mark = kept.mark }

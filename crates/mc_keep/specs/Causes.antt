@@ -1,9 +1,7 @@
 -- When a call of a keeper may answer Failed, what a commit that fails leaves, and what a fuse does to it.
-use Rattle.std.specs.Prelude.{◌≡◌, ◌⊎◌, ⊤, ℕ, ◌-◌, ◌≤◌, nat_lt, Bool, true, false, Option, Some, None, Result, Ok, Err, IfSome, IfOk, if◌then◌else◌}
+use Rattle.std.specs.Prelude.{◌≡◌, ◌⊎◌, ℕ, ◌-◌, ◌≤◌, nat_lt, Bool, true, false, Option, Some, None, Result, Ok, Err, IfSome, IfOk, if◌then◌else◌}
 use Rattle.mc_base.specs.Causes.{Rose}
 use Rattle.mc_model.specs.Kept.{Kept}
-use Rattle.mc_keep.specs.declared.error.KeepError.{KeepError}
-use Rattle.mc_keep.specs.declared.error.KeepError.TheVariants.{Failed, Memory}
 use Rattle.mc_keep.specs.declared.fuse.Fuse.{Fuse}
 
 -- what an answer that is no Ok means: nothing was done, for a cause of the caller's or of the content; the keeper
@@ -27,16 +25,11 @@ fails kind (Err error) = is_fault_kind (kind error)
 abbrev pub IfTold : {T E : Type 0} → Option Kept → Result T E → (Kept → T → Type 0) → Type 0
 IfTold told result P = IfSome told (λ kept. IfOk result (λ value. P kept value))
 
--- what holds where a keeper answers Failed
-abbrev pub OnFailed : {T : Type 0} → Result T KeepError → Type 0 → Type 0
-OnFailed (Ok value) P = ⊤
-OnFailed (Err Failed) P = P
-OnFailed (Err Memory) P = ⊤
-
--- a count never falls, and has risen where the keeper failed
-pub record KeepCause {T : Type 0} (before now : ℕ) (result : Result T KeepError) : Type 0 where
+-- a count of faults over a call: it never falls, stands still where the call did not fail, and rose where it did
+pub record CountGoes (failed : Bool) (before now : ℕ) : Type 0 where
   pub later : before ≤ now
-  pub failed : OnFailed result (Rose before now)
+  pub still : failed ≡ false → now ≡ before
+  pub rose : failed ≡ true → Rose before now
 
 -- what is quiet stays so, and counts nothing
 abbrev pub StaysQuiet : Bool → Bool → ℕ → ℕ → Type 0
@@ -46,6 +39,12 @@ StaysQuiet quiet_before quiet_now before now = quiet_before ≡ true → (quiet_
 abbrev pub burnt : Option Fuse → Option Fuse
 burnt None = None
 burnt (Some fuse) = if nat_lt 1 fuse.commit then Some (record { commit = fuse.commit - 1; after = fuse.after }) else None
+
+-- whether a fuse made a commit fail between two moments
+abbrev pub has_fired : Option Fuse → Option Fuse → Bool
+has_fired None new = false
+has_fired (Some old) None = true
+has_fired (Some old) (Some new) = false
 
 -- whether the next commit fails by the fuse, and then whether after its effect
 abbrev pub fires : Option Fuse → Option Bool

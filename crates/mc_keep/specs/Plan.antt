@@ -1,5 +1,5 @@
 -- Planned faults: which calls of a keeper, of its desks and of who makes keepers fail, where that is known.
-use Rattle.std.specs.Prelude.{◌≡◌, ⊤, ℕ, ◌+◌, ◌-◌, ◌^◌, min, nat_eq, Bool, true, false, ◌||◌, List, [], ◌∷◌, drop, slice_get, Option, Some, None, unwrap_or, Result, Ok, Err, IfOk, if◌then◌else◌}
+use Rattle.std.specs.Prelude.{◌≡◌, ⊤, ℕ, ◌+◌, ◌-◌, ◌^◌, ◌<◌, ◌≤◌, min, nat_eq, Bool, true, false, ◌||◌, List, [], ◌∷◌, drop, slice_get, Option, Some, None, unwrap_or, Result, Ok, Err, IfOk, if◌then◌else◌}
 use Rattle.std.specs.Result.{is_ok}
 use Rattle.std.specs.List.{list_any}
 use Rattle.mc_model.specs.Kept.{Kept}
@@ -50,6 +50,41 @@ ReadsAsPlanned None new failed = ⊤
 ReadsAsPlanned (Some old) new failed =
     (new ≡ Some (record old { reads_made = next_number old.reads_made })) × (failed ≡ is_planned old.reads (next_number old.reads_made))
 
+-- of the calls after so many, up to this number, the last one was planned to fail where it did, and no other one was
+pub record AreMade (is_planned_at : ℕ → Bool) (before now : ℕ) (failed : Bool) : Type 0 where
+  pub last_is : failed ≡ true → is_planned_at now ≡ true
+  pub others : (number : ℕ) → before < number → number ≤ now → (failed ≡ true → number < now) → is_planned_at number ≡ false
+
+-- reads were made, of which the last one alone may have failed; nothing else of the schedule is another
+pub record ReadsGoOn (old : Schedule) (new : Option Schedule) (failed : Bool) : Type 0 where
+  pub made : ℕ
+  pub counted : new ≡ Some (record old { reads_made = made })
+  pub planned : AreMade (is_planned old.reads) old.reads_made made failed
+
+-- the same where a schedule is known
+abbrev pub ReadsGo : Option Schedule → Option Schedule → Bool → Type 0
+ReadsGo None new failed = ⊤
+ReadsGo (Some old) new failed = ReadsGoOn old new failed
+
+-- whether a commit of this number is planned to fail, before its effect or after it
+abbrev pub is_planned_commit : Schedule → ℕ → Bool
+is_planned_commit schedule number = is_planned schedule.before number || is_planned schedule.after number
+
+-- reads and commits were made, of which only the last call may have failed
+pub record CallsGoOn (old : Schedule) (new : Option Schedule) (failed : Bool) : Type 0 where
+  pub reads_made : ℕ
+  pub commits_made : ℕ
+  pub read_failed : Bool
+  pub commit_failed : Bool
+  pub counted : new ≡ Some (record old { reads_made = reads_made; commits_made = commits_made })
+  pub one_failed : failed ≡ (read_failed || commit_failed)
+  pub reads_planned : AreMade (is_planned old.reads) old.reads_made reads_made read_failed
+  pub commits_planned : AreMade (is_planned_commit old) old.commits_made commits_made commit_failed
+
+abbrev pub CallsGo : Option Schedule → Option Schedule → Bool → Type 0
+CallsGo None new failed = ⊤
+CallsGo (Some old) new failed = CallsGoOn old new failed
+
 -- the plan of the next desk: nothing where none is left
 abbrev pub first_plan : List (List ℕ) → List ℕ
 first_plan [] = []
@@ -58,6 +93,11 @@ first_plan (plan ∷ plans) = plan
 -- what is planned once a desk was asked for: it counts as one read, and a desk that is made takes the first plan
 abbrev pub with_desk : Bool → Schedule → Schedule
 with_desk made old = record old { reads_made = next_number old.reads_made; desks = if made then drop 1 old.desks else old.desks }
+
+-- a schedule without its plans of desks: what a call that makes a desk leaves, apart from these
+abbrev pub without_desks : Option Schedule → Option Schedule
+without_desks None = None
+without_desks (Some schedule) = Some (record schedule { desks = [] })
 
 -- the same of a call that makes a desk, which has the first of the plans left
 abbrev pub DeskAsPlanned : {D : Type 0} → (D → Option DeskSchedule) → Option Schedule → Option Schedule → Result D KeepError → Type 0

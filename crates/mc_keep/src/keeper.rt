@@ -1,5 +1,5 @@
 // Where the blocks of a replica and their rows are kept.
-ghost use Rattle.std.specs.Prelude.{◌≡◌, ◌≤◌, ℕ, Bool, Option, None, true, IfSome, IfOk, OnOk, OnErr, is_some, slice_get};
+ghost use Rattle.std.specs.Prelude.{◌≡◌, ◌≤◌, ℕ, Bool, Option, None, true, false, IfSome, IfOk, OnOk, OnErr, is_some, slice_get};
 ghost use Rattle.std.specs.Result.{is_err};
 ghost use Rattle.std.specs.Option.{option_map};
 ghost use Rattle.std.specs.List.{position};
@@ -9,13 +9,22 @@ ghost use Rattle.mc_model.specs.Ascending.{Ascends};
 ghost use Rattle.mc_model.specs.Live.{has_tomb, value_row};
 ghost use Rattle.mc_model.specs.Front.{same_cid, is_linked, heads};
 ghost use Rattle.mc_model.specs.Kept.{Kept, IsKept, processed, bytes_at, is_stored};
-ghost use Rattle.mc_keep.specs.Causes.{IfTold, KeepCause, StaysQuiet, fires, CommitFails};
+ghost use Rattle.mc_keep.specs.Causes.{IfTold, CountGoes, fires, CommitFails};
 ghost use Rattle.mc_keep.specs.Frame.{ReadsAt, ReservesAt, CommitsAt};
 ghost use Rattle.mc_keep.specs.Changes.{row_count, changed, heads_in_rows};
 ghost use Rattle.mc_keep.specs.Next.{IsNext};
 ghost use Rattle.mc_keep.specs.ElementOrder.{element_cmp};
 ghost use Rattle.mc_keep.specs.Live.{IsHolder};
-ghost use Rattle.mc_keep.specs.Plan.{Schedule, DeskSchedule, ReadsAsPlanned, DeskAsPlanned, DeskReadsAsPlanned, CommitsAsPlanned, is_fault};
+ghost use Rattle.mc_keep.specs.Plan.{
+  Schedule,
+  DeskSchedule,
+  ReadsAsPlanned,
+  DeskAsPlanned,
+  DeskReadsAsPlanned,
+  CommitsAsPlanned,
+  is_fault,
+  without_desks,
+};
 ghost use Rattle.mc_keep.specs.Tables.{ChangesFit, IsSummary, IsSmall, IsValueRow, element_rows_of};
 
 use crate::{Changes, ElementRow, HeadRow, KeepError, Summary, ValueRow};
@@ -27,8 +36,8 @@ use std::sync::Wait;
 ///
 /// A keeper that tells stands for the stored blocks, the order of the processed ones, and the dirty mark; its tables
 /// are then exactly those that the definitions give for these. A keeper that does not tell owes no content, and never
-/// tells. No call but `commit` changes what is told, also where it fails. `Failed` comes only where the keeper's count
-/// rose in the call.
+/// tells. No call but `commit` changes what is told, also where it fails. The keeper's count rises exactly in the calls
+/// that answer `Failed`, until it stands at its last value.
 pub trait Keeper: Counted {
     ghost use Rattle.mc_keep.specs.declared.fuse.Fuse.{Fuse};
 
@@ -67,11 +76,12 @@ pub trait Keeper: Counted {
     fn desk(&mut self, alloc: Global) -> Result<Self::Desk, KeepError>
         ensures fresh { IfOk result (λ desk. Self.Desk.faults desk ≡ 0) }
         ensures quiet_desk { quiet self.old ≡ true → IfOk result (λ desk. quiet_desk desk ≡ true) }
-        ensures reads { ReadsAt told fuse spare own Self.faults quiet (is_fault result) self.old self.new }
+        ensures reads { ReadsAt told fuse spare own Self.faults quiet
+            (λ keeper. without_desks (schedule keeper)) (is_fault result) self.old self.new }
         ensures planned { DeskAsPlanned desk_schedule (schedule self.old) (schedule self.new) result };
 
     /// The bytes of a stored block, or none where it is not stored, read by another thread beside the owner's calls.
-    /// `Failed` comes only where the desk's count rose.
+    /// The desk's count rises exactly where it answers `Failed`.
     fn peer_block<W: Wait>(
         &self,
         alloc: Global,
@@ -81,85 +91,84 @@ pub trait Keeper: Counted {
     ) -> Result<Option<Bytes>, KeepError>
         ensures row { IfTold (told self.now) result (λ kept bytes. bytes ≡ bytes_at kept.graph cid.now) }
         ensures planned { DeskReadsAsPlanned (desk_schedule desk.old) (desk_schedule desk.new) (is_fault result) }
-        ensures quiet { quiet self.now ≡ true →
-            StaysQuiet (quiet_desk desk.old) (quiet_desk desk.new)
-            (Self.Desk.faults desk.old) (Self.Desk.faults desk.new) }
-        ensures cause { KeepCause (Self.Desk.faults desk.old) (Self.Desk.faults desk.new) result };
+        ensures calm { quiet self.now ≡ true → quiet_desk desk.old ≡ true →
+            (quiet_desk desk.new ≡ true) × (is_fault result ≡ false) }
+        ensures count { CountGoes (is_fault result) (Self.Desk.faults desk.old) (Self.Desk.faults desk.new) };
 
     /// How many blocks are processed and stored, how many gaps there are, and the mark.
     fn summary(&mut self) -> Result<Summary, Failed>
         ensures row { IfTold (told self.old) result (λ kept summary. IsSummary kept summary) }
         ensures below { IfOk result IsSmall }
-        ensures reads { ReadsAt told fuse spare own Self.faults quiet (is_err result) self.old self.new }
+        ensures reads { ReadsAt told fuse spare own Self.faults quiet schedule (is_err result) self.old self.new }
         ensures planned { ReadsAsPlanned (schedule self.old) (schedule self.new) (is_err result) };
 
     /// The bytes of a stored block, or none where it is not stored.
     fn block(&mut self, alloc: Global, cid: &Cid) -> Result<Option<Bytes>, KeepError>
         ensures row { IfTold (told self.old) result (λ kept bytes. bytes ≡ bytes_at kept.graph cid.now) }
-        ensures reads { ReadsAt told fuse spare own Self.faults quiet (is_fault result) self.old self.new }
+        ensures reads { ReadsAt told fuse spare own Self.faults quiet schedule (is_fault result) self.old self.new }
         ensures planned { ReadsAsPlanned (schedule self.old) (schedule self.new) (is_fault result) };
 
     /// Whether the block is stored.
     fn stored(&mut self, cid: &Cid) -> Result<bool, Failed>
         ensures row { IfTold (told self.old) result (λ kept found. found ≡ is_stored kept.graph cid.now) }
-        ensures reads { ReadsAt told fuse spare own Self.faults quiet (is_err result) self.old self.new }
+        ensures reads { ReadsAt told fuse spare own Self.faults quiet schedule (is_err result) self.old self.new }
         ensures planned { ReadsAsPlanned (schedule self.old) (schedule self.new) (is_err result) };
 
     /// The place of the block in the order of processing, counted from 0, or none where it is not processed.
     fn position(&mut self, cid: &Cid) -> Result<Option<u64>, Failed>
         ensures row { IfTold (told self.old) result (λ kept place. place ≡ position (same_cid cid.now) kept.order) }
-        ensures reads { ReadsAt told fuse spare own Self.faults quiet (is_err result) self.old self.new }
+        ensures reads { ReadsAt told fuse spare own Self.faults quiet schedule (is_err result) self.old self.new }
         ensures planned { ReadsAsPlanned (schedule self.old) (schedule self.new) (is_err result) };
 
     /// The block at a place in the order of processing, or none past its end.
     fn at(&mut self, position: u64) -> Result<Option<Cid>, Failed>
         ensures row { IfTold (told self.old) result (λ kept cid. cid ≡ slice_get kept.order position) }
-        ensures reads { ReadsAt told fuse spare own Self.faults quiet (is_err result) self.old self.new }
+        ensures reads { ReadsAt told fuse spare own Self.faults quiet schedule (is_err result) self.old self.new }
         ensures planned { ReadsAsPlanned (schedule self.old) (schedule self.new) (is_err result) };
 
     /// Whether a processed block links to it.
     fn linked(&mut self, cid: &Cid) -> Result<bool, Failed>
         ensures row { IfTold (told self.old) result (λ kept found. found ≡ is_linked (processed kept) cid.now) }
-        ensures reads { ReadsAt told fuse spare own Self.faults quiet (is_err result) self.old self.new }
+        ensures reads { ReadsAt told fuse spare own Self.faults quiet schedule (is_err result) self.old self.new }
         ensures planned { ReadsAsPlanned (schedule self.old) (schedule self.new) (is_err result) };
 
     /// The heads, ascending by the digest.
     fn heads(&mut self, alloc: Global) -> Result<List<HeadRow>, KeepError>
         ensures row { IfTold (told self.old) result (λ kept rows. heads_in_rows rows ≡ heads (processed kept)) }
-        ensures reads { ReadsAt told fuse spare own Self.faults quiet (is_fault result) self.old self.new }
+        ensures reads { ReadsAt told fuse spare own Self.faults quiet schedule (is_fault result) self.old self.new }
         ensures planned { ReadsAsPlanned (schedule self.old) (schedule self.new) (is_fault result) };
 
     /// All element rows of a key, also of hidden elements, ascending by the block and then by the value.
     fn elements(&mut self, alloc: Global, key: &str) -> Result<List<ElementRow>, KeepError>
         ensures row { IfTold (told self.old) result (λ kept rows.
             Ascends element_cmp rows (element_rows_of (processed kept) key.now)) }
-        ensures reads { ReadsAt told fuse spare own Self.faults quiet (is_fault result) self.old self.new }
+        ensures reads { ReadsAt told fuse spare own Self.faults quiet schedule (is_fault result) self.old self.new }
         ensures planned { ReadsAsPlanned (schedule self.old) (schedule self.new) (is_fault result) };
 
     /// Whether a processed block has the tombstone of the key with the id.
     fn hidden(&mut self, key: &str, id: &str) -> Result<bool, Failed>
         ensures row { IfTold (told self.old) result (λ kept found. found ≡ has_tomb (processed kept) key.now id.now) }
-        ensures reads { ReadsAt told fuse spare own Self.faults quiet (is_err result) self.old self.new }
+        ensures reads { ReadsAt told fuse spare own Self.faults quiet schedule (is_err result) self.old self.new }
         ensures planned { ReadsAsPlanned (schedule self.old) (schedule self.new) (is_err result) };
 
     /// The value row of a key, or none where it has no value.
     fn value(&mut self, alloc: Global, key: &str) -> Result<Option<ValueRow>, KeepError>
         ensures row { IfTold (told self.old) result (λ kept row. IsValueRow (processed kept) key.now row) }
-        ensures reads { ReadsAt told fuse spare own Self.faults quiet (is_fault result) self.old self.new }
+        ensures reads { ReadsAt told fuse spare own Self.faults quiet schedule (is_fault result) self.old self.new }
         ensures planned { ReadsAsPlanned (schedule self.old) (schedule self.new) (is_fault result) };
 
     /// A processed block with a live element of the key that has the value and the priority of the key's value row, or
     /// none where the key has no value. Which of several it is, is the keeper's choice.
     fn holder(&mut self, alloc: Global, key: &str) -> Result<Option<Cid>, KeepError>
         ensures row { IfTold (told self.old) result (λ kept cid. IsHolder (processed kept) key.now cid) }
-        ensures reads { ReadsAt told fuse spare own Self.faults quiet (is_fault result) self.old self.new }
+        ensures reads { ReadsAt told fuse spare own Self.faults quiet schedule (is_fault result) self.old self.new }
         ensures planned { ReadsAsPlanned (schedule self.old) (schedule self.new) (is_fault result) };
 
     /// Whether a key has a value.
     fn has(&mut self, key: &str) -> Result<bool, Failed>
         ensures row { IfTold (told self.old) result (λ kept found.
             found ≡ is_some (value_row (processed kept) key.now)) }
-        ensures reads { ReadsAt told fuse spare own Self.faults quiet (is_err result) self.old self.new }
+        ensures reads { ReadsAt told fuse spare own Self.faults quiet schedule (is_err result) self.old self.new }
         ensures planned { ReadsAsPlanned (schedule self.old) (schedule self.new) (is_err result) };
 
     /// The value row of the least key above the bound, or at it where `inclusive`, or none where there is no such key.
@@ -170,7 +179,7 @@ pub trait Keeper: Counted {
         inclusive: bool,
     ) -> Result<Option<ValueRow>, KeepError>
         ensures row { IfTold (told self.old) result (λ kept row. IsNext (processed kept) bound.now inclusive row) }
-        ensures reads { ReadsAt told fuse spare own Self.faults quiet (is_fault result) self.old self.new }
+        ensures reads { ReadsAt told fuse spare own Self.faults quiet schedule (is_fault result) self.old self.new }
         ensures planned { ReadsAsPlanned (schedule self.old) (schedule self.new) (is_fault result) };
 
     /// Makes room for so many rows. Nothing else changes.
@@ -190,7 +199,8 @@ pub trait Keeper: Counted {
             CommitFails (fires (fuse self.old)) (Rose (own self.old) (own self.new)) kept (changed kept changes) new)) }
         ensures commits { CommitsAt told fuse spare own Self.faults quiet
             (row_count changes) (is_err result) self.old self.new }
-        ensures planned { CommitsAsPlanned (schedule self.old) (schedule self.new) (is_err result)
+        ensures planned { fires (fuse self.old) ≡ None →
+            CommitsAsPlanned (schedule self.old) (schedule self.new) (is_err result)
             (told self.old) (told self.new) (option_map (λ kept. changed kept changes) (told self.old)) };
 
     /// What is told is sound: no block is stored or processed twice, each stored block is good, and each processed

@@ -2,8 +2,8 @@
 ghost use Rattle.std.specs.Prelude.{◌≡◌, ◌+◌, ◌-◌, ◌^◌, ℕ, Bool, true, None, Option, min, IfOk};
 ghost use Rattle.std.specs.List.{sum_by};
 ghost use Rattle.mc_model.specs.Kept.{Kept};
-ghost use Rattle.mc_keep.specs.Causes.{KeepCause};
-ghost use Rattle.mc_keep.specs.Plan.{MakeSchedule, MakesAsPlanned};
+ghost use Rattle.mc_keep.specs.Causes.{CountGoes};
+ghost use Rattle.mc_keep.specs.Plan.{MakeSchedule, MakesAsPlanned, is_fault};
 
 use crate::{KeepError, Keeper};
 use mc_base::{Counted, List, Text};
@@ -46,16 +46,18 @@ pub trait Keepers: Counted {
         ensures fresh { IfOk result (λ keeper.
             (Self.K.faults keeper ≡ 0) × (Self.K.own keeper ≡ 0) × (Self.K.fuse keeper ≡ None)) }
         ensures quiet { quiet self.old plan.now ≡ true → IfOk result (λ keeper. Self.K.quiet keeper ≡ true) }
-        ensures same { (plan : KeeperPlan) → quiet self.new plan ≡ quiet self.old plan }
+        ensures starts_same { (plan : KeeperPlan) (index : ℕ) → starts self.new plan index ≡ starts self.old plan index }
+        ensures quiet_same { (plan : KeeperPlan) → quiet self.new plan ≡ quiet self.old plan }
         ensures lost { lost self.new ≡ lost self.old }
         ensures planned { MakesAsPlanned Self.K.schedule (schedule self.old) (schedule self.new) index result }
-        ensures cause { KeepCause (Self.faults self.old) (Self.faults self.new) result };
+        ensures count { CountGoes (is_fault result) (Self.faults self.old) (Self.faults self.new) };
 
     /// Takes a keeper and its desks back. It takes no memory, and does not fail.
     fn end(&mut self, keeper: Self::K, desks: List<<Self::K as Keeper>::Desk>)
         ensures lost { lost self.new
             ≡ min (lost self.old + Self.K.faults keeper + sum_by Self.K.Desk.faults desks) (2 ^ 64 - 1) }
-        ensures same { (plan : KeeperPlan) → quiet self.new plan ≡ quiet self.old plan }
+        ensures starts_same { (plan : KeeperPlan) (index : ℕ) → starts self.new plan index ≡ starts self.old plan index }
+        ensures quiet_same { (plan : KeeperPlan) → quiet self.new plan ≡ quiet self.old plan }
         ensures planned { schedule self.new ≡ schedule self.old }
         ensures count { Self.faults self.new ≡ Self.faults self.old };
 

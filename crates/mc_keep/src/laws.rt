@@ -1,5 +1,5 @@
 // What a keeper's commits are as events of a replica.
-ghost use Rattle.std.specs.Prelude.{◌≡◌, ◌≢◌, Bool, false, true, List, [], map, None, Some, unwrap_or, ◌++◌};
+ghost use Rattle.std.specs.Prelude.{◌≡◌, ◌≢◌, Bool, false, true, List, [], map, Option, None, Some, unwrap_or, ◌++◌};
 ghost use Rattle.std.specs.List.{list_all};
 ghost use Rattle.std.specs.declared.cmp.Ordering.TheVariants.{Equal};
 ghost use Rattle.mc_model.specs.declared.block.Block.{Block};
@@ -40,9 +40,9 @@ pub fn commits_are_events()
     kept_changes_are_events();
 }
 
-/// What makes changes fit. Changes that only store good new blocks do, and leave what is processed as it was. Changes
-/// that only process stored and unprocessed blocks, with the rows and the front of these, do. After any changes that a
-/// keeper takes the processed blocks are those before, and then the new ones.
+/// What makes changes fit. Changes that only store good new blocks do, and leave what is processed as it was; so do
+/// changes of the mark alone. Changes that only process stored and unprocessed blocks, with the rows and the front of
+/// these, do. After any changes that a keeper takes the processed blocks are those before, and then the new ones.
 pub fn changes_fit()
     ensures store { (kept : Kept) (stored : List Stored) → StoreFits kept (record no_changes { store = stored }) →
         ChangesFit kept (record no_changes { store = stored }) }
@@ -51,6 +51,12 @@ pub fn changes_fit()
         ≡ record { graph = kept.graph ++ stored; order = kept.order; mark = kept.mark } }
     ensures same { (kept : Kept) (stored : List Stored) → IsKept kept →
         processed (changed kept (record no_changes { store = stored })) ≡ processed kept }
+    ensures mark { (kept : Kept) (mark : Option Bool) → ChangesFit kept (record no_changes { mark = mark }) }
+    ensures marked { (kept : Kept) (mark : Option Bool) →
+        changed kept (record no_changes { mark = mark })
+        ≡ record { graph = kept.graph; order = kept.order; mark = unwrap_or mark kept.mark } }
+    ensures same_marked { (kept : Kept) (mark : Option Bool) → IsKept kept →
+        processed (changed kept (record no_changes { mark = mark })) ≡ processed kept }
     ensures process { (kept : Kept) (blocks : List Block) (changes : Changes) →
         changes.store ≡ [] → changes.marks ≡ map (λ (block : Block). block.cid) blocks → AreNew kept blocks →
         list_all (is_stored kept.graph) (map (λ (block : Block). block.cid) blocks) ≡ true →
