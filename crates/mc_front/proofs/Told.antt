@@ -87,22 +87,20 @@ module _ (kept : Kept) (blocks : List Block) (new : AreNew kept blocks) where
       (out_is changes.links changes.heads_out changes.heads_in l o h) (heads_is changes.links changes.heads_out changes.heads_in l o h)
 
 pub fit_told : (told : Option Kept) (blocks : List Block) (changes : Changes)
-    → IfSome told (λ kept. AreNew kept blocks)
     → IfSome told (λ kept. changes.links ≡ unlinked (processed kept) (different_links blocks))
     → IfSome told (λ kept. changes.heads_out ≡ filter (is_among kept.order) changes.links)
     → IfSome told (λ kept. changes.heads_in ≡ rows_of_heads (processed kept) (different_links blocks) blocks)
-    → IfSome told (λ kept. FrontFits (processed kept) blocks changes)
-fit_told None blocks changes n l o h = tt
-fit_told (Some kept) blocks changes n l o h = fits kept blocks n changes l o h
+    → IfSome told (λ kept. AreNew kept blocks → FrontFits (processed kept) blocks changes)
+fit_told None blocks changes l o h = tt
+fit_told (Some kept) blocks changes l o h = λ new. fits kept blocks new changes l o h
 
 pub out_told : (told : Option Kept) (blocks : List Block) (links out : List Cid) (heads : List HeadRow)
-    → IfSome told (λ kept. AreNew kept blocks)
     → IfSome told (λ kept. links ≡ unlinked (processed kept) (different_links blocks))
     → IfSome told (λ kept. out ≡ filter (is_among kept.order) links)
     → IfSome told (λ kept. heads ≡ rows_of_heads (processed kept) (different_links blocks) blocks)
-    → IfSome told (λ kept. HeadsOut (processed kept) blocks out)
-out_told None blocks links out heads n l o h = tt
-out_told (Some kept) blocks links out heads n l o h = out_fits kept blocks n links out heads l o h
+    → IfSome told (λ kept. AreNew kept blocks → HeadsOut (processed kept) blocks out)
+out_told None blocks links out heads l o h = tt
+out_told (Some kept) blocks links out heads l o h = λ new. out_fits kept blocks new links out heads l o h
 
 pub heads_told : (told : Option Kept) (blocks : List Block) (heads : List HeadRow)
     → IfSome told (λ kept. heads ≡ rows_of_heads (processed kept) (different_links blocks) blocks)
@@ -111,28 +109,27 @@ heads_told None blocks heads h = tt
 heads_told (Some kept) blocks heads h = h ∙ heads_are (processed kept) blocks
 
 pub count_told : (told : Option Kept) (blocks : List Block) (summary : Summary) (count : ℕ) (marks links out : List Cid) (heads : List HeadRow)
-    → IfSome told (λ kept. AreNew kept blocks)
     → marks ≡ cids_of blocks
     → IfSome told (λ kept. links ≡ unlinked (processed kept) (different_links blocks))
     → IfSome told (λ kept. out ≡ filter (is_among kept.order) links)
     → IfSome told (λ kept. heads ≡ rows_of_heads (processed kept) (different_links blocks) blocks)
     → IfSome told (λ kept. IsSummary kept summary)
     → count ≡ summary.gaps + length links - length out - (length marks - length heads)
-    → IfSome told (λ kept. count ≡ length (gaps (processed kept ++ blocks)))
-count_told None blocks summary count marks links out heads n m l o h s e = tt
-count_told (Some kept) blocks summary count marks links out heads n m l o h s e = e ∙ count_is kept blocks n links out heads l o h summary.gaps marks m s.2
+    → IfSome told (λ kept. AreNew kept blocks → count ≡ length (gaps (processed kept ++ blocks)))
+count_told None blocks summary count marks links out heads m l o h s e = tt
+count_told (Some kept) blocks summary count marks links out heads m l o h s e = λ new. e ∙ count_is kept blocks new links out heads l o h summary.gaps marks m s.2
 
 pub mark_told : (told : Option Kept) (blocks : List Block) (summary : Summary) (count : ℕ) (whole : Bool) (change : Option Bool)
     → IfSome told (λ kept. IsSummary kept summary)
-    → IfSome told (λ kept. count ≡ length (gaps (processed kept ++ blocks)))
+    → IfSome told (λ kept. AreNew kept blocks → count ≡ length (gaps (processed kept ++ blocks)))
     → unwrap_or change summary.mark ≡ (if whole then not (count == 0) else summary.mark)
     → IfSome change (λ new. new ≡ not summary.mark)
-    → IfSome told (λ kept. MarkFits whole kept.mark (processed kept ++ blocks) change)
+    → IfSome told (λ kept. AreNew kept blocks → MarkFits whole kept.mark (processed kept ++ blocks) change)
 mark_told None blocks summary count whole change s g after changes = tt
-mark_told (Some kept) blocks summary count whole change s g after changes = record {
+mark_told (Some kept) blocks summary count whole change s g after changes = λ new. record {
   after =
       ap (unwrap_or change) (sym s.3) ∙ after
-      ∙ ap (λ (n : ℕ). if whole then not (n == 0) else summary.mark) g
+      ∙ ap (λ (n : ℕ). if whole then not (n == 0) else summary.mark) (g new)
       ∙ ap (λ (mark : Bool). if whole then not (length (gaps (processed kept ++ blocks)) == 0) else mark) s.3;
   changes = subst (λ (mark : Bool). IfSome change (λ new. new ≡ not mark)) s.3 changes;
 }

@@ -1,5 +1,5 @@
 // What the blocks of a group do to the front.
-ghost use Rattle.std.specs.Prelude.{◌≡◌, ◌<◌, ◌+◌, ◌-◌, ◌^◌, ◌++◌, [], None, List, IfSome, IfOk, OnOk, OnErr, filter, length, map};
+ghost use Rattle.std.specs.Prelude.{◌≡◌, ◌<◌, ◌+◌, ◌-◌, ◌^◌, ◌++◌, List, IfSome, IfOk, OnOk, OnErr, filter, length, map};
 ghost use Rattle.mc_model.specs.declared.block.Block.{Block};
 ghost use Rattle.mc_model.specs.Front.{is_among, gaps};
 ghost use Rattle.mc_model.specs.Kept.{processed};
@@ -28,12 +28,15 @@ struct Rows {
     heads_out: List<Cid>,
 }
 
-/// Adds the marks, the link rows, the heads and the dirty mark by which the keeper, with the blocks processed, has the
-/// front of all its blocks, and answers the number of gaps afterwards. Where `whole`, every gap is wanted: the mark is
-/// set exactly where there is a gap. Else the mark stays. The mark and the blocks are in the same changes.
+/// Gives the changes the marks, the link rows, the heads and the dirty mark by which the keeper, with the blocks
+/// processed, has the front of all its blocks, and answers the number of gaps afterwards. Where `whole`, every gap is
+/// wanted: the mark is set exactly where there is a gap. Else the mark stays. The mark and the blocks are in the same
+/// changes. That the front is that one is promised where the blocks are distinct and none is processed. Such rows as
+/// the changes had are no longer there.
 ///
-/// Each link is looked up once, and so is each block. `Failed` comes only where the keeper's count rose; a refusal
-/// leaves the changes as they were.
+/// Each link is looked up once, and so is each block. Over every keeper the answer is `Failed` exactly where a read of
+/// the keeper failed, which then was the last one; on a refusal (that, or want of memory) the changes stay as they
+/// were.
 pub fn front_changes<K: Keeper>(
     keeper: &mut K,
     alloc: Global,
@@ -41,19 +44,17 @@ pub fn front_changes<K: Keeper>(
     whole: bool,
     changes: &mut Changes,
 ) -> Result<u64, KeepError>
-    requires fresh { (changes.old.marks ≡ []) × (changes.old.links ≡ [])
-        × (changes.old.heads_in ≡ []) × (changes.old.heads_out ≡ []) × (changes.old.mark ≡ None) }
-    requires new { IfSome (K.told keeper.old) (λ kept. AreNew kept blocks.now) }
     ensures marks { OnOk result (changes.new.marks ≡ map (λ (block : Block). block.cid) blocks.now) }
-    ensures fit { OnOk result (IfSome (K.told keeper.old) (λ kept. FrontFits (processed kept) blocks.now changes.new)) }
+    ensures fit { OnOk result (IfSome (K.told keeper.old) (λ kept.
+        AreNew kept blocks.now → FrontFits (processed kept) blocks.now changes.new)) }
     ensures out { OnOk result (IfSome (K.told keeper.old) (λ kept.
-        HeadsOut (processed kept) blocks.now changes.new.heads_out)) }
+        AreNew kept blocks.now → HeadsOut (processed kept) blocks.now changes.new.heads_out)) }
     ensures heads { OnOk result (IfSome (K.told keeper.old) (λ kept.
         changes.new.heads_in ≡ heads_of (processed kept) blocks.now)) }
     ensures gaps { IfTold (K.told keeper.old) result (λ kept count.
-        count ≡ length (gaps (processed kept ++ blocks.now))) }
+        AreNew kept blocks.now → count ≡ length (gaps (processed kept ++ blocks.now))) }
     ensures mark { OnOk result (IfSome (K.told keeper.old) (λ kept.
-        MarkFits whole kept.mark (processed kept ++ blocks.now) changes.new.mark)) }
+        AreNew kept blocks.now → MarkFits whole kept.mark (processed kept ++ blocks.now) changes.new.mark)) }
     ensures others { (changes.new.store ≡ changes.old.store) × (changes.new.elements ≡ changes.old.elements)
         × (changes.new.tombs ≡ changes.old.tombs) × (changes.new.values ≡ changes.old.values) }
     ensures refused { OnErr result (changes.new ≡ changes.old) }

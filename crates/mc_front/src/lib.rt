@@ -1,5 +1,5 @@
 //! The front of the processed blocks, as a commit changes it: heads, link rows, marks and the dirty mark.
-#![tactic(auto)]
+#![tactic(auto, using(mc_keep::proofs::Frames::reads_none))]
 
 mod adding;
 mod front;

@@ -1,6 +1,9 @@
 -- The change of one key's value row.
-use Rattle.std.proofs.Common.{◌≡◌, ℕ, List, sym, ap, ◌∙◌, subst}
+use Rattle.std.proofs.Common.{◌≡◌, ℕ, Bool, List, [], ◌∷◌, ◌++◌, sym, ap, ◌∙◌, subst}
 use Rattle.std.specs.Prelude.{fold, IfSome, Option, Some, None}
+use Rattle.std.proofs.lemmas.List.{append-nil}
+use Rattle.std.proofs.lemmas.List.Concat.{flat_map-append}
+use Rattle.std.proofs.lemmas.List.Sums.{fold-append}
 use Rattle.mc_model.specs.declared.block.Block.{Block}
 use Rattle.mc_model.specs.Ascending.{Ascends}
 use Rattle.mc_model.specs.Kept.{Kept, processed}
@@ -13,7 +16,7 @@ use Rattle.mc_keep.specs.declared.changes.ValueChange.{ValueChange}
 use Rattle.mc_keep.specs.Changes.{ranked_row}
 use Rattle.mc_keep.specs.ElementOrder.{element_cmp}
 use Rattle.mc_keep.specs.Tables.{IsValueRow, element_rows_of}
-use Rattle.mc_keep.specs.Live.{live_rows}
+use Rattle.mc_keep.specs.Live.{live_row, live_rows}
 use Rattle.mc_rows.specs.Live.{hides, row_from, Stands}
 use Rattle.mc_rows.specs.Values.{IsChange}
 use Rattle.mc_rows.proofs.Lives.{row_anew, row_on}
@@ -24,6 +27,21 @@ row_read blocks key (Some row) is = sym is.1
 
 changed_so : (key : List ℕ) (old old' new new' : Option Ranked) (change : Option ValueChange) → old ≡ old' → new ≡ new' → IsChange key old new change → IsChange key old' new' change
 changed_so key old old' new new' change e f is = subst (λ z. IsChange key old' z change) f (subst (λ z. IsChange key z new change) e is)
+
+-- the greatest with one more row
+pub row_more : (told : Option Kept) (hidden : Kept → List ℕ → Bool) (start now new : Option Ranked) (before rows : List ElementRow) (row : ElementRow)
+    → rows ≡ before ++ row ∷ []
+    → IfSome told (λ kept. now ≡ fold greater start (live_rows (hidden kept) before))
+    → IfSome told (λ kept. new ≡ fold greater now (live_row (hidden kept) row))
+    → IfSome told (λ kept. new ≡ fold greater start (live_rows (hidden kept) rows))
+row_more None hidden start now new before rows row more first next = tt
+row_more (Some kept) hidden start now new before rows row more first next =
+    next
+    ∙ ap (λ (best : Option Ranked). fold greater best (live_row (hidden kept) row)) first
+    ∙ sym (fold-append greater start (live_rows (hidden kept) before) (live_row (hidden kept) row))
+    ∙ ap (λ (live : List Ranked). fold greater start (live_rows (hidden kept) before ++ live)) (sym (append-nil (live_row (hidden kept) row)))
+    ∙ ap (fold greater start) (sym (flat_map-append (live_row (hidden kept)) before (row ∷ [])))
+    ∙ ap (λ (z : List ElementRow). fold greater start (live_rows (hidden kept) z)) (sym more)
 
 -- a change that was made from all rows of the key
 pub anew_told : (told : Option Kept) (run : List ElementRow) (tombs : List TombRow) (key : List ℕ) (old : Option ValueRow) (rows : List ElementRow) (best found : Option Ranked) (change : Option ValueChange)

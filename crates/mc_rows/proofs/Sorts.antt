@@ -5,7 +5,8 @@ use Rattle.std.specs.List.Sorted.{IsPermutation}
 use Rattle.std.specs.Ordering.{eq_by_cmp}
 use Rattle.std.specs.declared.cmp.Ordering.{Ordering}
 use Rattle.std.specs.declared.cmp.Ordering.TheVariants.{Equal}
-use Rattle.std.proofs.lemmas.List.{map_more}
+use Rattle.std.proofs.lemmas.List.{append-nil, map_more, take_more}
+use Rattle.std.proofs.lemmas.List.Concat.{flat_map-append}
 use Rattle.std.proofs.lemmas.List.Elements.{filter-append}
 use Rattle.std.proofs.lemmas.List.Sorted.{list_any-IsPermutation}
 use Rattle.mc_model.specs.SameMembers.{SameMembers}
@@ -102,6 +103,22 @@ tombs_more (Some kept) old now new tombs i tomb within at before step =
     (sym (filter-append known (map tomb_row (take i tombs)) (tomb_row tomb ∷ []))
     ∙ ap (λ (z : Tomb). filter known (map tomb_row (take i tombs) ++ tomb_row z ∷ [])) at
     ∙ ap (filter known) (sym (map_more tomb_row tombs i tomb within)))
+
+-- the tombstones of one block more
+pub blocks_more : (told : Option Kept) (now new : List TombRow) (blocks : List Block) (i : ℕ) (block : Block) → i < length blocks → block ≡ get_or blocks i block
+    → IfSome told (λ kept. now ≡ filter (is_unknown (processed kept)) (tomb_rows (take i blocks)))
+    → IfSome told (λ kept. new ≡ now ++ filter (is_unknown (processed kept)) (map tomb_row block.delta.tombstones))
+    → IfSome told (λ kept. new ≡ filter (is_unknown (processed kept)) (tomb_rows (take (i + 1) blocks)))
+blocks_more None now new blocks i block within at before step = tt
+blocks_more (Some kept) now new blocks i block within at before step =
+    let known : TombRow → Bool = is_unknown (processed kept) in
+    step
+    ∙ ap (λ (z : List TombRow). z ++ filter known (map tomb_row block.delta.tombstones)) before
+    ∙ sym (filter-append known (tomb_rows (take i blocks)) (map tomb_row block.delta.tombstones))
+    ∙ ap (λ (z : List TombRow). filter known (tomb_rows (take i blocks) ++ z)) (sym (append-nil (map tomb_row block.delta.tombstones)))
+    ∙ ap (filter known) (sym (flat_map-append (λ (b : Block). map tomb_row b.delta.tombstones) (take i blocks) (block ∷ [])))
+    ∙ ap (λ (z : Block). filter known (tomb_rows (take i blocks ++ z ∷ []))) at
+    ∙ ap (λ (z : List Block). filter known (tomb_rows z)) (sym (take_more blocks i block within))
 
 -- the keys, sorted and rid of repeats, are those of the elements and the tombstones
 pub keys_members : (elements : List NewElement) (tombs : List NewTomb) (start first items sorted kept : List (Bor (List ℕ))) → start ≡ []

@@ -1,5 +1,5 @@
 //! The element, tombstone and value rows by which a keeper takes up further blocks.
-#![tactic(auto)]
+#![tactic(auto, using(mc_keep::proofs::Frames::reads_none))]
 
 mod best;
 mod elements;

@@ -7,8 +7,8 @@ ghost use Rattle.mc_model.specs.Rank.{greater, greatest};
 ghost use Rattle.mc_keep.specs.Calls.{Reads};
 ghost use Rattle.mc_keep.specs.Causes.{IfTold};
 ghost use Rattle.mc_keep.specs.Plan.{is_fault};
-ghost use Rattle.mc_rows.specs.Rows.{new_tomb_cmp, rows_of, tombs_of};
-ghost use Rattle.mc_keep.specs.Live.{live_rows};
+ghost use Rattle.mc_rows.specs.Rows.{new_tomb_cmp, row_of, rows_of, tombs_of};
+ghost use Rattle.mc_keep.specs.Live.{live_row, live_rows};
 ghost use Rattle.mc_rows.specs.Live.{hides};
 ghost use Rattle.mc_rows.specs.Seen.{SeenFits};
 ghost use Rattle.mc_rows.specs.Values.{ranked_best};
@@ -93,19 +93,44 @@ pub(crate) fn best_of_old<'a, K: Keeper>(
     let mut best = None;
     let mut last = None;
     for row in rows {
-        let next = Best {
-            priority: row.priority,
-            value: row.value.as_slice(),
-        };
-        if is_above(best, next) {
-            let seen = see(keeper, alloc, key, &row.cid, tombs, last)?;
-            last = Some(seen);
-            if !seen.hidden {
-                best = Some(next);
-            }
-        }
+        best = with_old(keeper, alloc, key, row, tombs, &mut last, best)?;
     }
     Ok(best)
+}
+
+// The same with one more row.
+fn with_old<'a, K: Keeper>(
+    keeper: &mut K,
+    alloc: Global,
+    key: &str,
+    row: &'a ElementRow,
+    tombs: &[NewTomb<'_>],
+    last: &mut Option<Seen>,
+    best: Option<Best<'a>>,
+) -> Result<Option<Best<'a>>, KeepError>
+    requires sorted { IsStrictlySortedBy new_tomb_cmp tombs.now }
+    requires last { IfSome (K.told keeper.old) (λ kept.
+        SeenFits (processed kept) (tombs_of tombs.now) key.now last.old) }
+    ensures best { IfTold (K.told keeper.old) result (λ kept found.
+        ranked_best found ≡ fold greater (ranked_best best.entry)
+        (live_row (hides (processed kept) (tombs_of tombs.now) key.now) row.now)) }
+    ensures last { IfSome (K.told keeper.old) (λ kept.
+        SeenFits (processed kept) (tombs_of tombs.now) key.now last.new) }
+    ensures reads { Reads K.Keeper (is_fault result) keeper.old keeper.new }
+{
+    let next = Best {
+        priority: row.priority,
+        value: row.value.as_slice(),
+    };
+    if !is_above(best, next) {
+        return Ok(best);
+    }
+    let seen = see(keeper, alloc, key, &row.cid, tombs, *last)?;
+    *last = Some(seen);
+    if seen.hidden {
+        return Ok(best);
+    }
+    Ok(Some(next))
 }
 
 // The greatest of a value and of these elements of the key, which are of blocks of the group.
@@ -124,13 +149,34 @@ pub(crate) fn best_with_new<'a, K: Keeper>(
 {
     let mut best = best;
     for element in elements {
-        let next = Best {
-            priority: element.priority(),
-            value: element.value,
-        };
-        if is_above(best, next) && !is_hidden(keeper, key, element.block.id.as_str(), tombs)? {
-            best = Some(next);
-        }
+        best = with_new(keeper, key, element, tombs, best)?;
     }
     Ok(best)
+}
+
+// The same with one more element.
+fn with_new<'a, K: Keeper>(
+    keeper: &mut K,
+    key: &str,
+    element: &NewElement<'a>,
+    tombs: &[NewTomb<'_>],
+    best: Option<Best<'a>>,
+) -> Result<Option<Best<'a>>, Failed>
+    requires sorted { IsStrictlySortedBy new_tomb_cmp tombs.now }
+    ensures best { IfTold (K.told keeper.old) result (λ kept found.
+        ranked_best found ≡ fold greater (ranked_best best.entry)
+        (live_row (hides (processed kept) (tombs_of tombs.now) key.now) (row_of element.now))) }
+    ensures reads { Reads K.Keeper (is_err result) keeper.old keeper.new }
+{
+    let next = Best {
+        priority: element.priority(),
+        value: element.value,
+    };
+    if !is_above(best, next) {
+        return Ok(best);
+    }
+    if is_hidden(keeper, key, element.block.id.as_str(), tombs)? {
+        return Ok(best);
+    }
+    Ok(Some(next))
 }

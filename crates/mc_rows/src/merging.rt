@@ -1,5 +1,5 @@
 // The rows by which a keeper takes up further blocks.
-ghost use Rattle.std.specs.Prelude.{◌≡◌, [], ◌++◌, IfSome, OnOk, OnErr};
+ghost use Rattle.std.specs.Prelude.{◌≡◌, ◌++◌, IfSome, OnOk, OnErr};
 ghost use Rattle.std.specs.Ordering.{nat_cmp};
 ghost use Rattle.std.specs.Cmp.Lexicographic.{slice_cmp};
 ghost use Rattle.std.specs.List.Sorted.{IsStrictlySortedBy};
@@ -22,20 +22,21 @@ use mc_keep::{Changes, KeepError, Keeper, ValueChange};
 use mc_model::Block;
 use std::alloc::{AllocError, Global};
 
-/// Adds to the changes the element, tombstone and value rows by which the keeper, once these blocks are processed too,
+/// Gives the changes the element, tombstone and value rows by which the keeper, once these blocks are processed too,
 /// has the rows of all its blocks: every element, every tombstone that it does not have, each once, and the value row
-/// of each key whose greatest live element is another one now. The blocks are distinct, none is processed, and the
-/// changes have no such rows yet. On a refusal (`Failed` where the keeper's count rose, or want of memory) the changes
-/// stay as they were.
+/// of each key whose greatest live element is another one now. That the rows are those is promised where the blocks
+/// are distinct and none is processed. Such rows as the changes had are no longer there.
+///
+/// Over every keeper the answer is `Failed` exactly where a read of the keeper failed, which then was the last one; on
+/// a refusal (that, or want of memory) the changes stay as they were.
 pub fn merge<K: Keeper>(
     keeper: &mut K,
     alloc: Global,
     blocks: &[Block],
     changes: &mut Changes,
 ) -> Result<(), KeepError>
-    requires fresh { (changes.old.elements ≡ []) × (changes.old.tombs ≡ []) × (changes.old.values ≡ []) }
-    requires new { IfSome (K.told keeper.old) (λ kept. AreNew kept blocks.now) }
-    ensures fit { OnOk result (IfSome (K.told keeper.old) (λ kept. RowsFit (processed kept) blocks.now changes.new)) }
+    ensures fit { OnOk result (IfSome (K.told keeper.old) (λ kept.
+        AreNew kept blocks.now → RowsFit (processed kept) blocks.now changes.new)) }
     ensures others { changes.new ≡ record changes.old {
       elements = changes.new.elements;
       tombs = changes.new.tombs;
