@@ -1,3 +1,4 @@
+pub mod AnswerFacts
 pub mod KeyOrder
 pub mod Leaving
 pub mod NextFacts

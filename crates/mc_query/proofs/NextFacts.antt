@@ -23,7 +23,7 @@ use Rattle.mc_model.specs.Live.{value_row}
 use Rattle.mc_model.specs.Rank.{Ranked}
 use Rattle.mc_keep.specs.Next.{is_past, IsNext, IsNextRow}
 use Rattle.mc_keep.specs.declared.rows.ValueRow.{ValueRow}
-use Rattle.mc_query.specs.Places.{start_of, left_of, selected, IsNextUnder}
+use Rattle.mc_query.specs.Places.{start_of, left_of, selected, row_past, IsNextUnder}
 use Rattle.mc_query.proofs.KeyOrder.{begins_past, between, past_more, past_bound, not_past_itself}
 use Rattle.mc_query.proofs.Slashes.{selected_is, is_selected}
 
@@ -188,3 +188,30 @@ selected_from prefix (Some row) = (elim (is_under prefix row.key) as (λ b. is_u
   | true ↦ λ e. selected_past prefix row.key e
   | false ↦ λ e. tt
 ]) refl
+
+-- a row that was looked for past a bound is past it
+pub next_past : (blocks : List Block) (bound : List ℕ) (inclusive : Bool) (row : Option ValueRow) → IsNext blocks bound inclusive row → row_past bound inclusive row ≡ row
+next_past blocks bound inclusive None none = refl
+next_past blocks bound inclusive (Some row) next = ap (λ b. cond b (Some row) None) next.past
+
+-- what a test lets through passes it
+passes : (test : List ℕ → Bool) (row : ValueRow) (b : Bool) → test row.key ≡ b → IfSome (cond b (Some row) None) (λ row. test row.key ≡ true)
+passes test row true is = is
+passes test row false is = tt
+
+pub selected_under : (prefix : List ℕ) (row : Option ValueRow) → IfSome (selected prefix row) (λ row. is_under prefix row.key ≡ true)
+selected_under prefix None = tt
+selected_under prefix (Some row) = passes (is_under prefix) row (is_under prefix row.key) refl
+
+still_past : (prefix : List ℕ) (test : List ℕ → Bool) (row : Option ValueRow) → IfSome row (λ row. test row.key ≡ true) → IfSome (selected prefix row) (λ row. test row.key ≡ true)
+still_past prefix test None past = tt
+still_past prefix test (Some row) past = elim (is_under prefix row.key) as (λ b. IfSome (cond b (Some row) None) (λ row. test row.key ≡ true)) [
+  | true ↦ past
+  | false ↦ tt
+]
+
+-- a selected row that was looked at is past the bound
+pub selected_beyond : (prefix bound : List ℕ) (inclusive : Bool) (row : Option ValueRow) → IfSome (selected prefix (row_past bound inclusive row)) (λ row. is_past bound inclusive row.key ≡ true)
+selected_beyond prefix bound inclusive None = tt
+selected_beyond prefix bound inclusive (Some row) =
+    still_past prefix (is_past bound inclusive) (row_past bound inclusive (Some row)) (passes (is_past bound inclusive) row (is_past bound inclusive row.key) refl)

@@ -41,6 +41,11 @@ abbrev pub selected : List ℕ → Option ValueRow → Option ValueRow
 selected prefix None = None
 selected prefix (Some row) = if is_under prefix row.key then Some row else None
 
+-- the row, where its key is past a bound
+abbrev pub row_past : List ℕ → Bool → Option ValueRow → Option ValueRow
+row_past bound inclusive None = None
+row_past bound inclusive (Some row) = if is_past bound inclusive row.key then Some row else None
+
 -- the first of these keys with its value, or none where there are none
 abbrev pub IsNextUnder : List Block → List ℕ → List ℕ → Bool → Option ValueRow → Type 0
 IsNextUnder blocks prefix bound inclusive None = left_of blocks prefix bound inclusive ≡ []

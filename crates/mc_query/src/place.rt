@@ -1,5 +1,6 @@
 // Where a query has come to in the order of keys.
 ghost use Rattle.std.specs.Prelude.{◌≡◌, IfOk};
+ghost use Rattle.mc_keep.specs.Next as next;
 ghost use Rattle.mc_query.specs.Places.{start_of, place_after};
 
 use crate::Pair;
@@ -34,4 +35,14 @@ pub fn place_after<'a>(place: &'a Place, pairs: &'a [Pair]) -> (&'a str, bool)
         Some(pair) => (pair.key.as_str(), false),
         None => (place.bound.as_str(), place.inclusive),
     }
+}
+
+/// Whether a key is past a bound, or at it where `inclusive`.
+pub fn is_past(bound: &str, inclusive: bool, key: &str) -> bool
+    ensures { result ≡ next.is_past bound.now inclusive key.now }
+{
+    if inclusive {
+        return bound <= key;
+    }
+    bound < key
 }

@@ -8,12 +8,13 @@ ghost use Rattle.mc_keep.specs.Calls.{Reads};
 ghost use Rattle.mc_keep.specs.Causes.{IfTold};
 ghost use Rattle.mc_keep.specs.Next.{is_past};
 ghost use Rattle.mc_keep.specs.Plan.{ReadsAsPlanned, is_fault};
+ghost use Rattle.mc_query.specs.Answers.{AreAnswers};
 ghost use Rattle.mc_query.specs.Reads.{ReadsWithin};
 ghost use Rattle.mc_query.specs.Places as places;
 ghost use Rattle.mc_query.specs.Places.{start_of, left_of, pair_of, pair_of_row, IsNextUnder, IsPassed};
 
 use crate::Pair;
-use crate::place::{Place, place_after, start_of};
+use crate::place::{Place, is_past, place_after, start_of};
 use mc_base::{List, Text};
 use mc_keep::{KeepError, Keeper, ValueRow};
 use mc_key::under;
@@ -24,6 +25,9 @@ use std::alloc::{AllocError, AllocFailed, Global};
 /// `skip` of them, and at most `count`. The slashes at the prefix's end don't count; a prefix of slashes alone, or of
 /// nothing, selects every key, and any other those that begin with it and a slash. It asks for at most `skip` and
 /// `count` rows together and ends at the first key that isn't selected. `Failed` comes only where the keeper failed.
+///
+/// A row whose key isn't past that of the row before ends the query too, so that over every keeper the keys ascend
+/// strictly, are selected, and are at most `count`.
 pub fn query<K: Keeper>(
     keeper: &mut K,
     alloc: Global,
@@ -33,6 +37,7 @@ pub fn query<K: Keeper>(
 ) -> Result<List<Pair>, KeepError>
     ensures rows { IfTold (K.told keeper.old) result (λ kept pairs.
         map pair_of pairs ≡ answers.query (processed kept) (is_under prefix.now) skip count) }
+    ensures ascend { IfOk result (λ pairs. AreAnswers (start_of prefix.now) true prefix.now count pairs) }
     ensures reads { Reads K.Keeper (is_fault result) keeper.old keeper.new }
     ensures planned { ReadsWithin (skip + count) (K.schedule keeper.old) (K.schedule keeper.new) (is_fault result) }
 {
@@ -91,6 +96,8 @@ fn take_rows<K: Keeper>(
     ensures rows { IfTold (K.told keeper.old) result (λ kept pairs.
         map pair_of pairs ≡ map (with_value (processed kept))
         (take count (left_of (processed kept) prefix.now place.now.bound place.now.inclusive))) }
+    ensures ascend { IfOk result (λ pairs.
+        AreAnswers place.now.bound place.now.inclusive prefix.now count pairs) }
     ensures reads { Reads K.Keeper (is_fault result) keeper.old keeper.new }
     ensures planned { ReadsWithin count (K.schedule keeper.old) (K.schedule keeper.new) (is_fault result) }
 {
@@ -115,7 +122,8 @@ fn push_row(pairs: &mut List<Pair>, row: ValueRow) -> Result<(), AllocError>
     Ok(())
 }
 
-// The row of the next key with a value, or none where the prefix doesn't select it: then it selects none after it.
+// The row of the next key with a value, or none where the prefix doesn't select it: then it selects none after it. None
+// too where the keeper gives a row whose key isn't past the bound.
 fn next_under<K: Keeper>(
     keeper: &mut K,
     alloc: Global,
@@ -127,12 +135,24 @@ fn next_under<K: Keeper>(
     ensures row { IfTold (K.told keeper.old) result (λ kept row.
         IsNextUnder (processed kept) prefix.now bound.now inclusive row) }
     ensures past { IfOk result (λ row. IfSome row (λ row. is_past (start_of prefix.now) true row.key ≡ true)) }
+    ensures next { IfOk result (λ row. IfSome row (λ row. is_past bound.now inclusive row.key ≡ true)) }
+    ensures under { IfOk result (λ row. IfSome row (λ row. is_under prefix.now row.key ≡ true)) }
     ensures reads { Reads K.Keeper (is_fault result) keeper.old keeper.new }
     ensures planned { ReadsAsPlanned (K.schedule keeper.old) (K.schedule keeper.new) (is_fault result) }
 {
     valued_keys_are_exact();
     let next = keeper.value_from(alloc, bound, inclusive)?;
-    Ok(selected(prefix, next))
+    Ok(selected(prefix, row_past(bound, inclusive, next)))
+}
+
+/// The row, where its key is past the bound, or at it where `inclusive`.
+pub fn row_past(bound: &str, inclusive: bool, next: Option<ValueRow>) -> Option<ValueRow>
+    ensures { result ≡ places.row_past bound.now inclusive next }
+{
+    match next {
+        Some(row) if is_past(bound, inclusive, row.key.as_str()) => Some(row),
+        _ => None,
+    }
 }
 
 /// The row, where the prefix selects its key.

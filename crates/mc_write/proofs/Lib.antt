@@ -6,4 +6,5 @@ pub mod LengthFacts
 pub mod Membership
 pub mod PairFacts
 pub mod RowOrder
+pub mod ShownFacts
 pub mod TakenFacts

@@ -41,6 +41,7 @@ fn last_of_blocks(rows: Vec<ElementRow>) -> Vec<ElementRow>
 }
 
 // The pairs of the rows that no tombstone hides.
+#[tactic(auto, using(mc_keep::proofs::Frames::reads_none))]
 fn shown_pairs<K: Keeper>(
     keeper: &mut K,
     alloc: Global,
