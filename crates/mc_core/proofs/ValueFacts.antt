@@ -19,10 +19,9 @@ use Rattle.mc_model.specs.declared.block.Block.{Block}
 use Rattle.mc_model.specs.declared.delta.Delta.{Delta}
 use Rattle.mc_model.specs.Cuts.{Pair, IsCuts, pair_cmp, pair_in, pair_tomb, pairs}
 use Rattle.mc_model.specs.Id.{id_text}
-use Rattle.mc_model.specs.Live.{has_tomb, is_hidden, is_tomb, ranked_in, live_among, value}
+use Rattle.mc_model.specs.Live.{has_tomb, is_hidden, is_tomb, ranked_in, live_among, value, ranked_elements}
 use Rattle.mc_model.specs.Made.{made_cid}
 use Rattle.mc_model.specs.Rank.{Ranked, rank_cmp, greatest}
-use Rattle.mc_model.specs.Value.{ranked_elements}
 use Rattle.mc_model.proofs.Ascending.{ascending_ascends}
 use Rattle.mc_model.proofs.Greatest.{rank_total, not_gt_itself}
 use Rattle.mc_model.proofs.Live.{has_tomb-append, live_among-append}

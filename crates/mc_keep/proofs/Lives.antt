@@ -11,8 +11,7 @@ use Rattle.mc_model.specs.declared.block.Block.{Block}
 use Rattle.mc_model.specs.declared.delta.Element.{Element}
 use Rattle.mc_model.specs.Id.{id_text}
 use Rattle.mc_model.specs.Rank.{Ranked}
-use Rattle.mc_model.specs.Value.{ranked_elements}
-use Rattle.mc_model.specs.Live.{has_tomb, is_hidden, ranked_in, live_among}
+use Rattle.mc_model.specs.Live.{has_tomb, is_hidden, ranked_in, live_among, ranked_elements}
 use Rattle.mc_keep.specs.declared.rows.ElementRow.{ElementRow}
 use Rattle.mc_keep.specs.Live.{ranked_of, live_row, live_rows}
 use Rattle.mc_keep.specs.Tables.{element_row, element_rows, element_rows_of}

@@ -1,5 +1,5 @@
 // Who makes the keepers of a run, and takes them back.
-ghost use Rattle.std.specs.Prelude.{◌≡◌, ◌+◌, ◌-◌, ◌^◌, ℕ, Bool, true, None, Option, min, IfOk};
+ghost use Rattle.std.specs.Prelude.{◌≡◌, ◌+◌, ◌-◌, ◌^◌, ℕ, Bool, true, List, None, Option, min, IfOk};
 ghost use Rattle.std.specs.List.{sum_by};
 ghost use Rattle.mc_model.specs.Kept.{Kept};
 ghost use Rattle.mc_keep.specs.Causes.{CountGoes};
@@ -40,6 +40,9 @@ pub trait Keepers: Counted {
     /// The sum of the counts of all keepers and desks that were taken back, at most `u64::MAX`.
     ghost lost: { Self → ℕ };
 
+    /// That this keeper and these desks were taken back, and what was before and after it.
+    ghost takes: { Self → Self.K → List Self.K.Desk → Self → Type 0 };
+
     /// Makes the keeper of the replica with this index, with the count 0 and no fuse.
     fn make(&mut self, alloc: Global, plan: &KeeperPlan, index: u64) -> Result<Self::K, KeepError>
         ensures told { IfOk result (λ keeper. Self.K.told keeper ≡ starts self.old plan.now index) }
@@ -54,6 +57,7 @@ pub trait Keepers: Counted {
 
     /// Takes a keeper and its desks back. It takes no memory, and does not fail.
     fn end(&mut self, keeper: Self::K, desks: List<<Self::K as Keeper>::Desk>)
+        ensures taken { takes self.old keeper desks self.new }
         ensures lost { lost self.new
             ≡ min (lost self.old + Self.K.faults keeper + sum_by Self.K.Desk.faults desks) (2 ^ 64 - 1) }
         ensures starts_same { (plan : KeeperPlan) (index : ℕ) → starts self.new plan index ≡ starts self.old plan index }

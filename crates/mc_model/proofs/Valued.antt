@@ -15,9 +15,8 @@ use lib.Pointwise.{bytes_decides}
 use Rattle.mc_model.specs.declared.block.Block.{Block}
 use Rattle.mc_model.specs.declared.delta.Element.{Element}
 use Rattle.mc_model.specs.Answers.{has_value, element_keys, valued_keys}
-use Rattle.mc_model.specs.Live.{live_among, is_hidden}
+use Rattle.mc_model.specs.Live.{live_among, is_hidden, ranked_elements}
 use Rattle.mc_model.specs.Rank.{Ranked, greatest}
-use Rattle.mc_model.specs.Value.{ranked_elements}
 use Rattle.mc_model.proofs.Ascending.{ascending_ascends}
 
 -- keys that tie are equal

@@ -1,13 +1,13 @@
 -- The value of a key over blocks: that of its live element of greatest priority, and of equal ones the greatest by its bytes.
-use Rattle.std.specs.Prelude.{ℕ, Bool, ◌&&◌, List, [], Option, if◌then◌else◌}
+use Rattle.std.specs.Prelude.{ℕ, Bool, ◌&&◌, List, [], map, filter, Option, if◌then◌else◌}
 use Rattle.std.specs.List.{flat_map, list_any}
 use Rattle.std.specs.Option.{option_map}
 use Rattle.std.specs.Str.{bytes_eq}
 use Rattle.mc_model.specs.declared.block.Block.{Block}
+use Rattle.mc_model.specs.declared.delta.Element.{Element}
 use Rattle.mc_model.specs.declared.delta.Tomb.{Tomb}
 use Rattle.mc_model.specs.Id.{id_text}
 use Rattle.mc_model.specs.Rank.{Ranked, greatest}
-use Rattle.mc_model.specs.Value.{ranked_elements}
 
 -- whether this is a tombstone of the key with the id
 abbrev pub is_tomb : List ℕ → List ℕ → Tomb → Bool
@@ -20,6 +20,10 @@ has_tomb blocks key id = list_any (λ block. list_any (is_tomb key id) block.del
 -- whether the elements of the key in this block are hidden
 abbrev pub is_hidden : List Block → List ℕ → Block → Bool
 is_hidden blocks key block = has_tomb blocks key (id_text block.cid.0)
+
+-- the elements of a key, with this priority
+abbrev pub ranked_elements : ℕ → List Element → List ℕ → List Ranked
+ranked_elements priority elements key = map (λ element. (priority, element.value)) (filter (λ element. bytes_eq element.key key) elements)
 
 -- the elements of the key in one block, with its priority
 abbrev pub ranked_in : List ℕ → Block → List Ranked

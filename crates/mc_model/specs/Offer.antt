@@ -13,13 +13,13 @@ use Rattle.mc_model.specs.DeltaText.{DeltaFault, delta_of, delta_fault}
 abbrev pub block_max : ℕ
 block_max = 1048576
 
--- why bytes are no block under an identifier: too many; of another digest; no node; a link of this index that is no identifier; or data that is no delta
+-- why bytes are no block under an identifier: too many; of another digest; no node; a link of this index that is no identifier; or data that is no delta, with its first fault
 pub data Damage : Type 0 where
   TooLarge : (len : ℕ) → Damage
   WrongDigest : (found : List ℕ) → Damage
   NotDagPb : NodeFault → Damage
   BadLink : (index : ℕ) → Damage
-  BadDelta : DeltaFault → Damage
+  BadDelta : (first : Option DeltaFault) → Damage
 
 -- the identifier with these 36 bytes
 abbrev pub cid_of_bytes : List ℕ → Option Cid
@@ -40,11 +40,10 @@ links_from index (link ∷ links) = onto_links index (cid_of_bytes link) (links_
 abbrev pub empty_delta : Delta
 empty_delta = record { elements = []; tombstones = []; priority = 0 }
 
--- a delta, or why there is none
+-- a delta; where there is none the data is no delta, whatever its first fault
 abbrev pub delta_or : Option Delta → Option DeltaFault → Result Delta Damage
-delta_or (Some delta) fault = Ok delta
-delta_or None (Some fault) = Err (BadDelta fault)
-delta_or None None = Ok empty_delta
+delta_or (Some delta) first = Ok delta
+delta_or None first = Err (BadDelta first)
 
 -- data as a delta: none is the empty delta
 abbrev pub data_of : Option (List ℕ) → Result Delta Damage
