@@ -83,7 +83,10 @@ impl<S: BuildHasher + Drop> Keeper for MemKeeper<S> {
     }
 
     fn desk(&mut self, alloc: Global) -> Result<MemDesk, KeepError> {
-        Ok(self.faults.desk(alloc)?)
+        match self.faults.desk(alloc) {
+            Ok(desk) => Ok(desk),
+            Err(Failed) => Err(KeepError::Failed),
+        }
     }
 
     fn peer_block<W: Wait>(

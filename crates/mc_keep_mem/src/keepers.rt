@@ -88,6 +88,10 @@ impl<S: BuildHasher + Copy + Drop> Keepers for MemKeepers<S> {
 
     ghost lost = { λ keepers. keepers.lost };
 
+    ghost takes = { λ old keeper desks new. new ≡ record old {
+      lost = min (old.lost + keeper.faults.faults + sum_by (λ (desk : MemDesk). desk.faults) desks) (2 ^ 64 - 1);
+    } };
+
     fn make(
         &mut self,
         alloc: Global,
@@ -104,6 +108,9 @@ impl<S: BuildHasher + Copy + Drop> Keepers for MemKeepers<S> {
     }
 
     fn end(&mut self, keeper: MemKeeper<S>, desks: List<MemDesk>)
+        ensures taken { self.new ≡ record self.old {
+          lost = min (self.old.lost + keeper.faults.faults + sum_by (λ (desk : MemDesk). desk.faults) desks) (2 ^ 64 - 1);
+        } }
         ensures lost { self.new.lost ≡ min (self.old.lost + keeper.faults.faults + sum_by (λ (desk : MemDesk). desk.faults) desks) (2 ^ 64 - 1) }
         ensures starts_same { (plan : KeeperPlan) (index : ℕ) → Some nothing_kept ≡ Some nothing_kept }
         ensures quiet_same { (plan : KeeperPlan) → list_all plans_nothing self.new.plans ≡ list_all plans_nothing self.old.plans }
