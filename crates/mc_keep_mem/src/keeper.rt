@@ -83,7 +83,10 @@ impl<S: BuildHasher + Drop> Keeper for MemKeeper<S> {
     }
 
     fn desk(&mut self, alloc: Global) -> Result<MemDesk, KeepError> {
-        Ok(self.faults.desk(alloc)?)
+        match self.faults.desk(alloc) {
+            Ok(desk) => Ok(desk),
+            Err(Failed) => Err(KeepError::Failed),
+        }
     }
 
     fn peer_block<W: Wait>(
@@ -93,67 +96,93 @@ impl<S: BuildHasher + Drop> Keeper for MemKeeper<S> {
         cid: &Cid,
         _wait: &W,
     ) -> Result<Option<Bytes>, KeepError> {
-        desk.call()?;
+        if desk.read_fails() {
+            return Err(KeepError::Failed);
+        }
         Ok(self.store.block(alloc, cid)?)
     }
 
     fn summary(&mut self) -> Result<Summary, Failed> {
-        self.faults.read()?;
+        if self.faults.read_fails() {
+            return Err(Failed);
+        }
         Ok(self.store.summary())
     }
 
     fn block(&mut self, alloc: Global, cid: &Cid) -> Result<Option<Bytes>, KeepError> {
-        self.faults.read()?;
+        if self.faults.read_fails() {
+            return Err(KeepError::Failed);
+        }
         Ok(self.store.block(alloc, cid)?)
     }
 
     fn stored(&mut self, cid: &Cid) -> Result<bool, Failed> {
-        self.faults.read()?;
+        if self.faults.read_fails() {
+            return Err(Failed);
+        }
         Ok(self.store.stored(cid))
     }
 
     fn position(&mut self, cid: &Cid) -> Result<Option<u64>, Failed> {
-        self.faults.read()?;
+        if self.faults.read_fails() {
+            return Err(Failed);
+        }
         Ok(self.store.position(cid))
     }
 
     fn at(&mut self, position: u64) -> Result<Option<Cid>, Failed> {
-        self.faults.read()?;
+        if self.faults.read_fails() {
+            return Err(Failed);
+        }
         Ok(self.store.at(position))
     }
 
     fn linked(&mut self, cid: &Cid) -> Result<bool, Failed> {
-        self.faults.read()?;
+        if self.faults.read_fails() {
+            return Err(Failed);
+        }
         Ok(self.store.linked(cid))
     }
 
     fn heads(&mut self, alloc: Global) -> Result<List<HeadRow>, KeepError> {
-        self.faults.read()?;
+        if self.faults.read_fails() {
+            return Err(KeepError::Failed);
+        }
         Ok(self.store.heads(alloc)?)
     }
 
     fn elements(&mut self, alloc: Global, key: &str) -> Result<List<ElementRow>, KeepError> {
-        self.faults.read()?;
+        if self.faults.read_fails() {
+            return Err(KeepError::Failed);
+        }
         Ok(self.store.elements(alloc, key)?)
     }
 
     fn hidden(&mut self, key: &str, id: &str) -> Result<bool, Failed> {
-        self.faults.read()?;
+        if self.faults.read_fails() {
+            return Err(Failed);
+        }
         Ok(self.store.hidden(key, id))
     }
 
     fn value(&mut self, alloc: Global, key: &str) -> Result<Option<ValueRow>, KeepError> {
-        self.faults.read()?;
+        if self.faults.read_fails() {
+            return Err(KeepError::Failed);
+        }
         Ok(self.store.value(alloc, key)?)
     }
 
     fn holder(&mut self, alloc: Global, key: &str) -> Result<Option<Cid>, KeepError> {
-        self.faults.read()?;
+        if self.faults.read_fails() {
+            return Err(KeepError::Failed);
+        }
         Ok(self.store.holder(alloc, key)?)
     }
 
     fn has(&mut self, key: &str) -> Result<bool, Failed> {
-        self.faults.read()?;
+        if self.faults.read_fails() {
+            return Err(Failed);
+        }
         Ok(self.store.has(key))
     }
 
@@ -163,7 +192,9 @@ impl<S: BuildHasher + Drop> Keeper for MemKeeper<S> {
         bound: &str,
         inclusive: bool,
     ) -> Result<Option<ValueRow>, KeepError> {
-        self.faults.read()?;
+        if self.faults.read_fails() {
+            return Err(KeepError::Failed);
+        }
         Ok(self.store.value_from(alloc, bound, inclusive)?)
     }
 

@@ -1,5 +1,5 @@
 // Who makes the keepers in memory, and takes them back.
-ghost use Rattle.std.specs.Prelude.{◌≡◌, ◌+◌, ◌-◌, ◌^◌, true, Some, min, fold, map, IfOk};
+ghost use Rattle.std.specs.Prelude.{◌≡◌, ℕ, ◌+◌, ◌-◌, ◌^◌, true, Some, min, fold, map, IfOk};
 ghost use Rattle.std.specs.List.{list_all, sum_by};
 ghost use Rattle.mc_model.specs.Kept.{nothing_kept};
 ghost use Rattle.mc_keep.specs.declared.keepers.KeeperPlan.{KeeperPlan};
@@ -88,6 +88,10 @@ impl<S: BuildHasher + Copy + Drop> Keepers for MemKeepers<S> {
 
     ghost lost = { λ keepers. keepers.lost };
 
+    ghost takes = { λ old keeper desks new. new ≡ record old {
+      lost = min (old.lost + keeper.faults.faults + sum_by (λ (desk : MemDesk). desk.faults) desks) (2 ^ 64 - 1);
+    } };
+
     fn make(
         &mut self,
         alloc: Global,
@@ -104,8 +108,12 @@ impl<S: BuildHasher + Copy + Drop> Keepers for MemKeepers<S> {
     }
 
     fn end(&mut self, keeper: MemKeeper<S>, desks: List<MemDesk>)
+        ensures taken { self.new ≡ record self.old {
+          lost = min (self.old.lost + keeper.faults.faults + sum_by (λ (desk : MemDesk). desk.faults) desks) (2 ^ 64 - 1);
+        } }
         ensures lost { self.new.lost ≡ min (self.old.lost + keeper.faults.faults + sum_by (λ (desk : MemDesk). desk.faults) desks) (2 ^ 64 - 1) }
-        ensures same { (plan : KeeperPlan) → list_all plans_nothing self.new.plans ≡ list_all plans_nothing self.old.plans }
+        ensures starts_same { (plan : KeeperPlan) (index : ℕ) → Some nothing_kept ≡ Some nothing_kept }
+        ensures quiet_same { (plan : KeeperPlan) → list_all plans_nothing self.new.plans ≡ list_all plans_nothing self.old.plans }
         ensures planned { Some (makes_of self.new.failing self.new.made self.new.plans) ≡ Some (makes_of self.old.failing self.old.made self.old.plans) }
         ensures count { self.new.faults ≡ self.old.faults }
     {

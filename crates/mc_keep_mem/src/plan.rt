@@ -2,9 +2,8 @@
 ghost use Rattle.std.specs.Prelude.{◌≡◌, ◌≤◌, true, false, Some, None, min, ◌+◌, ◌-◌, ◌^◌, ◌++◌, ◌∷◌, IfOk, OnOk, is_some, length, drop, [], List};
 ghost use Rattle.std.specs.Result.{is_ok, is_err};
 ghost use Rattle.std.specs.List.{list_all};
-ghost use Rattle.mc_base.specs.Causes.{HasCause, Rose};
-ghost use Rattle.mc_keep.specs.Causes.{StaysQuiet};
-ghost use Rattle.mc_keep.specs.Plan.{is_planned, next_number, first_plan, with_desk, ReadsAsPlanned, DeskReadsAsPlanned, CommitsAsPlanned};
+ghost use Rattle.mc_keep.specs.Causes.{CountGoes, StaysQuiet};
+ghost use Rattle.mc_keep.specs.Plan.{is_planned, next_number, first_plan, with_desk, ReadsAsPlanned, ReadsGo, DeskReadsAsPlanned, CommitsAsPlanned, without_desks};
 ghost use Rattle.mc_keep_mem.specs.Plan.{plans_nothing, is_nothing, nothing_planned, planned, desk_schedule_of};
 ghost use Rattle.mc_keep_mem.specs.Faults.{fails_never, schedule_of};
 
@@ -112,19 +111,19 @@ impl MemDesk {
         }
     }
 
-    // Counts a call, and fails where that is planned.
-    pub(crate) fn call(&mut self) -> Result<(), Failed>
-        ensures cause { HasCause self.old.faults self.new.faults result }
+    // Counts a read, and tells whether it fails: exactly where that is planned.
+    pub(crate) fn read_fails(&mut self) -> bool
+        ensures count { CountGoes result self.old.faults self.new.faults }
         ensures plan { self.new.failing ≡ self.old.failing }
-        ensures planned { DeskReadsAsPlanned (Some (desk_schedule_of self.old)) (Some (desk_schedule_of self.new)) (is_err result) }
-        ensures quiet { is_nothing self.old.failing ≡ true → self.new.faults ≡ self.old.faults }
+        ensures planned { DeskReadsAsPlanned (Some (desk_schedule_of self.old)) (Some (desk_schedule_of self.new)) result }
+        ensures calm { is_nothing self.old.failing ≡ true → result ≡ false }
     {
         self.calls = next_of(self.calls);
         if is_due(self.failing.as_slice(), self.calls) {
             self.faults = self.faults.saturating_add(1);
-            return Err(Failed);
+            return true;
         }
-        Ok(())
+        false
     }
 }
 
@@ -189,25 +188,27 @@ impl Faults {
         }
     }
 
-    // Counts a read, and fails where that is planned.
-    pub(crate) fn read(&mut self) -> Result<(), Failed>
-        ensures cause { HasCause self.old.faults self.new.faults result }
-        ensures quiet { StaysQuiet (fails_never self.old) (fails_never self.new) self.old.faults self.new.faults }
-        ensures planned { ReadsAsPlanned (Some (schedule_of self.old)) (Some (schedule_of self.new)) (is_err result) }
+    // Counts a read, and tells whether it fails: exactly where that is planned.
+    pub(crate) fn read_fails(&mut self) -> bool
+        ensures count { CountGoes result self.old.faults self.new.faults }
+        ensures quiet { fails_never self.old ≡ true → fails_never self.new ≡ true }
+        ensures calm { fails_never self.old ≡ true → result ≡ false }
+        ensures planned { ReadsAsPlanned (Some (schedule_of self.old)) (Some (schedule_of self.new)) result }
+        ensures goes { ReadsGo (Some (schedule_of self.old)) (Some (schedule_of self.new)) result }
     {
         self.reads = next_of(self.reads);
         if is_due(self.failing.as_slice(), self.reads) {
             self.faults = self.faults.saturating_add(1);
-            return Err(Failed);
+            return true;
         }
-        Ok(())
+        false
     }
 
     // Counts a commit, and tells whether it fails, and then whether after its effect.
     pub(crate) fn commit(&mut self) -> Option<bool>
-        ensures later { self.old.faults ≤ self.new.faults }
-        ensures rose { is_some result ≡ true → Rose self.old.faults self.new.faults }
+        ensures count { CountGoes (is_some result) self.old.faults self.new.faults }
         ensures quiet { StaysQuiet (fails_never self.old) (fails_never self.new) self.old.faults self.new.faults }
+        ensures calm { fails_never self.old ≡ true → result ≡ None }
         ensures planned { CommitsAsPlanned (Some (schedule_of self.old)) (Some (schedule_of self.new)) (is_some result) None None None }
         ensures before { is_planned self.old.before (next_number self.old.commits) ≡ true → result ≡ Some false }
         ensures after { is_planned self.old.before (next_number self.old.commits) ≡ false → is_planned self.old.after (next_number self.old.commits) ≡ true → result ≡ Some true }
@@ -226,15 +227,19 @@ impl Faults {
 
     // Counts a read, and takes the plan of the next desk.
     pub(crate) fn desk(&mut self, alloc: Global) -> Result<MemDesk, Failed>
-        ensures cause { HasCause self.old.faults self.new.faults result }
+        ensures count { CountGoes (is_err result) self.old.faults self.new.faults }
         ensures fresh { IfOk result (λ desk. desk.faults ≡ 0) }
-        ensures quiet { StaysQuiet (fails_never self.old) (fails_never self.new) self.old.faults self.new.faults }
+        ensures quiet { fails_never self.old ≡ true → fails_never self.new ≡ true }
+        ensures calm { fails_never self.old ≡ true → is_err result ≡ false }
         ensures quiet_desk { fails_never self.old ≡ true → IfOk result (λ desk. is_nothing desk.failing ≡ true) }
         ensures schedule { schedule_of self.new ≡ with_desk (is_ok result) (schedule_of self.old) }
         ensures failed { is_err result ≡ is_planned self.old.failing (next_number self.old.reads) }
         ensures takes { IfOk result (λ desk. desk_schedule_of desk ≡ record { reads = first_plan self.old.desks.items; reads_made = 0 }) }
+        ensures goes { ReadsGo (without_desks (Some (schedule_of self.old))) (without_desks (Some (schedule_of self.new))) (is_err result) }
     {
-        self.read()?;
+        if self.read_fails() {
+            return Err(Failed);
+        }
         Ok(MemDesk::new(next_desk(&mut self.desks, alloc)))
     }
 

@@ -11,3 +11,15 @@ returns-clause-lost g c =
     ∙ ap (λ (z : List MemDesk). fold counted_with c.saturating_add-lost.result z) c.as_slice.ensures
     ∙ ap (λ (z : ℕ). fold counted_with z c.args.desks) (c.saturating_add-lost.ensures ∙ ap (λ (z : ℕ). min (c.args.self.now.lost + z) (2 ^ 64 - 1)) c.faults.ensures)
     ∙ fold_counted c.args.desks (c.args.self.now.lost + c.args.keeper.faults.faults)
+
+pub returns-clause-taken : goal.returns-clause-taken
+returns-clause-taken g c =
+    let before = c.args.self.now in
+    λ i. record {
+      plans = before.plans;
+      failing = before.failing;
+      hasher = before.hasher;
+      made = before.made;
+      faults = before.faults;
+      lost = returns-clause-lost g c i;
+    }
