@@ -1,6 +1,7 @@
 pub mod BatchFacts
 pub mod CallFacts
 pub mod CommitFacts
+pub mod CutFacts
 pub mod DeleteFacts
 pub mod DeletedFacts
 pub mod EventFacts
@@ -9,6 +10,7 @@ pub mod IdFacts
 pub mod Keeps
 pub mod KindFacts
 pub mod KnownFacts
+pub mod MadeFacts
 pub mod NumberFacts
 pub mod OpenFacts
 pub mod PartFacts

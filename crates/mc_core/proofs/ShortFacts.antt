@@ -61,13 +61,13 @@ module _ (sound_law : SoundLaw) (stored_law : StoredLaw) (same_law : SameLaw) wh
         | false ↦ ap processed (sym (stored_law kept (new_of block bytes))) ∙ same_law kept (new_of block bytes) sound
       ]
 
-  after_one : (kept : Kept) (block : Block) (bytes : List ℕ) → IsKept kept → IsNew kept block bytes → processed (with_made kept block.cid bytes) ≡ processed kept ++ block ∷ []
+  pub after_one : (kept : Kept) (block : Block) (bytes : List ℕ) → IsKept kept → IsNew kept block bytes → processed (with_made kept block.cid bytes) ≡ processed kept ++ block ∷ []
   after_one kept block bytes sound new =
       let graph : List Stored = (with_made kept block.cid bytes).graph in
       map-append (block_in graph) kept.order (block.cid ∷ []) ∙ ap (λ l. l ++ blocks_in graph (block.cid ∷ [])) (old_now kept block bytes sound)
       ∙ ap (λ l. processed kept ++ l) (one_block graph block bytes (bytes_now kept block bytes new) new.good)
 
-  kept_one : (kept : Kept) (block : Block) (bytes : List ℕ) → IsKept kept → IsNew kept block bytes → IsKept (with_made kept block.cid bytes)
+  pub kept_one : (kept : Kept) (block : Block) (bytes : List ℕ) → IsKept kept → IsNew kept block bytes → IsKept (with_made kept block.cid bytes)
   kept_one kept block bytes sound new =
       let cids : List Cid = block.cid ∷ [] in
       let after : List Stored → Kept = λ graph. record { graph = graph; order = kept.order ++ cids; mark = kept.mark } in
@@ -85,19 +85,19 @@ module _ (sound_law : SoundLaw) (stored_law : StoredLaw) (same_law : SameLaw) wh
       ] refl
 
   -- and after all of them
-  after_all : (blocks : List MadeBlock) (kept : Kept) → IsKept kept → AreNext kept blocks → processed (with_all kept blocks) ≡ processed kept ++ map (λ (made : MadeBlock). made.block) blocks
+  pub after_all : (blocks : List MadeBlock) (kept : Kept) → IsKept kept → AreNext kept blocks → processed (with_all kept blocks) ≡ processed kept ++ map (λ (made : MadeBlock). made.block) blocks
   after_all [] kept sound next = sym (append-nil (processed kept))
   after_all (made ∷ blocks) kept sound next =
       after_all blocks (with_block kept made) (kept_one kept made.block made.bytes sound next.0) next.2
       ∙ ap (λ l. l ++ map (λ (m : MadeBlock). m.block) blocks) (after_one kept made.block made.bytes sound next.0)
       ∙ append_assoc (processed kept) (made.block ∷ []) (map (λ (m : MadeBlock). m.block) blocks)
 
-next_take : (n : ℕ) (blocks : List MadeBlock) (kept : Kept) → AreNext kept blocks → AreNext kept (take n blocks)
+pub next_take : (n : ℕ) (blocks : List MadeBlock) (kept : Kept) → AreNext kept blocks → AreNext kept (take n blocks)
 next_take zero blocks kept next = tt
 next_take (suc n) [] kept next = tt
 next_take (suc n) (made ∷ blocks) kept next = (next.0, next.1, next_take n blocks (with_block kept made) next.2)
 
-blocks_are : (deltas : List Delta) (blocks : List MadeBlock) (kept : Kept) (links : List Cid) → AreMade kept links deltas blocks → map (λ (made : MadeBlock). made.block) blocks ≡ chain_blocks links deltas
+pub blocks_are : (deltas : List Delta) (blocks : List MadeBlock) (kept : Kept) (links : List Cid) → AreMade kept links deltas blocks → map (λ (made : MadeBlock). made.block) blocks ≡ chain_blocks links deltas
 blocks_are [] [] kept links are = refl
 blocks_are [] (made ∷ blocks) kept links are = absurd are
 blocks_are (delta ∷ deltas) [] kept links are = absurd are
@@ -122,7 +122,7 @@ have_ids : (kept : Kept) → AreApart kept → HaveIds (processed kept)
 have_ids kept apart = λ a b i j e. apart a.cid b.cid (is_in_order kept a i) (is_in_order kept b j) e
 
 module _ (back : BackLaw) (sound_law : SoundLaw) (stored_law : StoredLaw) (same_law : SameLaw) (heads_law : HeadsLaw) where
-  follows_processed : (s : ReplicaState) (kept : Kept) → Follows s kept → processed (kept_of s.state.durable) ≡ processed kept
+  pub follows_processed : (s : ReplicaState) (kept : Kept) → Follows s kept → processed (kept_of s.state.durable) ≡ processed kept
   follows_processed s kept f =
       ap (λ graph. blocks_in (map stored_of graph) s.state.durable.order) f.0
       ∙ ap (λ (k : Kept). blocks_in k.graph s.state.durable.order) (back kept)

@@ -113,7 +113,7 @@ running durable run fuse = record { state = record { durable = durable; run = So
 abbrev pub Follows : ReplicaState → Kept → Type 0
 Follows s kept = (s.state.durable.graph ≡ vertices kept.graph) × (s.state.durable.order ≡ kept.order)
 
-follows : (blocks : List MadeBlock) (kept : Kept) (durable : Durable) (run : Running) (fuse : Option Fuse) → durable.graph ≡ vertices kept.graph → durable.order ≡ kept.order
+pub follows : (blocks : List MadeBlock) (kept : Kept) (durable : Durable) (run : Running) (fuse : Option Fuse) → durable.graph ≡ vertices kept.graph → durable.order ≡ kept.order
     → Follows (all_happen (running durable run fuse) (all_events kept blocks)) (with_all kept blocks)
 follows [] kept durable run fuse e f = (e, f)
 follows (made ∷ blocks) kept durable run fuse e f =
@@ -284,7 +284,7 @@ taken_none (Some kept) fuse run = goes_nowhere _
 
 -- the commits of one block
 
-plan_is_block : (kept : Kept) (whole : Bool) (made : MadeBlock) (plan : Plan) → IsPlan kept whole made.block made.bytes plan → plan_events plan ≡ block_events kept made
+pub plan_is_block : (kept : Kept) (whole : Bool) (made : MadeBlock) (plan : Plan) → IsPlan kept whole made.block made.bytes plan → plan_events plan ≡ block_events kept made
 plan_is_block kept whole made plan is =
     ap (λ store. with_store store (Process plan.process.marks ∷ [])) is.store
     ∙ ap (λ marks. with_store (store_change kept.graph made.block.cid made.bytes) (Process marks ∷ [])) is.process.marks

@@ -1,5 +1,5 @@
 -- What the calls on a batch do.
-use Rattle.std.specs.Prelude.{◌≡◌, ℕ, Bool, true, false, List, [], ◌∷◌, ◌++◌, Option, Some, None, if◌then◌else◌}
+use Rattle.std.specs.Prelude.{◌≡◌, ℕ, Bool, true, false, List, [], ◌∷◌, ◌++◌, Option, Some, None, Result, Ok, Err, if◌then◌else◌}
 use Rattle.std.specs.Option.{option_or}
 use Rattle.mc_model.specs.declared.delta.Delta.{Delta}
 use Rattle.mc_model.specs.Batch.{empty_batch, is_empty_batch, batch_put, batch_delete, batch_delta}
@@ -11,8 +11,13 @@ use Rattle.mc_model.specs.State.{OpenBatch, Running, kept_of}
 use Rattle.mc_core.specs.declared.error.CoreError.{CoreError}
 use Rattle.mc_core.specs.declared.made.Written.{Written}
 use Rattle.mc_core.specs.Events.{ReplicaState}
-use Rattle.mc_core.specs.Puts.{made_events, written_of, next_links}
+use Rattle.mc_core.specs.Puts.{Adds, made_events, written_of, next_links, next_made}
 use Rattle.mc_core.specs.Refusals.{key_refusal, value_refusal, priority_refusal, made_refusal, running_refusal, no_batch_refusal, open_batch_refusal}
+
+-- the batch after a call: this one where it succeeded, and else as before
+abbrev pub batch_once : {T : Type 0} → Result T CoreError → Option OpenBatch → Option OpenBatch → Option OpenBatch
+batch_once (Ok value) after before = after
+batch_once (Err error) after before = before
 
 -- what holds of the batch that is open
 abbrev pub OfBatch : Option OpenBatch → (OpenBatch → Type 0) → Type 0
@@ -64,3 +69,9 @@ BatchBecomes kept batch false events answer =
 
 abbrev pub CommitPlan : ReplicaState → List Event → Option Written → Type 0
 CommitPlan s events answer = OfRun s.state.run (λ batch. BatchBecomes (kept_of s.state.durable) batch (is_empty_batch batch) events answer)
+
+-- a batch adds its block, and an empty one none
+abbrev pub AddsBatch : Option Written → ReplicaState → ReplicaState → Type 0
+AddsBatch None s new = Adds [] s new
+AddsBatch (Some written) s new = OfRun s.state.run (λ batch.
+    Adds (next_made (kept_of s.state.durable) (delta_of_batch (kept_of s.state.durable) batch) ∷ []) s new)

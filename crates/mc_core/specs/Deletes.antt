@@ -19,7 +19,7 @@ use Rattle.mc_core.specs.declared.error.CoreError.{CoreError}
 use Rattle.mc_core.specs.declared.error.CoreError.TheVariants.{BlockTooLarge, PriorityFull, Stopped}
 use Rattle.mc_core.specs.Events.{ReplicaState, Goes, Breaks}
 use Rattle.mc_core.specs.Plans.{IsNew, store_change, with_store}
-use Rattle.mc_core.specs.Puts.{made_block, made_events, next_links}
+use Rattle.mc_core.specs.Puts.{Adds, made_block, made_events, next_links}
 use Rattle.mc_core.specs.Refusals.{ByKind, kind_of, key_refusal, clash_refusal}
 
 -- what is kept once a made block is taken up
@@ -88,6 +88,24 @@ DeleteShort s key left =
 abbrev pub chain_blocks : List Cid → List Delta → List Block
 chain_blocks links [] = []
 chain_blocks links (delta ∷ deltas) = made_block links delta ∷ chain_blocks (made_cid links delta ∷ []) deltas
+
+-- all blocks of a delete are added
+abbrev pub AddsAll : List ℕ → ReplicaState → ReplicaState → Type 0
+AddsAll key s new =
+    (deltas : List Delta) × IsDeltas (kept_of s.state.durable) key deltas
+    × Adds (chain_blocks (next_links (kept_of s.state.durable)) deltas) s new
+
+-- none of them, or some first ones
+abbrev pub AddsSome : List ℕ → ReplicaState → ReplicaState → Type 0
+AddsSome key s new =
+    Adds [] s new
+    ⊎ ((deltas : List Delta) × (n : ℕ) × IsDeltas (kept_of s.state.durable) key deltas
+    × Adds (chain_blocks (next_links (kept_of s.state.durable)) (take n deltas)) s new)
+
+-- what a delete adds, also where it is cut short
+abbrev pub AddsDeleted : List ℕ → Result Deleted CoreError → ReplicaState → ReplicaState → Type 0
+AddsDeleted key (Ok deleted) s new = AddsAll key s new
+AddsDeleted key (Err error) s new = ByKind (Adds [] s new) (AddsSome key s new) (AddsSome key s new) (kind_of error)
 
 -- a want of memory leaves the value of the key
 abbrev pub ShortKeeps : List ℕ → Result Deleted CoreError → ReplicaState → ReplicaState → Type 0

@@ -2,6 +2,7 @@ pub mod Batches
 pub mod Calls
 pub mod Deletes
 pub mod Events
+pub mod Exact
 pub mod Plans
 pub mod Puts
 pub mod Reads

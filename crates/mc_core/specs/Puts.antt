@@ -1,5 +1,5 @@
 -- What a put does: when it is refused, and which block it makes.
-use Rattle.std.specs.Prelude.{◌≡◌, ℕ, Bool, List, [], ◌∷◌, length, Option, None}
+use Rattle.std.specs.Prelude.{◌≡◌, ℕ, Bool, List, [], ◌∷◌, ◌++◌, length, Option, None}
 use Rattle.std.specs.Option.{option_or}
 use Rattle.mc_base.specs.declared.cid.Cid.{Cid}
 use Rattle.mc_model.specs.declared.block.Block.{Block}
@@ -7,7 +7,7 @@ use Rattle.mc_model.specs.declared.delta.Delta.{Delta}
 use Rattle.mc_model.specs.Events.{Event, Process}
 use Rattle.mc_model.specs.Kept.{Kept, processed}
 use Rattle.mc_model.specs.Made.{made_bytes, made_cid, head_cids, next_priority, put_delta}
-use Rattle.mc_model.specs.State.{kept_of}
+use Rattle.mc_model.specs.State.{blocks_of, kept_of}
 use Rattle.mc_core.specs.declared.error.CoreError.{CoreError}
 use Rattle.mc_core.specs.declared.made.Planned.{Planned}
 use Rattle.mc_core.specs.declared.made.Written.{Written}
@@ -58,3 +58,16 @@ MadePlan kept delta events written = (events ≡ made_events kept (next_links ke
 -- those of a put
 abbrev pub PutPlan : ReplicaState → List ℕ → List ℕ → List Event → Written → Type 0
 PutPlan s key value = MadePlan (kept_of s.state.durable) (delta_of_put (kept_of s.state.durable) key value)
+
+-- the processed blocks are those before, and then these
+abbrev pub Adds : List Block → ReplicaState → ReplicaState → Type 0
+Adds more s new = blocks_of new.state.durable ≡ blocks_of s.state.durable ++ more
+
+-- the block of this delta over what is kept
+abbrev pub next_made : Kept → Delta → Block
+next_made kept delta = made_block (next_links kept) delta
+
+-- a put adds its block
+abbrev pub AddsPut : List ℕ → List ℕ → ReplicaState → ReplicaState → Type 0
+AddsPut key value s =
+    Adds (next_made (kept_of s.state.durable) (delta_of_put (kept_of s.state.durable) key value) ∷ []) s

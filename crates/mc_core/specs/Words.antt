@@ -1,5 +1,5 @@
 -- The words that every call of a replica says, at a bound `K: Keeper`.
-use Rattle.std.specs.Prelude.{◌≡◌, ℕ, ◌≤◌, Bool, true, false, Option, None, List, Result}
+use Rattle.std.specs.Prelude.{◌≡◌, ℕ, ◌≤◌, Bool, true, false, ◌||◌, Option, None, List, Result}
 use Rattle.mc_base.specs.Causes.{Rose}
 use Rattle.mc_base.specs.Told.{Told}
 use Rattle.mc_base.specs.declared.counted.Counted as counted
@@ -12,13 +12,14 @@ use Rattle.mc_core.specs.declared.error.CoreError.{CoreError}
 use Rattle.mc_core.specs.declared.replica.Replica.{Replica}
 use Rattle.mc_core.specs.Calls.{Call, Stays}
 use Rattle.mc_core.specs.Events.{ReplicaState}
+use Rattle.mc_core.specs.Exact.{TellsSameAt}
 use Rattle.mc_core.specs.Reads.{OnlyReads, read_refusal}
 use Rattle.mc_core.specs.Refusals.{Is}
 use Rattle.mc_core.specs.Replica.{replica_state}
 use Rattle.mc_core.specs.Reports.{StaysCounted}
 
 -- What every call leaves of a replica: its numbers stay those of what is told, counts don't fall, what is quiet stays so,
--- and where the keeper failed, its count rose.
+-- and where the keeper failed, its count rose and the replica has stopped, as one does that had stopped before.
 pub record ContinuesAt {K D : Type 0} (told : K → Option Kept) (own faults : K → ℕ) (quiet : K → Bool) (failed : Bool)
     (old new : Replica K D) : Type 0 where
   pub counted : StaysCounted new.stopped (told old.keeper) old.numbers (told new.keeper) new.numbers
@@ -26,6 +27,7 @@ pub record ContinuesAt {K D : Type 0} (told : K → Option Kept) (own faults : K
   pub still_quiet : StaysQuiet (quiet old.keeper) (quiet new.keeper) (own old.keeper) (own new.keeper)
   pub later : faults old.keeper ≤ faults new.keeper
   pub rose : failed ≡ true → Rose (faults old.keeper) (faults new.keeper)
+  pub stops : new.stopped ≡ (failed || old.stopped)
 
 -- what commits leave besides: a keeper that doesn't tell goes on so, and the batch and the gaps wanted are the same
 pub record CommitKeepsAt {K D : Type 0} (told : K → Option Kept) (own faults : K → ℕ) (quiet : K → Bool) (failed : Bool)
@@ -41,6 +43,9 @@ module _ {K D : Type 0} (k : Members K D) where
 
   abbrev pub CommitKeeps : Bool → Replica K D → Replica K D → Type 0
   CommitKeeps = CommitKeepsAt k.told k.own k.faults k.quiet
+
+  abbrev pub TellsSame : Replica K D → Replica K D → Type 0
+  TellsSame = TellsSameAt k.told k.fuse
 
   -- what becomes of a replica, where its keeper tells, by whether the own count rose
   abbrev pub Becomes : (Type 0 → ReplicaState → ReplicaState → Type 0) → Replica K D → Replica K D → Type 0

@@ -1,23 +1,26 @@
 // The calls of a replica on its batch.
 ghost use Rattle.mc_keep.specs.Calls.{Reads};
-ghost use Rattle.std.specs.Prelude.{◌≡◌, ◌≤◌, ◌++◌, ◌∷◌, [], false, None, Some, IfOk, IfSome, IfErr};
+ghost use Rattle.std.specs.Prelude.{◌≡◌, ◌≤◌, ◌++◌, ◌∷◌, [], false, None, Some, IfOk, IfSome, IfErr, is_some};
+ghost use Rattle.std.specs.Option.{option_map};
 ghost use Rattle.mc_keep.specs.Causes.{IfTold};
+ghost use Rattle.mc_model.specs.Batch.{batch_put, empty_batch};
 ghost use Rattle.mc_model.specs.Events.{Batch as Closed};
 ghost use Rattle.mc_core.specs.declared.error.CoreError.{CoreError as Refused};
-ghost use Rattle.mc_core.specs.Batches.{BeginPlan, BatchDeletePlan, BatchPutPlan, CommitPlan, batch_delete_refusal, batch_made_refusal, batch_put_refusal, begin_refusal, commit_refusal, delta_of_batch};
+ghost use Rattle.mc_core.specs.Batches.{AddsBatch, BeginPlan, BatchDeletePlan, BatchPutPlan, CommitPlan, batch_delete_refusal, batch_made_refusal, batch_once, batch_put_refusal, begin_refusal, commit_refusal, delta_of_batch};
 ghost use Rattle.mc_core.specs.Calls.{Stays};
 ghost use Rattle.mc_core.specs.Events.{Part};
+ghost use Rattle.mc_core.specs.Exact.{IfRefusedOrShort, NoMemory, front_of, put_front, stop_front};
 ghost use Rattle.mc_core.specs.Plans.{IsShaped, IsSomePlan, plan_events, plan_rows};
 ghost use Rattle.mc_core.specs.Puts.{IsPlanned, next_links};
-ghost use Rattle.mc_core.specs.Refusals.{Is, IsDue, is_fault};
-ghost use Rattle.mc_core.specs.Words.{Acts, Becomes, Continues};
+ghost use Rattle.mc_core.specs.Refusals.{Is, IsDue, is_fault, key_refusal, no_batch_refusal, open_batch_refusal};
+ghost use Rattle.mc_core.specs.Words.{Acts, Becomes, Continues, TellsSame};
 
 use crate::commits::is_sound;
 use crate::error::stops;
 use crate::made::{Planned, Written, next_block, plan_made};
 use crate::puts::{check_key, check_value};
 use crate::{CoreError, Replica};
-use mc_keep::Keeper;
+use mc_keep::{Keeper, changes_fit, commits_are_events};
 use mc_model::kept_is_durable;
 use mc_write::Batch;
 use std::alloc::Global;
@@ -27,6 +30,10 @@ impl<K: Keeper> Replica<K> {
     pub fn batch_begin(&mut self, alloc: Global) -> Result<(), CoreError>
         ensures call { Acts K.Keeper (λ s. Is (begin_refusal s)) (λ s. BeginPlan) Stays result self.old self.new }
         ensures keeps { Continues K.Keeper (is_fault result) self.old self.new }
+        ensures front { front_of result ≡ stop_front self.old.stopped (open_batch_refusal self.old.batch) }
+        ensures no_memory { NoMemory result }
+        ensures untouched { (self.new.keeper ≡ self.old.keeper) × (self.new.whole ≡ self.old.whole) }
+        ensures begun { self.new.batch ≡ batch_once result (Some empty_batch) self.old.batch }
     {
         if self.stopped {
             return Err(CoreError::Stopped);
@@ -44,6 +51,11 @@ impl<K: Keeper> Replica<K> {
         ensures call { Acts K.Keeper (λ s. Is (batch_put_refusal s key.now value.now))
             (λ s. BatchPutPlan s key.now value.now) Stays result self.old self.new }
         ensures keeps { Continues K.Keeper (is_fault result) self.old self.new }
+        ensures front { front_of result ≡ stop_front self.old.stopped
+            (no_batch_refusal self.old.batch (λ batch. put_front key.now value.now)) }
+        ensures untouched { (self.new.keeper ≡ self.old.keeper) × (self.new.whole ≡ self.old.whole) }
+        ensures added { self.new.batch
+            ≡ batch_once result (option_map (batch_put key.now value.now) self.old.batch) self.old.batch }
     {
         if self.stopped {
             return Err(CoreError::Stopped);
@@ -65,6 +77,12 @@ impl<K: Keeper> Replica<K> {
         ensures call { Acts K.Keeper (λ s. Is (batch_delete_refusal s key.now)) (λ s. BatchDeletePlan s key.now)
             Stays result self.old self.new }
         ensures keeps { Continues K.Keeper (is_fault result) self.old self.new }
+        ensures front { front_of result ≡ stop_front self.old.stopped
+            (no_batch_refusal self.old.batch (λ batch. key_refusal key.now)) }
+        ensures same { TellsSame K.Keeper self.old self.new }
+        ensures added { IfErr result (λ error. self.new.batch ≡ self.old.batch) }
+        ensures still_open { is_some self.new.batch ≡ is_some self.old.batch }
+        ensures whole_same { self.new.whole ≡ self.old.whole }
     {
         kept_is_durable();
         if self.stopped {
@@ -91,8 +109,18 @@ impl<K: Keeper> Replica<K> {
     pub fn batch_commit(&mut self, alloc: Global) -> Result<Option<Written>, CoreError>
         ensures call { Acts K.Keeper (λ s. Is (commit_refusal s)) CommitPlan Stays result self.old self.new }
         ensures keeps { Continues K.Keeper (is_fault result) self.old self.new }
+        ensures front { front_of result ≡ stop_front self.old.stopped
+            (no_batch_refusal self.old.batch (λ batch. None)) }
+        ensures silent { K.told self.old.keeper ≡ None → K.told self.new.keeper ≡ None }
+        ensures refused { IfRefusedOrShort result (TellsSame K.Keeper self.old self.new) }
+        ensures closed { self.new.batch ≡ batch_once result None self.old.batch }
+        ensures whole_same { self.new.whole ≡ self.old.whole }
+        ensures made { IfOk result (λ written. Becomes K.Keeper (λ rose. AddsBatch written) self.old self.new) }
     {
         kept_is_durable();
+        commits_are_events();
+        changes_fit();
+        is_sound(&self.keeper);
         if self.stopped {
             return Err(CoreError::Stopped);
         }
@@ -122,6 +150,9 @@ impl<K: Keeper> Replica<K> {
             Part (plan_events planned.plan ++ Closed None ∷ []) rose result) self.old self.new }
         ensures answer { IfOk result (λ written. written ≡ Some planned.written) }
         ensures only { IfErr result (λ error. error ≡ Refused.KeeperFault) }
+        ensures silent { K.told self.old.keeper ≡ None → K.told self.new.keeper ≡ None }
+        ensures closed { self.new.batch ≡ batch_once result None self.old.batch }
+        ensures whole_same { self.new.whole ≡ self.old.whole }
         ensures keeps { Continues K.Keeper (is_fault result) self.old self.new }
     {
         match self.take_up(planned) {
@@ -144,6 +175,7 @@ fn plan_batch<K: Keeper>(
     ensures allowed { IfTold (K.told keeper.old) result (λ kept planned. batch_made_refusal kept batch.now ≡ None) }
     ensures planned { IfTold (K.told keeper.old) result (λ kept planned.
         IsPlanned kept whole (next_links kept) (delta_of_batch kept batch.now) planned) }
+    ensures front { front_of result ≡ None }
     ensures refused { IfSome (K.told keeper.old) (λ kept.
         IfErr result (IsDue (Is (batch_made_refusal kept batch.now)))) }
     ensures shape { IfOk result (λ planned. IsShaped planned.plan) }

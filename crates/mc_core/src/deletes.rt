@@ -6,11 +6,12 @@ ghost use Rattle.mc_model.specs.Kept.{is_stored};
 ghost use Rattle.mc_model.specs.Made.{made_bytes, made_cid};
 ghost use Rattle.mc_keep.specs.Causes.{IfTold};
 ghost use Rattle.mc_keep.specs.Plan.{is_fault as keeper_failed};
-ghost use Rattle.mc_core.specs.Deletes.{AreMade, AreNext, DeleteKeptRefusal, DeletePlan, DeleteRefusal, DeleteShort, DeltasRefusal, IsDelete, IsMade, IsNextMade, IsOutside, ShortKeeps, Takes, TakesOne, chain_clash, has_made, is_left, with_all};
+ghost use Rattle.mc_core.specs.Deletes.{AddsDeleted, AreMade, AreNext, DeleteKeptRefusal, DeletePlan, DeleteRefusal, DeleteShort, DeltasRefusal, IsDelete, IsMade, IsNextMade, IsOutside, ShortKeeps, Takes, TakesOne, chain_clash, has_made, is_left, with_all};
+ghost use Rattle.mc_core.specs.Exact.{IfRefused, RestSame, front_of, stop_front};
 ghost use Rattle.mc_core.specs.Plans.{IsNew, IsPlan, IsShaped, plan_rows};
 ghost use Rattle.mc_core.specs.Puts.{next_links};
 ghost use Rattle.mc_core.specs.Refusals.{Is, IsDue, clash_refusal, is_fault, key_refusal};
-ghost use Rattle.mc_core.specs.Words.{Acts, Becomes, CommitKeeps, Continues};
+ghost use Rattle.mc_core.specs.Words.{Acts, Becomes, CommitKeeps, Continues, TellsSame};
 
 use crate::commits::is_sound;
 use crate::error::stops;
@@ -51,6 +52,11 @@ impl<K: Keeper> Replica<K> {
         ensures call { Acts K.Keeper (λ s. DeleteRefusal s key.now) (λ s. DeletePlan s key.now)
             (λ s. DeleteShort s key.now) result self.old self.new }
         ensures keeps { Continues K.Keeper (is_fault result) self.old self.new }
+        ensures front { front_of result ≡ stop_front self.old.stopped (key_refusal key.now) }
+        ensures rest { RestSame self.old self.new }
+        ensures silent { K.told self.old.keeper ≡ None → K.told self.new.keeper ≡ None }
+        ensures refused { IfRefused result (TellsSame K.Keeper self.old self.new) }
+        ensures made { Becomes K.Keeper (λ rose. AddsDeleted key.now result) self.old self.new }
         ensures short { Becomes K.Keeper (λ rose. ShortKeeps key.now result) self.old self.new }
     {
         kept_is_durable();
@@ -74,7 +80,8 @@ impl<K: Keeper> Replica<K> {
         requires up { self.old.stopped ≡ false }
         requires next { IfSome (K.told self.old.keeper) (λ kept. AreNext kept blocks) }
         ensures takes { Becomes K.Keeper (λ rose. Takes blocks rose result) self.old self.new }
-        ensures keeps { Continues K.Keeper (is_fault result) self.old self.new }
+        ensures only { IfErr result IsOutside }
+        ensures keeps { CommitKeeps K.Keeper (is_fault result) self.old self.new }
     {
         kept_is_durable();
         let count = blocks.len() as u64;
@@ -93,6 +100,7 @@ impl<K: Keeper> Replica<K> {
         requires new { IfSome (K.told self.old.keeper) (λ kept. IsNew kept made.block made.bytes) }
         requires stored { IfSome (K.told self.old.keeper) (λ kept. made.known ≡ is_stored kept.graph made.block.cid) }
         ensures takes { Becomes K.Keeper (λ rose. TakesOne made rose result) self.old self.new }
+        ensures only { IfErr result IsOutside }
         ensures up { OnOk result (self.new.stopped ≡ false) }
         ensures keeps { CommitKeeps K.Keeper (is_fault result) self.old self.new }
     {
@@ -142,6 +150,7 @@ fn make_delete<K: Keeper>(
 ) -> Result<List<MadeBlock>, CoreError>
     ensures made { IfTold (K.told keeper.old) result (λ kept blocks. IsDelete kept key.now blocks) }
     ensures allowed { OnOk result (key_refusal key.now ≡ None) }
+    ensures front { front_of result ≡ key_refusal key.now }
     ensures refused { IfSome (K.told keeper.old) (λ kept.
         IfErr result (IsDue (DeleteKeptRefusal kept key.now (key_refusal key.now)))) }
     ensures reads { Reads K.Keeper (is_fault result) keeper.old keeper.new }
@@ -157,6 +166,7 @@ fn make_tombs<K: Keeper>(
     key: &Key<'_>,
 ) -> Result<List<MadeBlock>, CoreError>
     ensures made { IfTold (K.told keeper.old) result (λ kept blocks. IsDelete kept key.now blocks) }
+    ensures front { front_of result ≡ None }
     ensures refused { IfSome (K.told keeper.old) (λ kept. IfErr result (IsDue (DeltasRefusal kept key.now))) }
     ensures reads { Reads K.Keeper (is_fault result) keeper.old keeper.new }
 {
@@ -205,6 +215,7 @@ fn make_blocks<K: Keeper>(
     deltas: List<Delta>,
 ) -> Result<List<MadeBlock>, CoreError>
     ensures made { IfTold (K.told keeper.old) result (λ kept blocks. AreMade kept links deltas blocks) }
+    ensures front { front_of result ≡ None }
     ensures refused { IfSome (K.told keeper.old) (λ kept. IfErr result (IsDue (Is (chain_clash kept links deltas)))) }
     ensures reads { Reads K.Keeper (is_fault result) keeper.old keeper.new }
 {
@@ -229,6 +240,7 @@ fn make_next<K: Keeper>(
 ) -> Result<List<Cid>, CoreError>
     ensures made { IfTold (K.told keeper.old) result (λ kept next.
         IsNextMade kept blocks.old links delta blocks.new next) }
+    ensures front { front_of result ≡ None }
     ensures refused { IfSome (K.told keeper.old) (λ kept. IfErr result (IsDue (Is (
         clash_refusal (with_all kept blocks.old) (made_cid links delta) (made_bytes links delta))))) }
     ensures reads { Reads K.Keeper (is_fault result) keeper.old keeper.new }
@@ -266,6 +278,7 @@ fn make_one<K: Keeper>(
     delta: Delta,
 ) -> Result<MadeBlock, CoreError>
     ensures made { IfTold (K.told keeper.old) result (λ kept made. IsMade (with_all kept before.now) links delta made) }
+    ensures front { front_of result ≡ None }
     ensures refused { IfSome (K.told keeper.old) (λ kept. IfErr result (IsDue (Is (
         clash_refusal (with_all kept before.now) (made_cid links delta) (made_bytes links delta))))) }
     ensures reads { Reads K.Keeper (is_fault result) keeper.old keeper.new }

@@ -8,6 +8,7 @@ ghost use Rattle.mc_model.specs.Kept.{processed, is_stored};
 ghost use Rattle.mc_model.specs.Made.{next_priority};
 ghost use Rattle.mc_keep.specs.Causes.{IfTold};
 ghost use Rattle.mc_write.specs.Seen.{row_cids};
+ghost use Rattle.mc_core.specs.Exact.{front_of};
 ghost use Rattle.mc_core.specs.Plans.{IsShaped, plan_rows};
 ghost use Rattle.mc_core.specs.Puts.{IsPlanned, next_links};
 ghost use Rattle.mc_core.specs.Refusals.{Is, IsDue, clash_refusal, is_fault, made_refusal, other_refusal, priority_refusal, size_refusal};
@@ -53,6 +54,7 @@ pub(crate) fn next_block<K: Keeper>(keeper: &mut K, alloc: Global) -> Result<Nex
     ensures next { IfTold (K.told keeper.old) result (λ kept next.
         (next.links ≡ next_links kept) × (next.priority ≡ next_priority (processed kept))) }
     ensures left { IfTold (K.told keeper.old) result (λ kept next. priority_refusal kept ≡ None) }
+    ensures front { front_of result ≡ None }
     ensures refused { IfSome (K.told keeper.old) (λ kept. IfErr result (IsDue (Is (priority_refusal kept)))) }
     ensures reads { Reads K.Keeper (is_fault result) keeper.old keeper.new }
 {
@@ -76,6 +78,7 @@ pub(crate) fn cids_of(alloc: Global, heads: &[HeadRow]) -> Result<List<Cid>, All
 
 fn check_size(bytes: &[u8]) -> Result<(), CoreError>
     ensures ok { OnOk result (size_refusal bytes.now ≡ None) }
+    ensures front { front_of result ≡ None }
     ensures refused { IfErr result (λ error. size_refusal bytes.now ≡ Some error) }
 {
     if bytes.len() > BLOCK_MAX {
@@ -96,6 +99,7 @@ fn is_processed<K: Keeper>(keeper: &mut K, cid: &Cid) -> Result<bool, Failed>
 // Refuses bytes where other ones are stored.
 fn check_same(cid: &Cid, other: &[u8], bytes: &[u8]) -> Result<(), CoreError>
     ensures ok { OnOk result (other_refusal cid.now bytes.now (Some other.now) ≡ None) }
+    ensures front { front_of result ≡ None }
     ensures refused { IfErr result (λ error. other_refusal cid.now bytes.now (Some other.now) ≡ Some error) }
 {
     if other != bytes {
@@ -113,6 +117,7 @@ pub(crate) fn check_clash<K: Keeper>(
 ) -> Result<bool, CoreError>
     ensures known { IfTold (K.told keeper.old) result (λ kept known. known ≡ is_stored kept.graph cid.now) }
     ensures allowed { IfTold (K.told keeper.old) result (λ kept known. clash_refusal kept cid.now bytes.now ≡ None) }
+    ensures front { front_of result ≡ None }
     ensures refused { IfSome (K.told keeper.old) (λ kept.
         IfErr result (IsDue (Is (clash_refusal kept cid.now bytes.now)))) }
     ensures reads { Reads K.Keeper (is_fault result) keeper.old keeper.new }
@@ -139,6 +144,7 @@ pub(crate) fn plan_made<K: Keeper>(
 ) -> Result<Planned, CoreError>
     requires { IfSome (K.told keeper.old) (λ kept. list_all (is_among kept.order) links ≡ true) }
     ensures planned { IfTold (K.told keeper.old) result (λ kept planned. IsPlanned kept whole links delta planned) }
+    ensures front { front_of result ≡ None }
     ensures refused { IfSome (K.told keeper.old) (λ kept. IfErr result (IsDue (Is (made_refusal kept links delta)))) }
     ensures shape { IfOk result (λ planned. IsShaped planned.plan) }
     ensures room { IfOk result (λ planned. plan_rows planned.plan ≤ K.spare keeper.new) }

@@ -2,6 +2,7 @@
 ghost use Rattle.mc_keep.specs.Calls.{Reads};
 ghost use Rattle.std.specs.Prelude.{◌≡◌, ◌≤◌, None, Some, IfOk, IfSome, IfErr, OnOk};
 ghost use Rattle.mc_keep.specs.Causes.{IfTold};
+ghost use Rattle.mc_core.specs.Exact.{front_of, put_front};
 ghost use Rattle.mc_core.specs.Plans.{IsShaped, plan_rows};
 ghost use Rattle.mc_core.specs.Puts.{IsPlanned, next_links, delta_of_put, put_made_refusal, put_kept_refusal};
 ghost use Rattle.mc_core.specs.Refusals.{Is, IsDue, is_fault, key_refusal, value_refusal};
@@ -21,6 +22,7 @@ const VALUE_MAX: usize = 262_144;
 pub(crate) fn check_key(text: &str) -> Result<Key<'_>, CoreError>
     ensures key { IfOk result (λ key. key ≡ text.now) }
     ensures ok { OnOk result (key_refusal text.now ≡ None) }
+    ensures front { front_of result ≡ key_refusal text.now }
     ensures refused { IfErr result (λ error. key_refusal text.now ≡ Some error) }
 {
     match Key::read(text) {
@@ -31,6 +33,7 @@ pub(crate) fn check_key(text: &str) -> Result<Key<'_>, CoreError>
 
 pub(crate) fn check_value(value: &[u8]) -> Result<(), CoreError>
     ensures ok { OnOk result (value_refusal value.now ≡ None) }
+    ensures front { front_of result ≡ value_refusal value.now }
     ensures refused { IfErr result (λ error. value_refusal value.now ≡ Some error) }
 {
     if value.len() > VALUE_MAX {
@@ -51,6 +54,7 @@ fn plan_made_put<K: Keeper>(
         put_made_refusal kept key.now value.now ≡ None) }
     ensures planned { IfTold (K.told keeper.old) result (λ kept planned.
         IsPlanned kept whole (next_links kept) (delta_of_put kept key.now value.now) planned) }
+    ensures front { front_of result ≡ None }
     ensures refused { IfSome (K.told keeper.old) (λ kept.
         IfErr result (IsDue (Is (put_made_refusal kept key.now value.now)))) }
     ensures shape { IfOk result (λ planned. IsShaped planned.plan) }
@@ -76,6 +80,7 @@ pub(crate) fn plan_put<K: Keeper>(
         put_kept_refusal kept key.now value.now ≡ None) }
     ensures planned { IfTold (K.told keeper.old) result (λ kept planned.
         IsPlanned kept whole (next_links kept) (delta_of_put kept key.now value.now) planned) }
+    ensures front { front_of result ≡ put_front key.now value.now }
     ensures refused { IfSome (K.told keeper.old) (λ kept.
         IfErr result (IsDue (Is (put_kept_refusal kept key.now value.now)))) }
     ensures shape { IfOk result (λ planned. IsShaped planned.plan) }

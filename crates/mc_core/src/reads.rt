@@ -1,5 +1,5 @@
 // The calls of a replica that only read.
-ghost use Rattle.std.specs.Prelude.{◌≡◌, map, slice_get};
+ghost use Rattle.std.specs.Prelude.{◌≡◌, None, map, slice_get};
 ghost use Rattle.std.specs.List.{position};
 ghost use Rattle.mc_key.specs.Prefix.{is_under};
 ghost use Rattle.mc_model.specs.Answers as answers;
@@ -9,8 +9,9 @@ ghost use Rattle.mc_model.specs.Kept.{processed};
 ghost use Rattle.mc_model.specs.Live.{value};
 ghost use Rattle.mc_keep.specs.Changes.{heads_in_rows};
 ghost use Rattle.mc_query.specs.Places.{pair_of};
+ghost use Rattle.mc_core.specs.Exact.{NoMemory, RestSame, front_of, stop_front};
 ghost use Rattle.mc_core.specs.Refusals.{is_fault};
-ghost use Rattle.mc_core.specs.Words.{Answers, Continues};
+ghost use Rattle.mc_core.specs.Words.{Answers, Continues, TellsSame};
 
 use crate::error::stops;
 use crate::{CoreError, Replica};
@@ -27,6 +28,9 @@ impl<K: Keeper> Replica<K> {
         ensures call { Answers K.Keeper (λ kept found.
             found ≡ value (processed kept) key.now) result self.old self.new }
         ensures keeps { Continues K.Keeper (is_fault result) self.old self.new }
+        ensures front { front_of result ≡ stop_front self.old.stopped None }
+        ensures rest { RestSame self.old self.new }
+        ensures same { TellsSame K.Keeper self.old self.new }
     {
         kept_is_durable();
         if self.stopped {
@@ -47,6 +51,10 @@ impl<K: Keeper> Replica<K> {
         ensures call { Answers K.Keeper (λ kept found.
             found ≡ has_value (processed kept) key.now) result self.old self.new }
         ensures keeps { Continues K.Keeper (is_fault result) self.old self.new }
+        ensures front { front_of result ≡ stop_front self.old.stopped None }
+        ensures rest { RestSame self.old self.new }
+        ensures same { TellsSame K.Keeper self.old self.new }
+        ensures no_memory { NoMemory result }
     {
         kept_is_durable();
         if self.stopped {
@@ -75,6 +83,9 @@ impl<K: Keeper> Replica<K> {
             map pair_of pairs ≡ answers.query (processed kept) (is_under prefix.now) skip count)
             result self.old self.new }
         ensures keeps { Continues K.Keeper (is_fault result) self.old self.new }
+        ensures front { front_of result ≡ stop_front self.old.stopped None }
+        ensures rest { RestSame self.old self.new }
+        ensures same { TellsSame K.Keeper self.old self.new }
     {
         kept_is_durable();
         if self.stopped {
@@ -95,6 +106,9 @@ impl<K: Keeper> Replica<K> {
         ensures call { Answers K.Keeper (λ kept rows.
             heads_in_rows rows ≡ heads (processed kept)) result self.old self.new }
         ensures keeps { Continues K.Keeper (is_fault result) self.old self.new }
+        ensures front { front_of result ≡ stop_front self.old.stopped None }
+        ensures rest { RestSame self.old self.new }
+        ensures same { TellsSame K.Keeper self.old self.new }
     {
         kept_is_durable();
         if self.stopped {
@@ -116,6 +130,10 @@ impl<K: Keeper> Replica<K> {
         ensures call { Answers K.Keeper (λ kept place.
             place ≡ position (same_cid cid.now) kept.order) result self.old self.new }
         ensures keeps { Continues K.Keeper (is_fault result) self.old self.new }
+        ensures front { front_of result ≡ stop_front self.old.stopped None }
+        ensures rest { RestSame self.old self.new }
+        ensures same { TellsSame K.Keeper self.old self.new }
+        ensures no_memory { NoMemory result }
     {
         kept_is_durable();
         if self.stopped {
@@ -135,6 +153,10 @@ impl<K: Keeper> Replica<K> {
     pub fn at(&mut self, position: u64) -> Result<Option<Cid>, CoreError>
         ensures call { Answers K.Keeper (λ kept cid. cid ≡ slice_get kept.order position) result self.old self.new }
         ensures keeps { Continues K.Keeper (is_fault result) self.old self.new }
+        ensures front { front_of result ≡ stop_front self.old.stopped None }
+        ensures rest { RestSame self.old self.new }
+        ensures same { TellsSame K.Keeper self.old self.new }
+        ensures no_memory { NoMemory result }
     {
         kept_is_durable();
         if self.stopped {

@@ -1,19 +1,21 @@
 // The calls of a replica that make one block.
-ghost use Rattle.std.specs.Prelude.{◌≡◌, ◌≤◌, false, IfOk, IfErr, IfSome};
+ghost use Rattle.std.specs.Prelude.{◌≡◌, ◌≤◌, false, None, IfOk, IfErr, IfSome};
 ghost use Rattle.mc_core.specs.declared.error.CoreError.{CoreError as Refused};
 ghost use Rattle.mc_core.specs.Calls.{Stays};
 ghost use Rattle.mc_core.specs.Events.{Part};
+ghost use Rattle.mc_core.specs.Exact.{IfRefusedOrShort, RestSame, front_of, put_front, stop_front};
 ghost use Rattle.mc_core.specs.Plans.{IsShaped, IsSomePlan, plan_events, plan_rows};
-ghost use Rattle.mc_core.specs.Puts.{PutPlan, put_refusal};
+ghost use Rattle.mc_core.specs.Puts.{AddsPut, PutPlan, put_refusal};
 ghost use Rattle.mc_core.specs.Refusals.{Is, is_fault};
-ghost use Rattle.mc_core.specs.Words.{Acts, Becomes, CommitKeeps, Continues};
+ghost use Rattle.mc_core.specs.Words.{Acts, Becomes, CommitKeeps, Continues, TellsSame};
 
+use crate::commits::is_sound;
 use crate::error::stops;
 use crate::made::{Planned, Written};
 use crate::puts::plan_put;
 use crate::{CoreError, Replica};
 use mc_base::Failed;
-use mc_keep::Keeper;
+use mc_keep::{Keeper, changes_fit, commits_are_events};
 use mc_model::kept_is_durable;
 use std::alloc::Global;
 
@@ -25,8 +27,17 @@ impl<K: Keeper> Replica<K> {
         ensures call { Acts K.Keeper (λ s. Is (put_refusal s key.now value.now)) (λ s. PutPlan s key.now value.now)
             Stays result self.old self.new }
         ensures keeps { Continues K.Keeper (is_fault result) self.old self.new }
+        ensures front { front_of result ≡ stop_front self.old.stopped (put_front key.now value.now) }
+        ensures rest { RestSame self.old self.new }
+        ensures silent { K.told self.old.keeper ≡ None → K.told self.new.keeper ≡ None }
+        ensures refused { IfRefusedOrShort result (TellsSame K.Keeper self.old self.new) }
+        ensures made { IfOk result (λ written. Becomes K.Keeper (λ rose.
+            AddsPut key.now value.now) self.old self.new) }
     {
         kept_is_durable();
+        commits_are_events();
+        changes_fit();
+        is_sound(&self.keeper);
         if self.stopped {
             return Err(CoreError::Stopped);
         }

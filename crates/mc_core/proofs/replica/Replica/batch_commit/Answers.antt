@@ -3,6 +3,7 @@ use Rattle.mc_core.specs.Refusals.{Is}
 use Rattle.std.proofs.Common.{refl, None}
 use Rattle.std.specs.Prelude.{⊤}
 use Rattle.mc_core.proofs.CallFacts.{early_call, part_call}
+use Rattle.mc_core.proofs.MadeFacts.{commit_made, nothing_made}
 use Rattle.mc_core.proofs.BatchFacts.{batch_call, commit_due, commit_plan, commit_empty}
 use Rattle.mc_core.proofs.replica.Replica.batch_commit.Goals as goal
 
@@ -21,3 +22,12 @@ pub returns-in-Err-clause-call : goal.returns-in-Err-clause-call
 returns-in-Err-clause-call g c =
     early_call (λ s. Is (commit_refusal s)) CommitPlan _ _ _ _ _ _ c.args.self.now.batch _ _ _ c.if-self.false c.in-Err.ensures.reads.told_same c.in-Err.ensures.reads.fuse_same c.stops-self.ensures c.in-Err.ensures.reads.own_rose
     (commit_due c.kept_is_durable.ensures.back _ (g.K.Keeper.fuse c.args.self.now.keeper) c.args.self.now.batch c.in-Some.batch c.args.self.now.whole _ c.in-Some.is c.if-is_empty.ensures c.in-Err.ensures.refused)
+
+pub returns-then-is_empty-clause-made : goal.returns-then-is_empty-clause-made
+returns-then-is_empty-clause-made g c = nothing_made _ _ _ _
+
+pub returns-in-Ok-clause-made : goal.returns-in-Ok-clause-made
+returns-in-Ok-clause-made g c =
+    commit_made c.kept_is_durable.ensures.back c.commits_are_events.ensures.sound c.changes_fit.ensures.stored c.changes_fit.ensures.same c.kept_is_durable.ensures.made_links
+    _ _ _ _ _ _ _ c.in-Some.batch _ _ _ c.in-Ok.planned _ c.if-self.false c.in-Some.is c.in-Ok.ensures.reads.told_same c.in-Ok.ensures.reads.fuse_same c.is_sound.ensures c.in-Ok.ensures.planned c.take_up_batch.ensures.answer
+    c.take_up_batch.ensures.part

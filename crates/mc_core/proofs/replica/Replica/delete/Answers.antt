@@ -1,3 +1,4 @@
+use Rattle.mc_core.proofs.CutFacts.{delete_made, none_deleted}
 use Rattle.mc_core.proofs.DeletedFacts.{delete_next, delete_call, delete_early}
 use Rattle.mc_core.proofs.ShortFacts.{short_call, short_early}
 use Rattle.mc_core.proofs.replica.Replica.delete.Goals as goal
@@ -22,3 +23,11 @@ returns-in-Ok-clause-short g c =
 
 pub returns-in-Err-clause-short : goal.returns-in-Err-clause-short
 returns-in-Err-clause-short g c = short_early _ _ _ _ _ _ c.args.key.now _ c.in-Err.ensures.reads.told_same
+
+pub returns-in-Ok-clause-made : goal.returns-in-Ok-clause-made
+returns-in-Ok-clause-made g c =
+    delete_made c.kept_is_durable.ensures.back c.commits_are_events.ensures.sound c.changes_fit.ensures.stored c.changes_fit.ensures.same c.kept_is_durable.ensures.made_links
+    _ _ _ _ _ _ _ _ c.args.key.now _ _ _ c.if-self.false c.in-Ok.ensures.reads.told_same c.in-Ok.ensures.reads.fuse_same c.is_sound.ensures c.in-Ok.ensures.made c.take_up_all.ensures.takes
+
+pub returns-in-Err-clause-made : goal.returns-in-Err-clause-made
+returns-in-Err-clause-made g c = none_deleted _ _ _ _ _ _ c.args.key.now _ c.in-Err.ensures.reads.told_same

@@ -1,6 +1,8 @@
 use Rattle.mc_core.specs.Puts.{put_refusal, PutPlan}
 use Rattle.mc_core.specs.Refusals.{Is}
 use Rattle.mc_core.proofs.CallFacts.{early_call, part_call}
+use Rattle.mc_core.specs.Puts.{delta_of_put}
+use Rattle.mc_core.proofs.MadeFacts.{put_made}
 use Rattle.mc_core.proofs.PutFacts.{put_due, put_plan}
 use Rattle.mc_core.proofs.replica.Replica.put.Goals as goal
 
@@ -13,3 +15,8 @@ pub returns-in-Err-clause-call : goal.returns-in-Err-clause-call
 returns-in-Err-clause-call g c =
     early_call (λ s. Is (put_refusal s c.args.key.now c.args.value.now)) (λ s. PutPlan s c.args.key.now c.args.value.now) _ _ _ _ _ _ _ _ _ _ c.if-self.false c.in-Err.ensures.reads.told_same c.in-Err.ensures.reads.fuse_same c.stops-self.ensures
     c.in-Err.ensures.reads.own_rose (put_due c.kept_is_durable.ensures.back _ (g.K.Keeper.fuse c.args.self.now.keeper) c.args.self.now.batch c.args.self.now.whole c.args.key.now c.args.value.now _ c.in-Err.ensures.refused)
+
+pub returns-in-Ok-clause-made : goal.returns-in-Ok-clause-made
+returns-in-Ok-clause-made g c =
+    put_made c.kept_is_durable.ensures.back c.commits_are_events.ensures.sound c.changes_fit.ensures.stored c.changes_fit.ensures.same c.kept_is_durable.ensures.made_links
+    (λ kept. delta_of_put kept c.args.key.now c.args.value.now) _ _ _ _ _ _ _ _ _ _ _ c.if-self.false c.in-Ok.ensures.reads.told_same c.in-Ok.ensures.reads.fuse_same c.is_sound.ensures c.in-Ok.ensures.planned c.take_up.ensures.part
