@@ -1,25 +1,60 @@
 -- Calls of a replica, one after another.
-use Rattle.std.proofs.Common.{◌≡◌, ◌∙◌, arith, ℕ, Bool, false, Option}
+use Rattle.std.proofs.Common.{◌≡◌, ◌∙◌, ap, subst, sym, refl, ℕ, Bool, false, ◌||◌, Option, Err}
+use Rattle.std.specs.Prelude.{⊤}
 use Rattle.mc_model.specs.Kept.{Kept}
-use Rattle.mc_keep.proofs.Frames.{rose_before}
+use Rattle.mc_keep.specs.Plan.{Schedule}
+use Rattle.mc_keep.specs.declared.fuse.Fuse.{Fuse}
+use Rattle.mc_keep.specs.Causes.{is_fault_kind}
+use Rattle.mc_keep.specs.Frame.{ReadsAt, GoesAt}
+use Rattle.mc_keep.specs.Plan.{is_fault as keeper_failed}
+use Rattle.mc_keep.specs.declared.error.KeepError.{KeepError}
+use Rattle.mc_keep.specs.declared.error.KeepError.TheVariants.{Failed, Memory}
+use Rattle.mc_keep.proofs.Frames.{goes_itself, goes_more, goes_reads}
+use Rattle.mc_core.specs.Refusals.{OfKeeper, kind_of, stops}
+use Rattle.mc_core.specs.Reports.{IsCounted}
+use Rattle.mc_core.specs.declared.error.CoreError.{CoreError}
 use Rattle.mc_core.specs.declared.replica.Replica.{Replica}
+use Rattle.mc_core.specs.Exact.{RestSame}
 use Rattle.mc_core.specs.Words.{ContinuesAt, CommitKeepsAt}
 
-module _ {K D : Type 0} {told : K → Option Kept} {own faults : K → ℕ} {quiet : K → Bool} where
+-- the batch and the gaps wanted stay over two calls
+pub rest_more : {K D : Type 0} {old mid new : Replica K D} → RestSame old mid → RestSame mid new → RestSame old new
+rest_more before next = record { batch_same = next.batch_same ∙ before.batch_same; whole_same = next.whole_same ∙ before.whole_same }
+
+module _ {K D : Type 0} {told : K → Option Kept} {fuse : K → Option Fuse} {own faults : K → ℕ} {quiet : K → Bool} {schedule : K → Option Schedule} where
   -- the second one is the last
-  pub continues_more : {f failed : Bool} {old mid new : Replica K D} → ContinuesAt told own faults quiet f old mid → mid.stopped ≡ false → ContinuesAt told own faults quiet failed mid new → ContinuesAt told own faults quiet failed old new
-  continues_more before up next = record {
+  pub continues_more : {failed : Bool} {old mid new : Replica K D} → ContinuesAt told fuse own faults quiet schedule false old mid → mid.stopped ≡ false → ContinuesAt told fuse own faults quiet schedule failed mid new → ContinuesAt told fuse own faults quiet schedule failed old new
+  continues_more {failed = failed} before up next = record {
     counted = λ running n. next.counted running (before.counted up n);
-    own_later = omega (arith, before.own_later, next.own_later);
-    still_quiet = λ e. let first = before.still_quiet e in let then = next.still_quiet first.0 in (then.0, then.1 ∙ first.1);
-    later = omega (arith, before.later, next.later);
-    rose = λ e. rose_before before.later (next.rose e);
+    keeper_goes = goes_more before.keeper_goes next.keeper_goes;
+    stops = next.stops ∙ ap (λ b. failed || b) before.stops;
   }
 
-  pub commit_more : {f failed : Bool} {old mid new : Replica K D} → CommitKeepsAt told own faults quiet f old mid → mid.stopped ≡ false → CommitKeepsAt told own faults quiet failed mid new → CommitKeepsAt told own faults quiet failed old new
-  commit_more before up next = record {
-    silent = λ e. next.silent (before.silent e);
-    batch_same = next.batch_same ∙ before.batch_same;
-    whole_same = next.whole_same ∙ before.whole_same;
-    continues = continues_more before.continues up next.continues;
+  pub commit_more : {failed : Bool} {old mid new : Replica K D} → CommitKeepsAt told fuse own faults quiet schedule false old mid → mid.stopped ≡ false → CommitKeepsAt told fuse own faults quiet schedule failed mid new → CommitKeepsAt told fuse own faults quiet schedule failed old new
+  commit_more before up next = record { rest_same = rest_more before.rest_same next.rest_same; continues = continues_more before.continues up next.continues }
+
+  -- where only reads have come to the keeper
+  pub looks_on : {spare : K → ℕ} {failed : Bool} {old new : Replica K D} → ReadsAt told fuse spare own faults quiet schedule failed old.keeper new.keeper → new.numbers ≡ old.numbers → new.stopped ≡ (failed || old.stopped)
+      → ContinuesAt told fuse own faults quiet schedule failed old new
+  looks_on {old = old} {new = new} reads same stops = record {
+    counted = λ running n. subst (IsCounted (told new.keeper)) (sym same) (subst (λ t. IsCounted t old.numbers) (sym reads.told_same) n);
+    keeper_goes = goes_reads reads;
+    stops = stops;
   }
+
+  -- where nothing has come to it
+  pub still_on : {old new : Replica K D} → new.keeper ≡ old.keeper → new.numbers ≡ old.numbers → new.stopped ≡ old.stopped → ContinuesAt told fuse own faults quiet schedule false old new
+  still_on {old = old} {new = new} keeper same stops = record {
+    counted = λ running n. subst (IsCounted (told new.keeper)) (sym same) (subst (λ k. IsCounted (told k) old.numbers) (sym keeper) n);
+    keeper_goes = subst (GoesAt told fuse own faults quiet schedule false old.keeper) (sym keeper) (goes_itself old.keeper);
+    stops = stops;
+  }
+
+-- a keeper's error is a fault exactly where the replica's is
+pub same_fault : (keep : KeepError) (error : CoreError) → OfKeeper keep error → keeper_failed {T = ⊤} (Err keep) ≡ is_fault_kind (kind_of error)
+same_fault Failed error of = ap (λ e. is_fault_kind (kind_of e)) (sym of)
+same_fault Memory error of = ap (λ e. is_fault_kind (kind_of e)) (sym of)
+
+-- a replica that ran, and has stopped where the keeper failed
+pub stops_once : (error : CoreError) (stop stop_new : Bool) → stop ≡ false → stop_new ≡ stops error false → stop_new ≡ (is_fault_kind (kind_of error) || stop)
+stops_once error stop stop_new up is = is ∙ ap (λ b. is_fault_kind (kind_of error) || b) (sym up)

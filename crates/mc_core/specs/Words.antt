@@ -1,48 +1,45 @@
 -- The words that every call of a replica says, at a bound `K: Keeper`.
-use Rattle.std.specs.Prelude.{◌≡◌, ℕ, ◌≤◌, Bool, true, false, ◌||◌, Option, None, List, Result}
+use Rattle.std.specs.Prelude.{◌≡◌, ℕ, Bool, true, false, ◌||◌, Option, None, List, Result}
 use Rattle.mc_base.specs.Causes.{Rose}
 use Rattle.mc_base.specs.Told.{Told}
 use Rattle.mc_base.specs.declared.counted.Counted as counted
 use Rattle.mc_model.specs.Events.{Event}
 use Rattle.mc_model.specs.Kept.{Kept}
 use Rattle.mc_keep.specs.Calls.{Members}
-use Rattle.mc_keep.specs.Causes.{StaysQuiet}
+use Rattle.mc_keep.specs.Frame.{GoesAt}
+use Rattle.mc_keep.specs.Plan.{Schedule}
+use Rattle.mc_keep.specs.declared.fuse.Fuse.{Fuse}
 use Rattle.mc_keep.specs.declared.keeper.Keeper as keeper
 use Rattle.mc_core.specs.declared.error.CoreError.{CoreError}
 use Rattle.mc_core.specs.declared.replica.Replica.{Replica}
 use Rattle.mc_core.specs.Calls.{Call, Stays}
 use Rattle.mc_core.specs.Events.{ReplicaState}
-use Rattle.mc_core.specs.Exact.{TellsSameAt}
+use Rattle.mc_core.specs.Exact.{RestSame, TellsSameAt}
 use Rattle.mc_core.specs.Reads.{OnlyReads, read_refusal}
 use Rattle.mc_core.specs.Refusals.{Is}
 use Rattle.mc_core.specs.Replica.{replica_state}
 use Rattle.mc_core.specs.Reports.{StaysCounted}
 
--- What every call leaves of a replica: its numbers stay those of what is told, counts don't fall, what is quiet stays so,
--- and where the keeper failed, its count rose and the replica has stopped, as one does that had stopped before.
-pub record ContinuesAt {K D : Type 0} (told : K → Option Kept) (own faults : K → ℕ) (quiet : K → Bool) (failed : Bool)
-    (old new : Replica K D) : Type 0 where
+-- What every call leaves of a replica: its numbers stay those of what is told; only the last call of its keeper may have
+-- failed, and then the replica has stopped, as one has that had stopped before.
+pub record ContinuesAt {K D : Type 0} (told : K → Option Kept) (fuse : K → Option Fuse) (own faults : K → ℕ)
+    (quiet : K → Bool) (schedule : K → Option Schedule) (failed : Bool) (old new : Replica K D) : Type 0 where
   pub counted : StaysCounted new.stopped (told old.keeper) old.numbers (told new.keeper) new.numbers
-  pub own_later : own old.keeper ≤ own new.keeper
-  pub still_quiet : StaysQuiet (quiet old.keeper) (quiet new.keeper) (own old.keeper) (own new.keeper)
-  pub later : faults old.keeper ≤ faults new.keeper
-  pub rose : failed ≡ true → Rose (faults old.keeper) (faults new.keeper)
+  pub keeper_goes : GoesAt told fuse own faults quiet schedule failed old.keeper new.keeper
   pub stops : new.stopped ≡ (failed || old.stopped)
 
--- what commits leave besides: a keeper that doesn't tell goes on so, and the batch and the gaps wanted are the same
-pub record CommitKeepsAt {K D : Type 0} (told : K → Option Kept) (own faults : K → ℕ) (quiet : K → Bool) (failed : Bool)
-    (old new : Replica K D) : Type 0 where
-  pub silent : told old.keeper ≡ None → told new.keeper ≡ None
-  pub batch_same : new.batch ≡ old.batch
-  pub whole_same : new.whole ≡ old.whole
-  pub continues : ContinuesAt told own faults quiet failed old new
+-- what commits leave besides: the batch and the gaps wanted are the same
+pub record CommitKeepsAt {K D : Type 0} (told : K → Option Kept) (fuse : K → Option Fuse) (own faults : K → ℕ)
+    (quiet : K → Bool) (schedule : K → Option Schedule) (failed : Bool) (old new : Replica K D) : Type 0 where
+  pub rest_same : RestSame old new
+  pub continues : ContinuesAt told fuse own faults quiet schedule failed old new
 
 module _ {K D : Type 0} (k : Members K D) where
   abbrev pub Continues : Bool → Replica K D → Replica K D → Type 0
-  Continues = ContinuesAt k.told k.own k.faults k.quiet
+  Continues = ContinuesAt k.told k.fuse k.own k.faults k.quiet k.schedule
 
   abbrev pub CommitKeeps : Bool → Replica K D → Replica K D → Type 0
-  CommitKeeps = CommitKeepsAt k.told k.own k.faults k.quiet
+  CommitKeeps = CommitKeepsAt k.told k.fuse k.own k.faults k.quiet k.schedule
 
   abbrev pub TellsSame : Replica K D → Replica K D → Type 0
   TellsSame = TellsSameAt k.told k.fuse
@@ -64,4 +61,4 @@ module _ {K D : Type 0} (k : Members K D) where
 
 -- The same of a loop over commits, in a proof file.
 abbrev pub HasCommitted : {K D : Type 0} → keeper.Ghosts K D → counted.Ghosts K → Replica K D → Replica K D → Type 0
-HasCommitted k c = CommitKeepsAt k.told k.own c.faults k.quiet false
+HasCommitted k c = CommitKeepsAt k.told k.fuse k.own c.faults k.quiet k.schedule false

@@ -111,7 +111,6 @@ impl<K: Keeper> Replica<K> {
         ensures keeps { Continues K.Keeper (is_fault result) self.old self.new }
         ensures front { front_of result ≡ stop_front self.old.stopped
             (no_batch_refusal self.old.batch (λ batch. None)) }
-        ensures silent { K.told self.old.keeper ≡ None → K.told self.new.keeper ≡ None }
         ensures refused { IfRefusedOrShort result (TellsSame K.Keeper self.old self.new) }
         ensures closed { self.new.batch ≡ batch_once result None self.old.batch }
         ensures whole_same { self.new.whole ≡ self.old.whole }
@@ -150,7 +149,6 @@ impl<K: Keeper> Replica<K> {
             Part (plan_events planned.plan ++ Closed None ∷ []) rose result) self.old self.new }
         ensures answer { IfOk result (λ written. written ≡ Some planned.written) }
         ensures only { IfErr result (λ error. error ≡ Refused.KeeperFault) }
-        ensures silent { K.told self.old.keeper ≡ None → K.told self.new.keeper ≡ None }
         ensures closed { self.new.batch ≡ batch_once result None self.old.batch }
         ensures whole_same { self.new.whole ≡ self.old.whole }
         ensures keeps { Continues K.Keeper (is_fault result) self.old self.new }

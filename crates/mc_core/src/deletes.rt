@@ -54,7 +54,6 @@ impl<K: Keeper> Replica<K> {
         ensures keeps { Continues K.Keeper (is_fault result) self.old self.new }
         ensures front { front_of result ≡ stop_front self.old.stopped (key_refusal key.now) }
         ensures rest { RestSame self.old self.new }
-        ensures silent { K.told self.old.keeper ≡ None → K.told self.new.keeper ≡ None }
         ensures refused { IfRefused result (TellsSame K.Keeper self.old self.new) }
         ensures made { Becomes K.Keeper (λ rose. AddsDeleted key.now result) self.old self.new }
         ensures short { Becomes K.Keeper (λ rose. ShortKeeps key.now result) self.old self.new }

@@ -1,5 +1,5 @@
 // One replica.
-ghost use Rattle.std.specs.Prelude.{◌≡◌, true, false, IfOk, IfErr};
+ghost use Rattle.std.specs.Prelude.{◌≡◌, true, false, None, IfOk, IfErr};
 ghost use Rattle.mc_keep.specs.Calls.{Reads};
 ghost use Rattle.mc_core.specs.Reports.{IsCounted};
 ghost use Rattle.mc_core.specs.Replica.{replica_state, opened_state};
@@ -26,6 +26,8 @@ pub struct Replica<K: Keeper> {
 pub enum OpenCause {
     /// The keeper failed, and counted it.
     KeeperFault,
+    /// Want of memory. No opening of today takes any.
+    Memory,
 }
 
 /// A replica that was not opened: why, and its keeper.
@@ -45,7 +47,9 @@ impl<K: Keeper> Replica<K> {
             replica_state K.told K.fuse replica ≡ opened_state (K.told keeper) (K.fuse keeper)) }
         ensures counted { IfOk result (λ replica. IsCounted (K.told replica.keeper) replica.numbers) }
         ensures reads { IfOk result (λ replica. Reads K.Keeper false keeper replica.keeper) }
-        ensures refused { IfErr result (λ error. Reads K.Keeper true keeper error.keeper) }
+        ensures runs { IfOk result (λ replica. (replica.stopped ≡ false) × (replica.batch ≡ None)) }
+        ensures refused { IfErr result (λ error.
+            (error.cause ≡ OpenCause.KeeperFault) × Reads K.Keeper true keeper error.keeper) }
     {
         let mut keeper = keeper;
         match keeper.summary() {

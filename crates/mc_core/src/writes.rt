@@ -29,7 +29,6 @@ impl<K: Keeper> Replica<K> {
         ensures keeps { Continues K.Keeper (is_fault result) self.old self.new }
         ensures front { front_of result ≡ stop_front self.old.stopped (put_front key.now value.now) }
         ensures rest { RestSame self.old self.new }
-        ensures silent { K.told self.old.keeper ≡ None → K.told self.new.keeper ≡ None }
         ensures refused { IfRefusedOrShort result (TellsSame K.Keeper self.old self.new) }
         ensures made { IfOk result (λ written. Becomes K.Keeper (λ rose.
             AddsPut key.now value.now) self.old self.new) }

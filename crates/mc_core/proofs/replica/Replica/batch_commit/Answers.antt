@@ -14,13 +14,13 @@ returns-then-is_empty-clause-call g c =
 
 pub returns-in-Ok-clause-call : goal.returns-in-Ok-clause-call
 returns-in-Ok-clause-call g c =
-    part_call (λ s. Is (commit_refusal s)) CommitPlan _ _ _ _ _ _ _ _ _ _ _ _ _ _ c.if-self.false c.in-Ok.ensures.reads.told_same c.in-Ok.ensures.reads.fuse_same c.in-Ok.ensures.reads.own_later
+    part_call (λ s. Is (commit_refusal s)) CommitPlan _ _ _ _ _ _ _ _ _ _ _ _ _ _ c.if-self.false c.in-Ok.ensures.reads.told_same c.in-Ok.ensures.reads.fuse_same c.in-Ok.ensures.reads.own_goes.later
     (commit_plan c.kept_is_durable.ensures.back _ (g.K.Keeper.fuse c.args.self.now.keeper) c.args.self.now.batch c.in-Some.batch c.args.self.now.whole c.in-Ok.planned c.in-Some.is c.if-is_empty.ensures c.in-Ok.ensures.allowed c.in-Ok.ensures.planned)
     c.take_up_batch.ensures.answer c.take_up_batch.ensures.only c.take_up_batch.ensures.part
 
 pub returns-in-Err-clause-call : goal.returns-in-Err-clause-call
 returns-in-Err-clause-call g c =
-    early_call (λ s. Is (commit_refusal s)) CommitPlan _ _ _ _ _ _ c.args.self.now.batch _ _ _ c.if-self.false c.in-Err.ensures.reads.told_same c.in-Err.ensures.reads.fuse_same c.stops-self.ensures c.in-Err.ensures.reads.own_rose
+    early_call (λ s. Is (commit_refusal s)) CommitPlan _ _ _ _ _ _ c.args.self.now.batch _ _ _ c.if-self.false c.in-Err.ensures.reads.told_same c.in-Err.ensures.reads.fuse_same c.stops-self.ensures c.in-Err.ensures.reads.own_goes.rose
     (commit_due c.kept_is_durable.ensures.back _ (g.K.Keeper.fuse c.args.self.now.keeper) c.args.self.now.batch c.in-Some.batch c.args.self.now.whole _ c.in-Some.is c.if-is_empty.ensures c.in-Err.ensures.refused)
 
 pub returns-then-is_empty-clause-made : goal.returns-then-is_empty-clause-made

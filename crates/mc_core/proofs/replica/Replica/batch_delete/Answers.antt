@@ -14,4 +14,4 @@ returns-in-Ok-clause-call g c =
 pub returns-in-Err-clause-call : goal.returns-in-Err-clause-call
 returns-in-Err-clause-call g c =
     early_batch (λ s. Is (batch_delete_refusal s c.args.key.now)) (λ s. BatchDeletePlan s c.args.key.now) _ _ _ _ _ _ c.args.self.now.batch (Some c.delete.new.self) _ _ _ (ap Some c.in-Err.ensures.err ∙ sym c.in-Some.is) c.if-self.false c.in-Err.ensures.reads.told_same c.in-Err.ensures.reads.fuse_same c.stops-self.ensures
-    (keeper_rose _ _ _ c.from-error.ensures c.in-Err.ensures.reads.own_rose) (delete_due _ (g.K.Keeper.fuse c.args.self.now.keeper) c.args.self.now.batch c.args.self.now.whole c.args.key.now _ _ c.from-error.ensures)
+    (keeper_rose _ _ _ c.from-error.ensures c.in-Err.ensures.reads.own_goes.rose) (delete_due _ (g.K.Keeper.fuse c.args.self.now.keeper) c.args.self.now.batch c.args.self.now.whole c.args.key.now _ _ c.from-error.ensures)

@@ -6,7 +6,7 @@ use Rattle.mc_core.proofs.replica.Replica.commit_both.Goals as goal
 
 pub returns-in-Ok-clause-part : goal.returns-in-Ok-clause-part
 returns-in-Ok-clause-part g c =
-    part_then (Store (vertices c.args.store.store) ∷ []) (Process c.args.process.marks ∷ []) _ _ _ _ _ _ _ c.in-Ok.ensures.keeps.continues.own_later c.in-Ok.ensures.part c.commit_process.ensures.part
+    part_then (Store (vertices c.args.store.store) ∷ []) (Process c.args.process.marks ∷ []) _ _ _ _ _ _ _ c.in-Ok.ensures.keeps.continues.keeper_goes.own_later c.in-Ok.ensures.part c.commit_process.ensures.part
 
 pub returns-in-Err-clause-part : goal.returns-in-Err-clause-part
 returns-in-Err-clause-part g c = part_more _ _ (Store (vertices c.args.store.store) ∷ []) (Process c.args.process.marks ∷ []) _ _ _ (omega arith) c.in-Err.ensures.part

@@ -9,12 +9,12 @@ take_up_all-requires-clause-next g c =
 
 pub returns-in-Ok-clause-call : goal.returns-in-Ok-clause-call
 returns-in-Ok-clause-call g c =
-    delete_call c.kept_is_durable.ensures.back _ _ _ _ _ _ _ _ c.args.key.now _ _ _ _ _ c.if-self.false c.in-Ok.ensures.reads.told_same c.in-Ok.ensures.reads.fuse_same c.in-Ok.ensures.reads.own_later c.in-Ok.ensures.allowed c.in-Ok.ensures.made
+    delete_call c.kept_is_durable.ensures.back _ _ _ _ _ _ _ _ c.args.key.now _ _ _ _ _ c.if-self.false c.in-Ok.ensures.reads.told_same c.in-Ok.ensures.reads.fuse_same c.in-Ok.ensures.reads.own_goes.later c.in-Ok.ensures.allowed c.in-Ok.ensures.made
     c.take_up_all.ensures.takes
 
 pub returns-in-Err-clause-call : goal.returns-in-Err-clause-call
 returns-in-Err-clause-call g c =
-    delete_early c.kept_is_durable.ensures.back _ _ _ _ _ _ _ _ c.args.key.now _ _ c.if-self.false c.in-Err.ensures.reads.told_same c.in-Err.ensures.reads.fuse_same c.stops-self.ensures c.in-Err.ensures.reads.own_rose c.in-Err.ensures.refused
+    delete_early c.kept_is_durable.ensures.back _ _ _ _ _ _ _ _ c.args.key.now _ _ c.if-self.false c.in-Err.ensures.reads.told_same c.in-Err.ensures.reads.fuse_same c.stops-self.ensures c.in-Err.ensures.reads.own_goes.rose c.in-Err.ensures.refused
 
 pub returns-in-Ok-clause-short : goal.returns-in-Ok-clause-short
 returns-in-Ok-clause-short g c =
