@@ -107,6 +107,7 @@ module _ (back : BackLaw) (sound_law : SoundLaw) (stored_law : StoredLaw) (same_
 
   cut : (blocks : List MadeBlock) (kept : Kept) (d : Durable) (run : Running) (fuse : Option Fuse) (so_far rest : List Event) (rose : Type 0) (new : ReplicaState) → d.graph ≡ vertices kept.graph → d.order ≡ kept.order
       → IsKept kept → AreNext kept blocks → all_events kept blocks ≡ so_far ++ rest → IsCutShort rest rose (all_happen (running d run fuse) so_far) new → Cut kept blocks new
+    unfolding head_or tail_of
   cut [] kept d run fuse [] rest rose new g o sound next split fate =
       let at = subst (λ r. IsCutShort r rose (running d run fuse) new) (sym split) fate in
       none_cut kept [] new (ap (λ (s : ReplicaState). processed (kept_of s.state.durable)) at.1 ∙ at_kept kept d g o)

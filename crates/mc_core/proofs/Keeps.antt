@@ -1,5 +1,5 @@
 -- Calls of a replica, one after another.
-use Rattle.std.proofs.Common.{◌≡◌, ◌∙◌, ap, subst, sym, refl, ℕ, Bool, false, ◌||◌, Option, Err}
+use Rattle.std.proofs.Common.{◌≡◌, ◌∙◌, ap, subst, sym, refl, ℕ, Bool, true, false, ◌||◌, Option, Err}
 use Rattle.std.specs.Prelude.{⊤}
 use Rattle.mc_model.specs.Kept.{Kept}
 use Rattle.mc_keep.specs.Plan.{Schedule}
@@ -9,7 +9,7 @@ use Rattle.mc_keep.specs.Frame.{ReadsAt, GoesAt}
 use Rattle.mc_keep.specs.Plan.{is_fault as keeper_failed}
 use Rattle.mc_keep.specs.declared.error.KeepError.{KeepError}
 use Rattle.mc_keep.specs.declared.error.KeepError.TheVariants.{Failed, Memory}
-use Rattle.mc_keep.proofs.Frames.{goes_itself, goes_more, goes_reads}
+use Rattle.mc_keep.proofs.Frames.{goes_itself, goes_more, goes_reads, read_itself, read_well}
 use Rattle.mc_core.specs.Refusals.{OfKeeper, kind_of, stops}
 use Rattle.mc_core.specs.Reports.{IsCounted}
 use Rattle.mc_core.specs.declared.error.CoreError.{CoreError}
@@ -43,8 +43,9 @@ module _ {K D : Type 0} {told : K → Option Kept} {fuse : K → Option Fuse} {o
   }
 
   -- where nothing has come to it
-  pub still_on : {old new : Replica K D} → new.keeper ≡ old.keeper → new.numbers ≡ old.numbers → new.stopped ≡ old.stopped → ContinuesAt told fuse own faults quiet schedule false old new
-  still_on {old = old} {new = new} keeper same stops = record {
+  pub still_on : {failed : Bool} {old new : Replica K D} → new.keeper ≡ old.keeper → new.numbers ≡ old.numbers → new.stopped ≡ old.stopped → failed ≡ false → ContinuesAt told fuse own faults quiet schedule failed old new
+  still_on {failed = true} keeper same stops well = absurd (let f : false ≡ true = sym well in cc)
+  still_on {failed = false} {old = old} {new = new} keeper same stops well = record {
     counted = λ running n. subst (IsCounted (told new.keeper)) (sym same) (subst (λ k. IsCounted (told k) old.numbers) (sym keeper) n);
     keeper_goes = subst (GoesAt told fuse own faults quiet schedule false old.keeper) (sym keeper) (goes_itself old.keeper);
     stops = stops;
@@ -58,3 +59,8 @@ same_fault Memory error of = ap (λ e. is_fault_kind (kind_of e)) (sym of)
 -- a replica that ran, and has stopped where the keeper failed
 pub stops_once : (error : CoreError) (stop stop_new : Bool) → stop ≡ false → stop_new ≡ stops error false → stop_new ≡ (is_fault_kind (kind_of error) || stop)
 stops_once error stop stop_new up is = is ∙ ap (λ b. is_fault_kind (kind_of error) || b) (sym up)
+
+-- nothing was read
+pub reads_nothing : {K : Type 0} {told : K → Option Kept} {fuse : K → Option Fuse} {spare own faults : K → ℕ} {quiet : K → Bool} {schedule : K → Option Schedule} {failed : Bool} (now : K) → failed ≡ false
+    → ReadsAt told fuse spare own faults quiet schedule failed now now
+reads_nothing now well = read_well (read_itself now) (sym well)

@@ -1,6 +1,6 @@
 // Blocks that a replica makes.
 ghost use Rattle.mc_keep.specs.Calls.{Reads};
-ghost use Rattle.std.specs.Prelude.{◌≡◌, ◌≤◌, None, Some, true, IfOk, IfSome, IfErr, OnOk};
+ghost use Rattle.std.specs.Prelude.{◌≡◌, ◌≤◌, None, Some, true, false, IfOk, IfSome, IfErr, OnOk};
 ghost use Rattle.std.specs.List.{list_all};
 ghost use Rattle.std.specs.Result.{is_err};
 ghost use Rattle.mc_model.specs.Front.{is_among};
@@ -79,6 +79,7 @@ pub(crate) fn cids_of(alloc: Global, heads: &[HeadRow]) -> Result<List<Cid>, All
 fn check_size(bytes: &[u8]) -> Result<(), CoreError>
     ensures ok { OnOk result (size_refusal bytes.now ≡ None) }
     ensures front { front_of result ≡ None }
+    ensures no_fault { is_fault result ≡ false }
     ensures refused { IfErr result (λ error. size_refusal bytes.now ≡ Some error) }
 {
     if bytes.len() > BLOCK_MAX {

@@ -1,6 +1,6 @@
 // Puts, up to their commits.
 ghost use Rattle.mc_keep.specs.Calls.{Reads};
-ghost use Rattle.std.specs.Prelude.{◌≡◌, ◌≤◌, None, Some, IfOk, IfSome, IfErr, OnOk};
+ghost use Rattle.std.specs.Prelude.{◌≡◌, ◌≤◌, None, Some, false, IfOk, IfSome, IfErr, OnOk};
 ghost use Rattle.mc_keep.specs.Causes.{IfTold};
 ghost use Rattle.mc_core.specs.Exact.{front_of, put_front};
 ghost use Rattle.mc_core.specs.Plans.{IsShaped, plan_rows};
@@ -23,6 +23,7 @@ pub(crate) fn check_key(text: &str) -> Result<Key<'_>, CoreError>
     ensures key { IfOk result (λ key. key ≡ text.now) }
     ensures ok { OnOk result (key_refusal text.now ≡ None) }
     ensures front { front_of result ≡ key_refusal text.now }
+    ensures no_fault { is_fault result ≡ false }
     ensures refused { IfErr result (λ error. key_refusal text.now ≡ Some error) }
 {
     match Key::read(text) {
@@ -34,6 +35,7 @@ pub(crate) fn check_key(text: &str) -> Result<Key<'_>, CoreError>
 pub(crate) fn check_value(value: &[u8]) -> Result<(), CoreError>
     ensures ok { OnOk result (value_refusal value.now ≡ None) }
     ensures front { front_of result ≡ value_refusal value.now }
+    ensures no_fault { is_fault result ≡ false }
     ensures refused { IfErr result (λ error. value_refusal value.now ≡ Some error) }
 {
     if value.len() > VALUE_MAX {
