@@ -109,11 +109,13 @@ impl<S: BuildHasher + Copy + Drop> Keepers for MemKeepers<S> {
 
     fn end(&mut self, keeper: MemKeeper<S>, desks: List<MemDesk>)
         ensures taken { self.new ≡ record self.old {
-          lost = min (self.old.lost + keeper.faults.faults + sum_by (λ (desk : MemDesk). desk.faults) desks) (2 ^ 64 - 1);
+          lost = min (self.old.lost + keeper.faults.faults + sum_by (λ (desk : MemDesk). desk.faults) desks)
+              (2 ^ 64 - 1);
         } }
         ensures lost { self.new.lost ≡ min (self.old.lost + keeper.faults.faults + sum_by (λ (desk : MemDesk). desk.faults) desks) (2 ^ 64 - 1) }
         ensures starts_same { (plan : KeeperPlan) (index : ℕ) → Some nothing_kept ≡ Some nothing_kept }
-        ensures quiet_same { (plan : KeeperPlan) → list_all plans_nothing self.new.plans ≡ list_all plans_nothing self.old.plans }
+        ensures quiet_same { (plan : KeeperPlan) →
+            list_all plans_nothing self.new.plans ≡ list_all plans_nothing self.old.plans }
         ensures planned { Some (makes_of self.new.failing self.new.made self.new.plans) ≡ Some (makes_of self.old.failing self.old.made self.old.plans) }
         ensures count { self.new.faults ≡ self.old.faults }
     {

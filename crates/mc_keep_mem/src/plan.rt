@@ -115,7 +115,8 @@ impl MemDesk {
     pub(crate) fn read_fails(&mut self) -> bool
         ensures count { CountGoes result self.old.faults self.new.faults }
         ensures plan { self.new.failing ≡ self.old.failing }
-        ensures planned { DeskReadsAsPlanned (Some (desk_schedule_of self.old)) (Some (desk_schedule_of self.new)) result }
+        ensures planned { DeskReadsAsPlanned (Some (desk_schedule_of self.old))
+            (Some (desk_schedule_of self.new)) result }
         ensures calm { is_nothing self.old.failing ≡ true → result ≡ false }
     {
         self.calls = next_of(self.calls);
@@ -235,7 +236,8 @@ impl Faults {
         ensures schedule { schedule_of self.new ≡ with_desk (is_ok result) (schedule_of self.old) }
         ensures failed { is_err result ≡ is_planned self.old.failing (next_number self.old.reads) }
         ensures takes { IfOk result (λ desk. desk_schedule_of desk ≡ record { reads = first_plan self.old.desks.items; reads_made = 0 }) }
-        ensures goes { ReadsGo (without_desks (Some (schedule_of self.old))) (without_desks (Some (schedule_of self.new))) (is_err result) }
+        ensures goes { ReadsGo (without_desks (Some (schedule_of self.old)))
+            (without_desks (Some (schedule_of self.new))) (is_err result) }
     {
         if self.read_fails() {
             return Err(Failed);
