@@ -45,9 +45,9 @@ commit_left : {X : Type 0} (fire : Option Bool) (rose : Type 0) (old whole new :
 commit_left None rose old whole new fails = fails.1
 commit_left (Some false) rose old whole new fails = inl fails
 commit_left (Some true) rose old whole new fails = elim fails [
-    | inl all ↦ inr all
-    | inr none ↦ inl none.1
-  ]
+  | inl all ↦ inr all
+  | inr none ↦ inl none.1
+]
 
 abbrev block_in_made : MadeBlock → Block
 block_in_made made = made.block
@@ -92,22 +92,22 @@ module _ (back : BackLaw) (sound_law : SoundLaw) (stored_law : StoredLaw) (same_
       → processed (record { graph = kept.graph ++ stored; order = kept.order; mark = kept.mark }) ≡ processed kept
       → IsCutShort (Store (vertices stored) ∷ more) rose (running d run fuse) new → Cut kept blocks new
   fate_of_store kept stored blocks more d run fuse rose new g o same fate = elim fate [
-      | inl at ↦ none_cut kept blocks new (ap (λ (s : ReplicaState). processed (kept_of s.state.durable)) at.1 ∙ at_kept kept d g o)
-      | inr breaks ↦ elim (commit_left (fires fuse) rose d (with_blocks d (vertices stored)) breaks.left breaks.fails) [
-        | inl old ↦ none_cut kept blocks new
-            (ap (λ (s : ReplicaState). processed (kept_of s.state.durable)) breaks.ends ∙ ap (λ x. processed (kept_of x)) old ∙ at_kept kept d g o)
-        | inr all ↦ none_cut kept blocks new
-            (ap (λ (s : ReplicaState). processed (kept_of s.state.durable)) breaks.ends ∙ ap (λ x. processed (kept_of x)) all
-            ∙ at_kept (record { graph = kept.graph ++ stored; order = kept.order; mark = kept.mark }) (with_blocks d (vertices stored))
-            (ap (λ graph. graph ++ vertices stored) g ∙ sym (map-append vertex_of kept.graph stored)) o ∙ same)
-      ]
+    | inl at ↦ none_cut kept blocks new (ap (λ (s : ReplicaState). processed (kept_of s.state.durable)) at.1 ∙ at_kept kept d g o)
+    | inr breaks ↦ elim (commit_left (fires fuse) rose d (with_blocks d (vertices stored)) breaks.left breaks.fails) [
+      | inl old ↦ none_cut kept blocks new
+          (ap (λ (s : ReplicaState). processed (kept_of s.state.durable)) breaks.ends ∙ ap (λ x. processed (kept_of x)) old ∙ at_kept kept d g o)
+      | inr all ↦ none_cut kept blocks new
+          (ap (λ (s : ReplicaState). processed (kept_of s.state.durable)) breaks.ends ∙ ap (λ x. processed (kept_of x)) all
+          ∙ at_kept (record { graph = kept.graph ++ stored; order = kept.order; mark = kept.mark }) (with_blocks d (vertices stored))
+          (ap (λ graph. graph ++ vertices stored) g ∙ sym (map-append vertex_of kept.graph stored)) o ∙ same)
     ]
+  ]
 
   -- some first events have happened, and then this
 
   cut : (blocks : List MadeBlock) (kept : Kept) (d : Durable) (run : Running) (fuse : Option Fuse) (so_far rest : List Event) (rose : Type 0) (new : ReplicaState) → d.graph ≡ vertices kept.graph → d.order ≡ kept.order
       → IsKept kept → AreNext kept blocks → all_events kept blocks ≡ so_far ++ rest → IsCutShort rest rose (all_happen (running d run fuse) so_far) new → Cut kept blocks new
-    unfolding head_or tail_of
+  unfolding head_or tail_of
   cut [] kept d run fuse [] rest rose new g o sound next split fate =
       let at = subst (λ r. IsCutShort r rose (running d run fuse) new) (sym split) fate in
       none_cut kept [] new (ap (λ (s : ReplicaState). processed (kept_of s.state.durable)) at.1 ∙ at_kept kept d g o)

@@ -51,6 +51,15 @@ module _ {K D : Type 0} {told : K → Option Kept} {fuse : K → Option Fuse} {o
     stops = stops;
   }
 
+  -- commits after reads, or after nothing
+
+  pub looks_first : {spare : K → ℕ} {old new : Replica K D} → ReadsAt told fuse spare own faults quiet schedule false old.keeper new.keeper → new.numbers ≡ old.numbers → new.stopped ≡ old.stopped → RestSame old new
+      → CommitKeepsAt told fuse own faults quiet schedule false old new
+  looks_first reads same stops rest = record { rest_same = rest; continues = looks_on reads same stops }
+
+  pub commit_itself : (now : Replica K D) → CommitKeepsAt told fuse own faults quiet schedule false now now
+  commit_itself now = record { rest_same = record { batch_same = refl; whole_same = refl }; continues = still_on refl refl refl refl }
+
 -- a keeper's error is a fault exactly where the replica's is
 pub same_fault : (keep : KeepError) (error : CoreError) → OfKeeper keep error → keeper_failed {T = ⊤} (Err keep) ≡ is_fault_kind (kind_of error)
 same_fault Failed error of = ap (λ e. is_fault_kind (kind_of e)) (sym of)

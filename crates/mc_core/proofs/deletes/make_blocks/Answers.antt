@@ -1,9 +1,12 @@
-use Rattle.std.proofs.Common.{◌∙◌, sym}
+use Rattle.std.proofs.Common.{◌∙◌, sym, rules}
 use Rattle.std.proofs.lemmas.Iterator.Adapters.{YieldsList-from_vec}
 use Rattle.std.proofs.lemmas.Iterator.Consumers.{YieldsList-turn, YieldsList-so_far}
-use Rattle.mc_keep.proofs.Frames.{read_more}
+use Rattle.mc_keep.proofs.Frames.{read_itself, read_more}
 use Rattle.mc_core.proofs.DeleteFacts.{making_goes_on, making_fails, rest_of}
 use Rattle.mc_core.proofs.deletes.make_blocks.Goals as goal
+
+pub loop-delta-init : goal.loop-delta-init
+loop-delta-init g c = record { making = search rules; reads = read_itself c.args.keeper.now }
 
 pub loop-delta-preserved : goal.loop-delta-preserved
 loop-delta-preserved g c = record {

@@ -5,6 +5,7 @@ use Rattle.std.specs.Prelude.{⊤}
 use Rattle.mc_core.proofs.CallFacts.{early_call, part_call}
 use Rattle.mc_core.proofs.MadeFacts.{commit_made, nothing_made}
 use Rattle.mc_core.proofs.BatchFacts.{batch_call, commit_due, commit_plan, commit_empty}
+use Rattle.mc_core.proofs.Keeps.{continues_more, looks_on, still_on}
 use Rattle.mc_core.proofs.replica.Replica.batch_commit.Goals as goal
 
 pub returns-then-is_empty-clause-call : goal.returns-then-is_empty-clause-call
@@ -31,3 +32,15 @@ returns-in-Ok-clause-made g c =
     commit_made c.kept_is_durable.ensures.back c.commits_are_events.ensures.sound c.changes_fit.ensures.stored c.changes_fit.ensures.same c.kept_is_durable.ensures.made_links
     _ _ _ _ _ _ _ c.in-Some.batch _ _ _ c.in-Ok.planned _ c.if-self.false c.in-Some.is c.in-Ok.ensures.reads.told_same c.in-Ok.ensures.reads.fuse_same c.is_sound.ensures c.in-Ok.ensures.planned c.take_up_batch.ensures.answer
     c.take_up_batch.ensures.part
+
+pub returns-then-self-clause-keeps : goal.returns-then-self-clause-keeps
+returns-then-self-clause-keeps g c = still_on refl refl refl refl
+
+pub returns-in_default-clause-keeps : goal.returns-in_default-clause-keeps
+returns-in_default-clause-keeps g c = still_on refl refl refl refl
+
+pub returns-then-is_empty-clause-keeps : goal.returns-then-is_empty-clause-keeps
+returns-then-is_empty-clause-keeps g c = still_on refl refl refl refl
+
+pub returns-in-Ok-clause-keeps : goal.returns-in-Ok-clause-keeps
+returns-in-Ok-clause-keeps g c = continues_more (looks_on c.in-Ok.ensures.reads refl refl) c.if-self.false c.take_up_batch.ensures.keeps

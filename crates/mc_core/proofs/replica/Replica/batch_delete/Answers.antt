@@ -1,8 +1,10 @@
 use Rattle.mc_core.specs.Batches.{batch_delete_refusal, BatchDeletePlan}
 use Rattle.mc_core.specs.Refusals.{Is}
-use Rattle.std.proofs.Common.{Some, sym, ap, ◌∙◌}
+use Rattle.std.proofs.Common.{Some, refl, sym, ap, ◌∙◌}
 use Rattle.std.specs.Prelude.{⊤}
 use Rattle.mc_core.proofs.BatchFacts.{batch_call, early_batch, delete_into, delete_due, keeper_rose}
+use Rattle.std.proofs.lemmas.Result.{err_from_is_err_and}
+use Rattle.mc_core.proofs.Keeps.{still_on}
 use Rattle.mc_core.proofs.replica.Replica.batch_delete.Goals as goal
 
 pub returns-in-Ok-clause-call : goal.returns-in-Ok-clause-call
@@ -15,3 +17,14 @@ pub returns-in-Err-clause-call : goal.returns-in-Err-clause-call
 returns-in-Err-clause-call g c =
     early_batch (λ s. Is (batch_delete_refusal s c.args.key.now)) (λ s. BatchDeletePlan s c.args.key.now) _ _ _ _ _ _ c.args.self.now.batch (Some c.delete.new.self) _ _ _ (ap Some c.in-Err.ensures.err ∙ sym c.in-Some.is) c.if-self.false c.in-Err.ensures.reads.told_same c.in-Err.ensures.reads.fuse_same c.stops-self.ensures
     (keeper_rose _ _ _ c.from-error.ensures c.in-Err.ensures.reads.own_goes.rose) (delete_due _ (g.K.Keeper.fuse c.args.self.now.keeper) c.args.self.now.batch c.args.self.now.whole c.args.key.now _ _ c.from-error.ensures)
+
+pub returns-then-self-clause-keeps : goal.returns-then-self-clause-keeps
+returns-then-self-clause-keeps g c = still_on refl refl refl refl
+
+pub returns-in_default-clause-keeps : goal.returns-in_default-clause-keeps
+returns-in_default-clause-keeps g c = still_on refl refl refl refl
+
+pub returns-in_err-key-clause-keeps : goal.returns-in_err-key-clause-keeps
+returns-in_err-key-clause-keeps g c =
+    let p = err_from_is_err_and c.from_residual.result c.from_residual.ensures.1 in
+    rw (p.1, p.2) (still_on refl refl refl c.in_err-key.ensures.no_fault)

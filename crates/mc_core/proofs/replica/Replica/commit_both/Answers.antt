@@ -2,6 +2,7 @@ use Rattle.std.proofs.Common.{[], ◌∷◌, arith}
 use Rattle.mc_model.specs.Events.{Store, Process}
 use Rattle.mc_model.specs.State.{vertices}
 use Rattle.mc_core.proofs.PartFacts.{part_more, part_then}
+use Rattle.mc_core.proofs.Keeps.{commit_more}
 use Rattle.mc_core.proofs.replica.Replica.commit_both.Goals as goal
 
 pub returns-in-Ok-clause-part : goal.returns-in-Ok-clause-part
@@ -10,3 +11,6 @@ returns-in-Ok-clause-part g c =
 
 pub returns-in-Err-clause-part : goal.returns-in-Err-clause-part
 returns-in-Err-clause-part g c = part_more _ _ (Store (vertices c.args.store.store) ∷ []) (Process c.args.process.marks ∷ []) _ _ _ (omega arith) c.in-Err.ensures.part
+
+pub returns-in-Ok-clause-keeps : goal.returns-in-Ok-clause-keeps
+returns-in-Ok-clause-keeps g c = commit_more c.in-Ok.ensures.keeps c.in-Ok.ensures.up c.commit_process.ensures.keeps

@@ -1,6 +1,8 @@
 use Rattle.mc_core.proofs.CutFacts.{delete_made, none_deleted}
 use Rattle.mc_core.proofs.DeletedFacts.{delete_next, delete_call, delete_early}
 use Rattle.mc_core.proofs.ShortFacts.{short_call, short_early}
+use Rattle.std.proofs.Common.{refl}
+use Rattle.mc_core.proofs.Keeps.{continues_more, looks_on, still_on}
 use Rattle.mc_core.proofs.replica.Replica.delete.Goals as goal
 
 pub take_up_all-requires-clause-next : goal.take_up_all-requires-clause-next
@@ -31,3 +33,9 @@ returns-in-Ok-clause-made g c =
 
 pub returns-in-Err-clause-made : goal.returns-in-Err-clause-made
 returns-in-Err-clause-made g c = none_deleted _ _ _ _ _ _ c.args.key.now _ c.in-Err.ensures.reads.told_same
+
+pub returns-then-self-clause-keeps : goal.returns-then-self-clause-keeps
+returns-then-self-clause-keeps g c = still_on refl refl refl refl
+
+pub returns-in-Ok-clause-keeps : goal.returns-in-Ok-clause-keeps
+returns-in-Ok-clause-keeps g c = continues_more (looks_on c.in-Ok.ensures.reads refl refl) c.if-self.false c.take_up_all.ensures.keeps.continues

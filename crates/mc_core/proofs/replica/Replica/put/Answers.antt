@@ -4,6 +4,8 @@ use Rattle.mc_core.proofs.CallFacts.{early_call, part_call}
 use Rattle.mc_core.specs.Puts.{delta_of_put}
 use Rattle.mc_core.proofs.MadeFacts.{put_made}
 use Rattle.mc_core.proofs.PutFacts.{put_due, put_plan}
+use Rattle.std.proofs.Common.{refl}
+use Rattle.mc_core.proofs.Keeps.{continues_more, looks_on, still_on}
 use Rattle.mc_core.proofs.replica.Replica.put.Goals as goal
 
 pub returns-in-Ok-clause-call : goal.returns-in-Ok-clause-call
@@ -20,3 +22,9 @@ pub returns-in-Ok-clause-made : goal.returns-in-Ok-clause-made
 returns-in-Ok-clause-made g c =
     put_made c.kept_is_durable.ensures.back c.commits_are_events.ensures.sound c.changes_fit.ensures.stored c.changes_fit.ensures.same c.kept_is_durable.ensures.made_links
     (λ kept. delta_of_put kept c.args.key.now c.args.value.now) _ _ _ _ _ _ _ _ _ _ _ c.if-self.false c.in-Ok.ensures.reads.told_same c.in-Ok.ensures.reads.fuse_same c.is_sound.ensures c.in-Ok.ensures.planned c.take_up.ensures.part
+
+pub returns-then-self-clause-keeps : goal.returns-then-self-clause-keeps
+returns-then-self-clause-keeps g c = still_on refl refl refl refl
+
+pub returns-in-Ok-clause-keeps : goal.returns-in-Ok-clause-keeps
+returns-in-Ok-clause-keeps g c = continues_more (looks_on c.in-Ok.ensures.reads refl refl) c.if-self.false c.take_up.ensures.keeps.continues
