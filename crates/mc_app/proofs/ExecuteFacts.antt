@@ -73,12 +73,12 @@ module _ (quiet quiet_now : Bool) (own own_now : ℕ) (stays : StaysQuiet quiet 
   }
 
   pub cut_short : (old new : Option (List ReplicaState)) → Told old new (λ w w2. ShortStep w command (Rose faults faults_now) (Rose own own_now) w2) → CutsShort (IsCalm quiet own) old faults command new faults_now
-  cut_short None new short = inl (record { there = there; leaves = tt })
+  cut_short None new short = inl (there, tt)
   cut_short (Some w) None short = absurd short
   cut_short (Some w) (Some w2) short = over short.change
     where
       over : ReplicaShort short.old command (Rose faults faults_now) (Rose own own_now) short.new → CutsShort (IsCalm quiet own) (Some w) faults command (Some w2) faults_now
-      over (inl left) = inl (record { there = there; leaves = record { old = short.old; new = short.new; stands = short.stands; after = short.after; change = left } })
+      over (inl left) = inl (there, record { old = short.old; new = short.new; stands = short.stands; after = short.after; change = left })
       over (inr (reply, step)) = inr (
         reply,
         record {

@@ -37,10 +37,8 @@ pub record IsAnswered (calm : Type 0) (old : Option (List ReplicaState)) (faults
   pub owned : calm → owns_none (Some answer) ≡ true
 
 -- a want of memory in the call of a command left this of a world
-pub record IsLeftOf (old : Option (List ReplicaState)) (command : Command) (new : Option (List ReplicaState)) : Type 0
-  where
-    pub there : has_replica command ≡ true
-    pub leaves : Told old new (λ w w2. LeavesStep w command w2)
+abbrev pub IsLeftOf : Option (List ReplicaState) → Command → Option (List ReplicaState) → Type 0
+IsLeftOf old command new = (has_replica command ≡ true) × Told old new (λ w w2. LeavesStep w command w2)
 
 -- memory was wanting for a command: this was left of it, or it was done, and its answer is not written
 abbrev pub CutsShort : Type 0 → Option (List ReplicaState) → ℕ → Command → Option (List ReplicaState) → ℕ → Type 0
@@ -48,7 +46,7 @@ CutsShort calm old faults command new faults_now =
     IsLeftOf old command new ⊎ ((reply : Reply) × IsAnswered calm old faults command new faults_now reply)
 
 -- memory was wanting for a line of which this was read: nothing changed, or its command was cut short
-abbrev pub LineShort : Type 0 → Option (List ReplicaState) → ℕ → Option (Option Command) → Option (List ReplicaState) → ℕ
-    → Type 0
-LineShort calm old faults read new faults_now =
-    (new ≡ old) ⊎ ((command : Command) × (read ≡ Some (Some command)) × CutsShort calm old faults command new faults_now)
+abbrev pub LineShort : Type 0 → Option (List ReplicaState) → ℕ → Option (Option Command) → Option (List ReplicaState)
+    → ℕ → Type 0
+LineShort calm old faults read new faults_now = (new ≡ old)
+    ⊎ ((command : Command) × (read ≡ Some (Some command)) × CutsShort calm old faults command new faults_now)

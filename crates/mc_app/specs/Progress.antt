@@ -52,8 +52,8 @@ pub record MeetsBadLine (script : List ℕ) (start : Option (List ReplicaState))
 abbrev pub bad_line_text : ℕ → List ℕ
 bad_line_text number = codes "bad line " ++ decimal number ++ 10 ∷ []
 
--- The next line, where this many bytes of the script were taken before it, was read, and a want of memory in the call of
--- its command left this.
+-- The next line, where this many bytes of the script were taken before it, was read, and a want of memory in the call
+-- of its command left this.
 pub record LeavesNext (given : ℕ) (ahead : List ℕ) (world left : Option (List ReplicaState)) : Type 0 where
   pub line : List ℕ
   pub rest : List ℕ

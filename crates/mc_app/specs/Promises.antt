@@ -76,7 +76,7 @@ pub record IsLineAt (lines : List (List ℕ)) (answers : List (Option Answer)) (
   pub says : answer.reply ≡ reply
 
 -- P ties the world before the line at this place to the last one
-abbrev pub SinceLine : Option (List ReplicaState) → List (List ℕ) → List (Option Answer) → ℕ → Option (List ReplicaState)
-    → (List ReplicaState → List ReplicaState → Type 0) → Type 0
+abbrev pub SinceLine : Option (List ReplicaState) → List (List ℕ) → List (Option Answer) → ℕ
+    → Option (List ReplicaState) → (List ReplicaState → List ReplicaState → Type 0) → Type 0
 SinceLine first lines answers k last P =
     (before : Option (List ReplicaState)) × Runs first (take k lines) (take k answers) before × Told before last P

@@ -166,7 +166,8 @@ ReplicaStep s command named own new reply = Row (Refuses s command) (Plan s comm
 
 -- what is left of a replica where a command was not answered for want of memory: what its call leaves, or all is done
 abbrev pub ReplicaShort : ReplicaState → Command → Type 0 → Type 0 → ReplicaState → Type 0
-ReplicaShort s command named own new = Leaves command s new ⊎ ((reply : Reply) × ReplicaStep s command named own new reply)
+ReplicaShort s command named own new =
+    Leaves command s new ⊎ ((reply : Reply) × ReplicaStep s command named own new reply)
 
 -- what a command does at its replica, answered or not
 abbrev pub ReplicaDoes : {E : Type 0} → (Reply → Type 0) → Type 0 → Result Reply E → Type 0

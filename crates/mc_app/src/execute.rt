@@ -53,8 +53,8 @@ impl From<AllocError> for ExecuteError {
 
 /// Executes a line, and writes its reply. `Bad` comes exactly where the line is no command or names a replica that
 /// isn't there, and then nothing is written and nothing changes. `Failed` comes only where the sink failed, and then
-/// some first bytes of the reply are written. Under `Memory` nothing is written, and the command was done, or nothing or
-/// a part of it.
+/// some first bytes of the reply are written. Under `Memory` nothing is written, and the command was done, or nothing
+/// or a part of it.
 pub fn execute_line<K: Keeper, O: Sink>(
     alloc: Global,
     world: &mut World<K>,
@@ -83,7 +83,7 @@ pub fn execute_line<K: Keeper, O: Sink>(
 }
 
 /// Executes a line of a world whose record is empty, writes its reply as `execute_line` does, and empties the record.
-pub fn execute_alone<K: Keeper, O: Sink>(
+pub fn execute_and_clear<K: Keeper, O: Sink>(
     alloc: Global,
     world: &mut World<K>,
     line: &[u8],
@@ -104,12 +104,12 @@ pub fn execute_alone<K: Keeper, O: Sink>(
     ensures cause { Counts (O.faults out.old) (O.faults out.new) (IsErrOf result ExecuteError.Failed) }
 {
     let result = execute_line(alloc, world, line, out);
-    clear(alloc, &mut world.entries);
+    clear_record(alloc, &mut world.entries);
     result
 }
 
 // Empties a record.
-fn clear(alloc: Global, entries: &mut List<LineEntry>)
+fn clear_record(alloc: Global, entries: &mut List<LineEntry>)
     ensures { entries.new ≡ [] }
 {
     let mut items = replace(entries, List::new(alloc)).into_vec();
