@@ -7,13 +7,14 @@ use Rattle.mc_base.specs.Causes.{Rose}
 use Rattle.mc_base.specs.Told.{Told}
 use Rattle.mc_base.proofs.Telling.{told_weaker}
 use Rattle.mc_keep.specs.Causes.{StaysQuiet}
+use Rattle.mc_keep.specs.declared.fuse.Fuse.{Fuse}
 use Rattle.mc_core.specs.Events.{ReplicaState}
 use Rattle.mc_script.specs.declared.command.Command.{Command}
 use Rattle.mc_script.specs.declared.command.Command.TheVariants.{Put, Del, Begin, BatchPut, BatchDel, Commit, Get, Has, Query, Heads}
 use Rattle.mc_script.specs.declared.reply.Reply.{Reply}
 use Rattle.mc_app.specs.declared.entry.LineEntry.{LineEntry}
 use Rattle.mc_app.specs.Record.{IsCalm, NamesRisen, Recorded, RoseAt, numbers_of}
-use Rattle.mc_app.specs.Step.{Leaves, Plan, Refuses, ReplicaShort, ReplicaStep, ShortStep, Step, has_replica, is_named, place_of}
+use Rattle.mc_app.specs.Step.{Leaves, Plan, Refuses, ReplicaShort, ReplicaStep, ShortStep, Step, has_replica, is_fault, is_named, place_of}
 use Rattle.mc_app.specs.Worlds.{both_told}
 use Rattle.mc_app.proofs.StepFacts.{row_map}
 
@@ -48,10 +49,10 @@ act_step (Some s) None command entry reply rose own_rose P Q there keepers own f
 act_step (Some s) (Some x) command entry reply rose own_rose P Q there keepers own f g step = step_in s x command entry reply rose own_rose P Q (first_place command there) keepers own f g step
 
 -- a command that is not answered, for want of memory
-act_short : (old new : Option ReplicaState) (command : Command) (named own : Type 0) → has_replica command ≡ true → Told old new (λ s x. ReplicaShort s command named own x) → Told (both_told old (Some [])) (both_told new (Some [])) (λ w w2. ShortStep w command named own w2)
-act_short None new command named own there short = tt
-act_short (Some s) None command named own there short = absurd short
-act_short (Some s) (Some x) command named own there short = record {
+act_short : (old new : Option ReplicaState) (command : Command) (Said : Reply → Type 0) (named own : Type 0) → has_replica command ≡ true → Told old new (λ s x. ReplicaShort s command Said named own x) → Told (both_told old (Some [])) (both_told new (Some [])) (λ w w2. ShortStep w command Said named own w2)
+act_short None new command Said named own there short = tt
+act_short (Some s) None command Said named own there short = absurd short
+act_short (Some s) (Some x) command Said named own there short = record {
   old = s;
   new = x;
   stands = ap (λ (n : ℕ). slice_get (s ∷ []) n) (first_place command there);
@@ -60,12 +61,12 @@ act_short (Some s) (Some x) command named own there short = record {
 }
 
 -- its call left this
-pub act_left : (old new : Option ReplicaState) (command : Command) (named own : Type 0) → has_replica command ≡ true → Told old new (λ s x. Leaves command s x) → Told (both_told old (Some [])) (both_told new (Some [])) (λ w w2. ShortStep w command named own w2)
-act_left old new command named own there left = act_short old new command named own there (told_weaker (λ s x. Leaves command s x) (λ s x. ReplicaShort s command named own x) (λ s x p. inl p) old new left)
+pub act_left : (old new : Option ReplicaState) (command : Command) (Said : Reply → Type 0) (named own : Type 0) → has_replica command ≡ true → Told old new (λ s x. Leaves command s x) → Told (both_told old (Some [])) (both_told new (Some [])) (λ w w2. ShortStep w command Said named own w2)
+act_left old new command Said named own there left = act_short old new command Said named own there (told_weaker (λ s x. Leaves command s x) (λ s x. ReplicaShort s command Said named own x) (λ s x p. inl p) old new left)
 
 -- its call has done it
-pub act_done : (old new : Option ReplicaState) (command : Command) (named own : Type 0) (reply : Reply) → has_replica command ≡ true → Told old new (λ s x. ReplicaStep s command named own x reply) → Told (both_told old (Some [])) (both_told new (Some [])) (λ w w2. ShortStep w command named own w2)
-act_done old new command named own reply there done = act_short old new command named own there (told_weaker (λ s x. ReplicaStep s command named own x reply) (λ s x. ReplicaShort s command named own x) (λ s x p. inr (reply, p)) old new done)
+pub act_done : (old new : Option ReplicaState) (command : Command) (Said : Reply → Type 0) (named own : Type 0) (reply : Reply) → has_replica command ≡ true → Said reply → Told old new (λ s x. ReplicaStep s command named own x reply) → Told (both_told old (Some [])) (both_told new (Some [])) (λ w w2. ShortStep w command Said named own w2)
+act_done old new command Said named own reply there said done = act_short old new command Said named own there (told_weaker (λ s x. ReplicaStep s command named own x reply) (λ s x. ReplicaShort s command Said named own x) (λ s x p. inr (reply, said, p)) old new done)
 
 -- a call without an answer still tells
 pub act_err : (old new : Option ReplicaState) → Told old new (λ _ _. ⊤) → Told (both_told old (Some [])) (both_told new (Some [])) (λ _ _. ⊤)
@@ -93,16 +94,17 @@ names_at count old new rose numbers are f r = (
 )
 
 -- a calm keeper does not fail by itself
-pub none_own : (own own_new : ℕ) (quiet quiet_new own_rose : Bool) (numbers : List ℕ) → StaysQuiet quiet quiet_new own own_new → numbers ≡ numbers_of own_rose → (own_rose ≡ true → Rose own own_new) → IsCalm quiet own → numbers ≡ []
-none_own own own_new quiet quiet_new true numbers stays are rose calm = absurd (let same = (stays calm.0).1 in let up = rose refl in omega (arith, calm.1, same, up))
-none_own own own_new quiet quiet_new false numbers stays are rose calm = are
+pub none_own : (own own_new : ℕ) (quiet quiet_new own_rose : Bool) (fuse : Option Fuse) (numbers : List ℕ) → StaysQuiet quiet quiet_new own own_new → numbers ≡ numbers_of own_rose → (own_rose ≡ true → Rose own own_new) → IsCalm quiet own fuse → numbers ≡ []
+none_own own own_new quiet quiet_new true fuse numbers stays are rose calm = absurd (let same = (stays calm.0).1 in let up = rose refl in omega (arith, calm.1, same, up))
+none_own own own_new quiet quiet_new false fuse numbers stays are rose calm = are
 
-pub act_line : {K : Type 0} (faults own : K → ℕ) (quiet : K → Bool) (keeper keeper_new : K) (old new : Option ReplicaState) (command : Command) (entry : LineEntry) (reply : Reply) (entries after : List LineEntry) (rose own_rose : Bool) → has_replica command ≡ true → after ≡ entries ++ entry ∷ [] → entry.keepers ≡ numbers_of rose → entry.own ≡ numbers_of own_rose → entry.desks ≡ []
+pub act_line : {K : Type 0} (faults own : K → ℕ) (quiet : K → Bool) (fuse : K → Option Fuse) (keeper keeper_new : K) (old new : Option ReplicaState) (command : Command) (entry : LineEntry) (reply : Reply) (entries after : List LineEntry) (rose own_rose : Bool) → has_replica command ≡ true → after ≡ entries ++ entry ∷ [] → entry.keepers ≡ numbers_of rose → entry.own ≡ numbers_of own_rose → entry.desks ≡ []
     → (rose ≡ true) ↔ Rose (faults keeper) (faults keeper_new) → (own_rose ≡ true) ↔ Rose (own keeper) (own keeper_new)
     → StaysQuiet (quiet keeper) (quiet keeper_new) (own keeper) (own keeper_new)
-    → Told old new (λ s x. ReplicaStep s command (Rose (faults keeper) (faults keeper_new)) (Rose (own keeper) (own keeper_new)) x reply)
-    → Recorded (λ e. NamesRisen faults own (keeper ∷ []) (keeper_new ∷ []) e × (IsCalm (quiet keeper) (own keeper) → e.own ≡ []) × Told (both_told old (Some [])) (both_told new (Some [])) (λ w w2. Step w command e reply w2)) entries after
-act_line faults own quiet keeper keeper_new old new command entry reply entries after rose own_rose there grows keepers owns desks f g stays step = record {
+    → (fuse keeper ≡ None → quiet keeper ≡ true → is_fault reply ≡ false)
+    → Told old new (λ s x. ReplicaStep s command (Rose (faults keeper) (faults keeper_new) × (IsCalm (quiet keeper) (own keeper) (fuse keeper) → ⊥)) (Rose (own keeper) (own keeper_new)) x reply)
+    → Recorded (λ e. NamesRisen faults own (keeper ∷ []) (keeper_new ∷ []) e × (IsCalm (quiet keeper) (own keeper) (fuse keeper) → (e.own ≡ []) × (is_fault reply ≡ false)) × Told (both_told old (Some [])) (both_told new (Some [])) (λ w w2. Step w command e reply w2)) entries after
+act_line faults own quiet fuse keeper keeper_new old new command entry reply entries after rose own_rose there grows keepers owns desks f g stays well step = record {
   entry = entry;
   grows = grows;
   holds = (
@@ -111,7 +113,7 @@ act_line faults own quiet keeper keeper_new old new command entry reply entries 
       desks = desks;
       inside = names_at own keeper keeper_new own_rose entry.own owns g;
     },
-    λ calm. none_own (own keeper) (own keeper_new) (quiet keeper) (quiet keeper_new) own_rose entry.own stays owns g.0 calm,
-    act_step old new command entry reply rose own_rose _ _ there keepers owns f.1 g.1 step,
+    λ calm. (none_own (own keeper) (own keeper_new) (quiet keeper) (quiet keeper_new) own_rose (fuse keeper) entry.own stays owns g.0 calm, well calm.2 calm.0),
+    act_step old new command entry reply rose own_rose _ _ there keepers owns (λ p. f.1 p.0) g.1 step,
   );
 }

@@ -1,6 +1,6 @@
 -- From a call of a replica to the step of a command.
-use Rattle.std.proofs.Common.{◌≡◌, true, List, Option, Some, None, Result, Ok, Err, refl, sym, subst, inl, inr}
-use Rattle.std.specs.Prelude.{IsErrAnd}
+use Rattle.std.proofs.Common.{◌≡◌, Bool, true, false, true≢false, ◌||◌, List, Option, Some, None, Result, Ok, Err, refl, sym, ap, ◌∙◌, subst, inl, inr}
+use Rattle.std.specs.Prelude.{IfOk, IsErrAnd}
 use Rattle.mc_base.specs.Told.{Told}
 use Rattle.mc_model.specs.Events.{Event}
 use Rattle.mc_keep.specs.Causes.{Kind, Refusal, Fault, Shortage, is_fault_kind}
@@ -12,7 +12,12 @@ use Rattle.mc_core.specs.Refusals.{ByKind, kind_of}
 use Rattle.mc_core.proofs.EventFacts.{breaks_rose}
 use Rattle.mc_script.specs.declared.reply.Reply.{Reply}
 use Rattle.mc_app.specs.declared.acting.ActError.{ActError}
-use Rattle.mc_app.specs.Step.{answer_of, answers_fault, ByReply, ReplicaDoes, Row}
+use Rattle.mc_script.specs.declared.command.Command.{Command}
+use Rattle.mc_script.specs.declared.command.Command.TheVariants.{Put}
+use Rattle.mc_model.specs.State.{OpenBatch}
+use Rattle.mc_core.specs.Exact.{seen_of, stop_front}
+use Rattle.mc_app.specs.Fronts.{call_front, due_front, front_reply, reply_to}
+use Rattle.mc_app.specs.Step.{answer_of, answers_fault, is_fault, ByReply, IsReply, Plan, ReplicaDoes, Row}
 
 -- what a plan of calls gives for a plan of replies
 abbrev pub Gives : {T : Type 0} → (List Event → T → Type 0) → (List Event → Reply → Type 0) → Type 0
@@ -66,3 +71,27 @@ fault_answered error = refl
 pub row_map : (Due : Option Reply → Type 0) (Planned : List Event → Reply → Type 0) (P Q P2 Q2 : Type 0) (s new : ReplicaState) (reply : Reply) → (P → P2) → (Q → Q2) → Row Due Planned P Q s new reply → Row Due Planned P2 Q2 s new reply
 row_map Due Planned P Q P2 Q2 s new reply f g (inl calm) = inl calm
 row_map Due Planned P Q P2 Q2 s new reply f g (inr fault) = inr (record { cause = f fault.cause; says = fault.says; faults = record { events = fault.faults.events; begins = fault.faults.begins; breaks = breaks_rose fault.faults.events Q Q2 s new g fault.faults.breaks } })
+
+pub never_both : (b : Bool) → b ≡ true → b ≡ false → ⊥
+never_both b first then = true≢false (sym first ∙ then)
+
+-- the reply to a call that did nothing, or not all, is the refusal that the replica decides alone, or none of these
+pub front_answer : (error : CoreError) (stop stop_new : Bool) (batch : Option OpenBatch) (command : Command) (result : Result Reply ActError) → result ≡ answer_of error → seen_of error ≡ stop_front stop (call_front batch command) → stop_new ≡ (is_fault_kind (kind_of error) || stop)
+    → IfOk result (λ reply. (front_reply reply ≡ due_front stop batch command) × (stop_new ≡ (is_fault reply || stop)))
+front_answer error stop stop_new batch command result is front stops = subst (λ (r : Result Reply ActError). IfOk r (λ reply. (front_reply reply ≡ due_front stop batch command) × (stop_new ≡ (is_fault reply || stop)))) (sym is) (by_error error front stops)
+  where
+    by_error : (error : CoreError) → seen_of error ≡ stop_front stop (call_front batch command) → stop_new ≡ (is_fault_kind (kind_of error) || stop)
+        → IfOk (answer_of error) (λ reply. (front_reply reply ≡ due_front stop batch command) × (stop_new ≡ (is_fault reply || stop)))
+    by_error core.Memory front stops = tt
+    by_error error front stops = (ap reply_to front, stops)
+
+-- no refusal is answered by a fault, nor is a command that was done
+
+pub no_refusal : (error : CoreError) (reply : Reply) → IsReply error reply → is_fault reply ≡ false
+no_refusal core.KeeperFault reply e = absurd e
+no_refusal core.Memory reply e = absurd e
+no_refusal error reply e = sym (ap (λ (said : Result Reply ActError). answers_fault said) e)
+
+pub no_fault_planned : (s : ReplicaState) (command : Command) (events : List Event) (reply : Reply) → Plan s command events reply → is_fault reply ≡ false
+no_fault_planned s (Put r key bytes) events reply plan = ap is_fault plan.2
+no_fault_planned s command events reply plan = ap is_fault plan.2

@@ -5,13 +5,14 @@ use Rattle.mc_core.specs.Events.{ReplicaState}
 use Rattle.mc_script.specs.Line.{line_of}
 use Rattle.mc_script.specs.declared.command.Command.{Command}
 use Rattle.mc_app.specs.Lines.{lines_of, line_max, script_max, IsTooLong}
+use Rattle.mc_app.specs.Fronts.{HaveFronts}
 use Rattle.mc_app.specs.Taking.{TakesLine}
 use Rattle.mc_app.specs.Executes.{IsLeftOf}
 use Rattle.mc_app.specs.Runs.{Answer, Runs}
 use Rattle.mc_app.specs.Step.{has_replica}
 
 -- the first lines of a script, which keep the limits, with their answers and what is told of the world after them;
--- `May` says what may be answered
+-- `May` says what may be answered, and the fronts which refusals were due, over every keeper
 pub record Progress (script : List ℕ) (start : Option (List ReplicaState)) (May : List (Option Answer) → Type 0)
     : Type 0 where
   pub taken : List ℕ
@@ -23,6 +24,7 @@ pub record Progress (script : List ℕ) (start : Option (List ReplicaState)) (Ma
   pub split : lines_of script ≡ lines ++ lines_of ahead
   pub runs : Runs start lines answers world
   pub faults : May answers
+  pub fronts : HaveFronts false lines answers
   pub within : All (λ line. length line ≤ line_max) lines
   pub in_script : length taken ≤ script_max
 

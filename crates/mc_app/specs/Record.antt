@@ -1,6 +1,7 @@
 -- The record of the lines: one entry for each.
 use Rattle.std.specs.Prelude.{◌≡◌, ◌↔◌, ◌⊎◌, ℕ, Bool, true, false, List, [], ◌∷◌, ◌++◌, Option, Some, None, slice_get}
 use Rattle.mc_base.specs.Causes.{Rose}
+use Rattle.mc_keep.specs.declared.fuse.Fuse.{Fuse}
 use Rattle.mc_app.specs.declared.entry.LineEntry.{LineEntry}
 use Rattle.mc_app.specs.Step.{is_named}
 
@@ -31,6 +32,6 @@ pub record NamesRisen {K : Type 0} (faults own : K → ℕ) (old new : List K) (
 abbrev pub IsLonger : List LineEntry → List LineEntry → Type 0
 IsLonger old new = (new ≡ old) ⊎ ((entry : LineEntry) × (new ≡ old ++ entry ∷ []))
 
--- the keeper is quiet, and has not failed by itself
-abbrev pub IsCalm : Bool → ℕ → Type 0
-IsCalm quiet own = (quiet ≡ true) × (own ≡ 0)
+-- the keeper is quiet, has not failed by itself, and has no fuse
+abbrev pub IsCalm : Bool → ℕ → Option Fuse → Type 0
+IsCalm quiet own fuse = (quiet ≡ true) × (own ≡ 0) × (fuse ≡ None)

@@ -164,10 +164,11 @@ Row Refusal Planned named own s new reply =
 abbrev pub ReplicaStep : ReplicaState → Command → Type 0 → Type 0 → ReplicaState → Reply → Type 0
 ReplicaStep s command named own new reply = Row (Refuses s command) (Plan s command) named own s new reply
 
--- what is left of a replica where a command was not answered for want of memory: what its call leaves, or all is done
-abbrev pub ReplicaShort : ReplicaState → Command → Type 0 → Type 0 → ReplicaState → Type 0
-ReplicaShort s command named own new =
-    Leaves command s new ⊎ ((reply : Reply) × ReplicaStep s command named own new reply)
+-- what is left of a replica where a command was not answered for want of memory: what its call leaves, or all is done,
+-- with a reply of which this holds
+abbrev pub ReplicaShort : ReplicaState → Command → (Reply → Type 0) → Type 0 → Type 0 → ReplicaState → Type 0
+ReplicaShort s command Said named own new =
+    Leaves command s new ⊎ ((reply : Reply) × Said reply × ReplicaStep s command named own new reply)
 
 -- what a command does at its replica, answered or not
 abbrev pub ReplicaDoes : {E : Type 0} → (Reply → Type 0) → Type 0 → Result Reply E → Type 0
@@ -202,5 +203,6 @@ abbrev pub LeavesStep : List ReplicaState → Command → List ReplicaState → 
 LeavesStep w command w2 = ChangesAt (place_of command) (Leaves command) w w2
 
 -- a command was not answered for want of memory, which leaves this of a world
-abbrev pub ShortStep : List ReplicaState → Command → Type 0 → Type 0 → List ReplicaState → Type 0
-ShortStep w command named own w2 = ChangesAt (place_of command) (λ s new. ReplicaShort s command named own new) w w2
+abbrev pub ShortStep : List ReplicaState → Command → (Reply → Type 0) → Type 0 → Type 0 → List ReplicaState → Type 0
+ShortStep w command Said named own w2 =
+    ChangesAt (place_of command) (λ s new. ReplicaShort s command Said named own new) w w2

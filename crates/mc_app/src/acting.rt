@@ -3,7 +3,7 @@ ghost use Rattle.std.specs.Prelude.{◌≡◌, ◌↔◌, ◌++◌, [], ◌∷�
 ghost use Rattle.mc_base.specs.Causes.{Rose};
 ghost use Rattle.mc_app.specs.Record.{numbers_of};
 ghost use Rattle.mc_app.specs.Step.{answers_fault, has_replica};
-ghost use Rattle.mc_app.specs.Words.{Records, Shortens, WorldKeeps};
+ghost use Rattle.mc_app.specs.Words.{Records, Says, Shortens, WorldKeeps};
 
 use crate::replies::act_at;
 use crate::{LineEntry, World};
@@ -35,17 +35,19 @@ impl From<AllocError> for ActError {
     }
 }
 
-/// Executes one command. The world and the reply are by `Step`, and the record grows by one entry, which names
-/// exactly the keepers whose counts rose, and as failed by itself no quiet one whose own count was 0. `BadLine` comes
-/// exactly where the command names a replica that isn't there, and changes nothing. After `Memory` the record is as it
-/// was, and the command is done, or its replica is what a want of memory in the call leaves: as it was, or after some
-/// first blocks of a delete.
+/// Executes one command. The world and the reply are by `Step`, and the record grows by one entry, which names exactly
+/// the keepers whose counts rose, and as failed by itself no quiet one whose own count was 0. Over every keeper the
+/// reply is the refusal that the replica decides alone (stopped, the batch, the key, the value), where one is due, and
+/// over a quiet one without a fuse it is no fault. `BadLine` comes exactly where the command names a replica that
+/// isn't there, and changes nothing. After `Memory` the record is as it was, and the command is done, or its replica
+/// is what a want of memory in the call leaves: as it was, or after some first blocks of a delete.
 pub fn act<K: Keeper>(
     world: &mut World<K>,
     alloc: Global,
     command: &Command,
 ) -> Result<Reply, ActError>
     ensures line { IfOk result (Records K.Keeper command.now world.old world.new) }
+    ensures says { IfOk result (Says K.Keeper command.now world.old.replica world.new.replica) }
     ensures there { OnOk result (has_replica command.now ≡ true) }
     ensures bad { IsErrOf result ActError.BadLine → (has_replica command.now ≡ false) × (world.new ≡ world.old) }
     ensures short { IsErrOf result ActError.Memory → Shortens K.Keeper command.now world.old world.new }

@@ -1,5 +1,5 @@
 // What is promised of every run, by the definitions.
-ghost use Rattle.std.specs.Prelude.{◌≡◌, ◌≢◌, ℕ, List, Option, is_some, true};
+ghost use Rattle.std.specs.Prelude.{◌≡◌, ◌≢◌, ℕ, List, Option, true};
 ghost use Rattle.mc_base.specs.Told.{Told};
 ghost use Rattle.mc_model.specs.Made.{made_cid};
 ghost use Rattle.mc_model.specs.Events.{Event};
@@ -14,9 +14,8 @@ ghost use Rattle.mc_script.specs.declared.reply.Reply.{Reply as Said};
 ghost use Rattle.mc_script.specs.declared.reply.Reply.TheVariants.{Priority, Deleted};
 ghost use Rattle.mc_app.specs.declared.entry.LineEntry.{LineEntry as Entry};
 ghost use Rattle.mc_app.specs.Promises.{HasDeleted, HasProcessed, IsLineAt, OnlyGrows, SinceLine, batch_cid, is_read};
-ghost use Rattle.mc_app.specs.Runs.{Answer, Runs, faults_in, own_free};
+ghost use Rattle.mc_app.specs.Runs.{Answer, Runs};
 ghost use Rattle.mc_app.specs.Step.{Plan, Step};
-ghost use Rattle.mc_app.specs.Worlds.{first_state};
 
 use mc_core::written_blocks_stand;
 use mc_model::{order_and_store_grow, same_blocks_same_answers};
@@ -84,11 +83,3 @@ pub fn equal_blocks_answer_equally()
 {
     same_blocks_same_answers();
 }
-
-/// Where keepers that tell begin without a fuse, and the record of the lines names none that failed by itself, no reply
-/// is `fault keeper`. The records of a run over quiet keepers name none (`run`).
-pub fn quiet_runs_have_no_fault()
-    ensures { (starts : List (Option Kept)) (lines : List (List ℕ)) (answers : List (Option Answer))
-        (new : Option (List ReplicaState)) → Runs (first_state starts) lines answers new →
-        is_some (first_state starts) ≡ true → own_free answers ≡ true → faults_in answers ≡ 0 }
-{}

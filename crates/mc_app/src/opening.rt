@@ -1,5 +1,6 @@
 // How a world begins and ends.
-ghost use Rattle.std.specs.Prelude.{◌≡◌, [], ◌∷◌, IfOk, IfErr};
+ghost use Rattle.std.specs.Prelude.{◌≡◌, [], ◌∷◌, false, IfOk, IfErr};
+ghost use Rattle.mc_core.specs.declared.replica.OpenCause.{OpenCause};
 ghost use Rattle.mc_app.specs.Worlds.{AreLeft, AreParts, IsOpened, world_state, first_state, starts_of};
 
 use crate::room::Room;
@@ -17,8 +18,10 @@ impl<K: Keeper> World<K> {
         ensures first { IfOk result (λ world. world_state K.told K.fuse world ≡ first_state (starts_of K.told parts)) }
         ensures entries { IfOk result (λ world. world.entries ≡ []) }
         ensures desks { IfOk result (λ world. world.desks ≡ []) }
+        ensures runs { IfOk result (λ world. world.replica.stopped ≡ false) }
         ensures reads { IfOk result (λ world. IsOpened K.Keeper parts world.replica.keeper) }
-        ensures refused { IfErr result (λ refused. AreLeft K.Keeper parts refused.parts) }
+        ensures refused { IfErr result (λ refused.
+            (refused.cause ≡ OpenCause.KeeperFault) × AreLeft K.Keeper parts refused.parts) }
     {
         let (part, room) = Room::take(parts);
         let Part { keeper, desks } = part;

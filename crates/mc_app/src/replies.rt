@@ -1,12 +1,14 @@
 // What each command does at its replica.
-ghost use Rattle.std.specs.Prelude.{◌≡◌, false, IfOk, IsErrOf, map};
+ghost use Rattle.std.specs.Prelude.{◌≡◌, false, None, IfOk, IsErrOf, map};
 ghost use Rattle.mc_keep.specs.Changes.{heads_in_rows};
 ghost use Rattle.mc_query.specs.Places.{pair_of};
+ghost use Rattle.mc_core.specs.Exact.{front_of, stop_front};
 ghost use Rattle.mc_core.specs.Refusals.{is_fault};
 ghost use Rattle.mc_core.specs.Words.{Acts, Continues};
 ghost use Rattle.mc_app.specs.declared.acting.ActError.{ActError};
+ghost use Rattle.mc_app.specs.Fronts.{call_front, front_reply};
 ghost use Rattle.mc_app.specs.Step.{CallRefusal, Leaves, Plan, answer_of, answers_fault, batch_priority};
-ghost use Rattle.mc_app.specs.Words.{Replies};
+ghost use Rattle.mc_app.specs.Words.{Replies, Says};
 
 use crate::ActError;
 use mc_base::{Bytes, Cid, List, Text};
@@ -23,6 +25,7 @@ pub(crate) fn act_at<K: Keeper>(
     command: &Command,
 ) -> Result<Reply, ActError>
     ensures step { Replies K.Keeper command.now result replica.old replica.new }
+    ensures says { IfOk result (Says K.Keeper command.now replica.old replica.new) }
     ensures not_bad { IsErrOf result ActError.BadLine → ⊥ }
     ensures keeps { Continues K.Keeper (answers_fault result) replica.old replica.new }
 {
@@ -41,7 +44,9 @@ fn call<K: Keeper>(
     ensures call { Acts K.Keeper (λ s. CallRefusal s command.now) (λ s. Plan s command.now) (Leaves command.now)
         result replica.old replica.new }
     ensures keeps { Continues K.Keeper (is_fault result) replica.old replica.new }
+    ensures front { front_of result ≡ stop_front replica.old.stopped (call_front replica.old.batch command.now) }
     ensures value { answers_fault result ≡ false }
+    ensures plain { IfOk result (λ reply. front_reply reply ≡ None) }
 {
     match command {
         Command::Put { key, bytes, .. } => Ok(Reply::Priority {
