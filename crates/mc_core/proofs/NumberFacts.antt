@@ -8,7 +8,8 @@ use Rattle.mc_keep.specs.declared.rows.Summary.{Summary}
 use Rattle.mc_keep.specs.Changes.{changed}
 use Rattle.mc_keep.specs.Tables.{IsSummary}
 use Rattle.mc_core.specs.declared.report.Numbers.{Numbers}
-use Rattle.mc_core.specs.Reports.{capped, IsCount, IsCounted, IsAfter}
+use Rattle.mc_core.specs.Counted.{capped}
+use Rattle.mc_core.specs.Reports.{IsCount, IsCounted, IsAfter}
 
 -- a number that was capped, and more
 capped_more : (n m k : ℕ) → n ≡ min m (2 ^ 64 - 1) → min (n + k) (2 ^ 64 - 1) ≡ min (m + k) (2 ^ 64 - 1)
