@@ -1,19 +1,10 @@
 -- The numbers that a replica keeps beside its keeper, and its report.
-use Rattle.std.specs.Prelude.{◌≡◌, ◌+◌, Bool, length, unwrap_or, Option, IfSome}
+use Rattle.std.specs.Prelude.{◌≡◌, ◌+◌, Bool, length, unwrap_or}
 use Rattle.mc_model.specs.Kept.{Kept}
 use Rattle.mc_keep.specs.declared.changes.Changes.{Changes}
 use Rattle.mc_core.specs.declared.report.Numbers.{Numbers}
 use Rattle.mc_core.specs.declared.report.Report.{Report}
 use Rattle.mc_core.specs.Counted.{capped}
-
--- they are those of what is told
-pub record IsCount (kept : Kept) (numbers : Numbers) : Type 0 where
-  pub processed : numbers.processed ≡ capped (length kept.order)
-  pub stored : numbers.stored ≡ capped (length kept.graph)
-  pub mark : numbers.mark ≡ kept.mark
-
-abbrev pub IsCounted : Option Kept → Numbers → Type 0
-IsCounted told numbers = IfSome told (λ kept. IsCount kept numbers)
 
 -- the numbers after these changes
 pub record IsAfter (numbers : Numbers) (changes : Changes) (new : Numbers) : Type 0 where

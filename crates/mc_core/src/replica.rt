@@ -39,7 +39,9 @@ pub struct OpenError<K: Keeper> {
 }
 
 impl<K: Keeper> Replica<K> {
+    ghost use Rattle.std.specs.Prelude.{IfSome};
     ghost use Rattle.mc_keep.specs.Calls.{Reads};
+    ghost use Rattle.mc_model.specs.Kept.{IsKept};
     ghost use Rattle.mc_core.specs.Replica.{replica_state, opened_state};
 
     /// Opens the replica of a keeper: nothing is wanted, and every gap counts as wanted exactly where the dirty mark is
@@ -67,6 +69,12 @@ impl<K: Keeper> Replica<K> {
             }),
         }
     }
+
+    /// What a replica's keeper tells is sound: no block is stored or processed twice, each stored block is good, and each
+    /// processed block is stored. A caller has this of every replica, also of one that a lock hands back. Does nothing.
+    pub fn is_sound(&self)
+        ensures { IfSome (K.told self.now.keeper) IsKept }
+    {}
 
     /// The keeper.
     pub fn keeper(&self) -> &K
