@@ -3,6 +3,7 @@ use Rattle.std.proofs.Common.{◌≡◌, ℕ, zero, suc, Bool, true, false, true
 use Rattle.std.specs.Prelude.{slice_get}
 use Rattle.std.proofs.lemmas.List.{append-nil, append_assoc}
 use Rattle.mc_base.specs.Told.{Told}
+use Rattle.mc_base.proofs.Telling.{told_then}
 use Rattle.mc_base.specs.declared.cid.Cid.{Cid}
 use Rattle.mc_model.specs.declared.block.Block.{Block}
 use Rattle.mc_model.specs.declared.delta.Delta.{Delta}
@@ -37,7 +38,7 @@ use Rattle.mc_script.specs.declared.reply.Reply.{Reply}
 use Rattle.mc_script.specs.declared.reply.Reply.TheVariants.{Priority, Deleted, Value, Has, Rows, Heads}
 use Rattle.mc_app.specs.declared.entry.LineEntry.{LineEntry}
 use Rattle.mc_app.specs.declared.acting.ActError.{ActError}
-use Rattle.mc_app.specs.Promises.{HasDeleted, HasProcessed, OnlyGrows, batch_cid, chain_cids, is_read}
+use Rattle.mc_app.specs.Promises.{HasDeleted, HasProcessed, IsLineAt, OnlyGrows, SinceLine, batch_cid, chain_cids, is_read}
 use Rattle.mc_app.specs.Runs.{Answer, LineStep, Runs}
 use Rattle.mc_app.specs.Step.{IsReply, Plan, ReplicaStep, Row, Step, batch_priority, is_named, place_of}
 
@@ -292,3 +293,59 @@ delete_is_processed w r key entry count w2 step = over step.step
       processed =
           chain_order done.plan.1.0 (kept_of step.old.state.durable) (next_links (kept_of step.old.state.durable)) step.old step.new (subst (λ events. Goes events step.old step.new) done.plan.1.2 done.goes);
     }
+
+-- what was processed stays so
+
+stays_processed : (r : ℕ) (cid : Kept → Cid) (w w2 : List ReplicaState) (old mid : ReplicaState) (new : Option ReplicaState) → slice_get w r ≡ Some old → slice_get mid.state.durable.order (length old.state.durable.order) ≡ Some (cid (kept_of old.state.durable)) → slice_get w2 r ≡ new → Grows (Some mid) new → HasProcessed w r cid w2
+stays_processed r cid w w2 old mid None stood processed stands grows = absurd grows
+stays_processed r cid w w2 old mid (Some new) stood processed stands grows = record {
+  old = old;
+  new = new;
+  stood = stood;
+  stands = stands;
+  processed =
+      ap (λ (order : List Cid). slice_get order (length old.state.durable.order)) grows.order
+      ∙ still_stands mid.state.durable.order grows.processed (length old.state.durable.order) (cid (kept_of old.state.durable)) processed;
+}
+
+pub processed_later : (r : ℕ) (cid : Kept → Cid) (w w2 w3 : List ReplicaState) → HasProcessed w r cid w2 → OnlyGrows w2 w3 → HasProcessed w r cid w3
+processed_later r cid w w2 w3 is grows =
+    stays_processed r cid w w3 is.old is.new (slice_get w3 r) is.stood is.processed refl (subst (λ (s : Option ReplicaState). Grows s (slice_get w3 r)) is.stands (grows r))
+
+-- what a line has done stands in the last world, where P is kept by what comes later
+module _ (law : GrowLaw) (P : List ReplicaState → List ReplicaState → Type 0) (later : (w w2 w3 : List ReplicaState) → P w w2 → OnlyGrows w2 w3 → P w w3) (command : Command) (reply : Reply) (done : (w : List ReplicaState) (entry : LineEntry) (w2 : List ReplicaState) → Step w command entry reply w2 → P w w2) where
+  line_stands : (line : List ℕ) (answer : Option Answer) (asked : List ℕ) (given : Answer) (first mid last : Option (List ReplicaState)) → LineStep first (line_of line) mid answer → line ≡ asked → line_of asked ≡ Some (Some command) → answer ≡ Some given → given.reply ≡ reply → Told mid last OnlyGrows → Told first last P
+  line_stands line answer asked given first mid last step is asks answered says grows =
+      let own : LineStep first (Some (Some command)) mid (Some given) = subst (λ (a : Option Answer). LineStep first (Some (Some command)) mid a) answered (subst (λ (read : Option (Option Command)). LineStep first read mid answer) (ap line_of is ∙ asks) step) in
+      told_then (λ w w2. Step w command given.entry given.reply w2) OnlyGrows P
+      (λ w w2 w3 p q. later w w2 w3 (done w given.entry w2 (subst (λ (x : Reply). Step w command given.entry x w2) says p)) q) first mid last own.1 grows
+
+  pub stands_since : (lines : List (List ℕ)) (answers : List (Option Answer)) (first last : Option (List ReplicaState)) (k : ℕ) → Runs first lines answers last → IsLineAt lines answers k command reply → SinceLine first lines answers k last P
+  stands_since [] [] first last k runs is = absurd (nothing_at k is.stands)
+    where
+      nothing_at : (k : ℕ) → slice_get [] k ≡ Some is.line → ⊥
+      nothing_at k e = true≢false (sym (ap is_some e))
+  stands_since [] (answer ∷ answers) first last k runs is = absurd runs
+  stands_since (line ∷ lines) [] first last k runs is = absurd runs
+  stands_since (line ∷ lines) (answer ∷ answers) first last zero (mid, step, rest) is =
+      (first, refl, line_stands line answer is.line is.answer first mid last step (same_of is.stands) is.asks (same_of is.answered) is.says (runs_grow law lines answers mid last rest))
+    where
+      same_of : {A : Type 0} {x y : A} → Some x ≡ Some y → x ≡ y
+      same_of e = cc
+  stands_since (line ∷ lines) (answer ∷ answers) first last (suc k) (mid, step, rest) is =
+      let more = stands_since lines answers mid last k rest (record { line = is.line; answer = is.answer; stands = is.stands; asks = is.asks; answered = is.answered; says = is.says }) in
+      (more.0, (mid, step, more.1), more.2)
+
+pub put_stands : (law : GrowLaw) (lines : List (List ℕ)) (answers : List (Option Answer)) (first last : Option (List ReplicaState)) (k r : ℕ) (key bytes : List ℕ) (priority : ℕ)
+    → ((w : List ReplicaState) (r : ℕ) (key bytes : List ℕ) (entry : LineEntry) (priority : ℕ) (w2 : List ReplicaState) → Step w (Put r key bytes) entry (Priority priority) w2 → HasProcessed w r (λ kept. made_cid (next_links kept) (delta_of_put kept key bytes)) w2)
+    → Runs first lines answers last → IsLineAt lines answers k (Put r key bytes) (Priority priority) → SinceLine first lines answers k last (λ w w2. HasProcessed w r (λ kept. made_cid (next_links kept) (delta_of_put kept key bytes)) w2)
+put_stands law lines answers first last k r key bytes priority done runs is =
+    stands_since law (λ w w2. HasProcessed w r (λ kept. made_cid (next_links kept) (delta_of_put kept key bytes)) w2) (λ w w2 w3 p q. processed_later r (λ kept. made_cid (next_links kept) (delta_of_put kept key bytes)) w w2 w3 p q)
+    (Put r key bytes) (Priority priority) (λ w entry w2 step. done w r key bytes entry priority w2 step) lines answers first last k runs is
+
+pub commit_stands : (law : GrowLaw) (lines : List (List ℕ)) (answers : List (Option Answer)) (first last : Option (List ReplicaState)) (k r priority : ℕ)
+    → ((w : List ReplicaState) (r : ℕ) (entry : LineEntry) (priority : ℕ) (w2 : List ReplicaState) → Step w (Commit r) entry (Priority priority) w2 → priority ≢ 0 → (batch : OpenBatch) × HasProcessed w r (batch_cid batch) w2)
+    → Runs first lines answers last → IsLineAt lines answers k (Commit r) (Priority priority) → priority ≢ 0 → SinceLine first lines answers k last (λ w w2. (batch : OpenBatch) × HasProcessed w r (batch_cid batch) w2)
+commit_stands law lines answers first last k r priority done runs is some =
+    stands_since law (λ w w2. (batch : OpenBatch) × HasProcessed w r (batch_cid batch) w2) (λ w w2 w3 p q. (p.0, processed_later r (batch_cid p.0) w w2 w3 p.1 q))
+    (Commit r) (Priority priority) (λ w entry w2 step. done w r entry priority w2 step some) lines answers first last k runs is

@@ -41,10 +41,14 @@ broken_by_itself events own s new none breaks = cut_by_itself breaks.rest own (a
 
 -- no refusal is answered by a fault, nor is a command that was done
 
-no_refusal : (error : CoreError) (reply : Reply) → IsReply error reply → is_fault reply ≡ false
+pub no_refusal : (error : CoreError) (reply : Reply) → IsReply error reply → is_fault reply ≡ false
 no_refusal core.KeeperFault reply e = absurd e
 no_refusal core.Memory reply e = absurd e
 no_refusal error reply e = sym (ap (λ (said : Result Reply ActError). answers_fault said) e)
+
+pub no_fault_planned : (s : ReplicaState) (command : Command) (events : List Event) (reply : Reply) → Plan s command events reply → is_fault reply ≡ false
+no_fault_planned s (Put r key bytes) events reply plan = ap is_fault plan.2
+no_fault_planned s command events reply plan = ap is_fault plan.2
 
 module _ (s new : ReplicaState) (named own : Type 0) (none : s.fuse ≡ None) (reply : Reply) where
   -- a command leaves a replica without a fuse, and its reply is no fault
@@ -53,11 +57,7 @@ module _ (s new : ReplicaState) (named own : Type 0) (none : s.fuse ≡ None) (r
 
   pub passes : (command : Command) → (own → ⊥) → ReplicaStep s command named own new reply → Passes
   passes command never (inr faulted) = absurd (never (broken_by_itself faulted.faults.events own s new none faulted.faults.breaks))
-  passes command never (inl (inr done)) = (says command done.plan, ap (λ (x : ReplicaState). x.fuse) done.goes.ends ∙ no_fuse_after s done.events none)
-    where
-      says : (command : Command) → Plan s command done.events reply → is_fault reply ≡ false
-      says (Put r key bytes) plan = ap is_fault plan.2
-      says command plan = ap is_fault plan.2
+  passes command never (inl (inr done)) = (no_fault_planned s command done.events reply done.plan, ap (λ (x : ReplicaState). x.fuse) done.goes.ends ∙ no_fuse_after s done.events none)
   passes command never (inl (inl refused)) = (no_refusal refused.cause.0 reply refused.cause.2, ap (λ (x : ReplicaState). x.fuse) refused.same ∙ none)
 
 -- no replica has a fuse

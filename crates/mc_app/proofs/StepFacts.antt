@@ -1,6 +1,6 @@
 -- From a call of a replica to the step of a command.
 use Rattle.std.proofs.Common.{◌≡◌, true, List, Option, Some, None, Result, Ok, Err, refl, sym, subst, inl, inr}
-use Rattle.std.specs.Prelude.{IfOk, IsErrAnd}
+use Rattle.std.specs.Prelude.{IsErrAnd}
 use Rattle.mc_base.specs.Told.{Told}
 use Rattle.mc_model.specs.Events.{Event}
 use Rattle.mc_keep.specs.Causes.{Kind, Refusal, Fault, Shortage, is_fault_kind}
@@ -12,7 +12,7 @@ use Rattle.mc_core.specs.Refusals.{ByKind, kind_of}
 use Rattle.mc_core.proofs.EventFacts.{breaks_rose}
 use Rattle.mc_script.specs.declared.reply.Reply.{Reply}
 use Rattle.mc_app.specs.declared.acting.ActError.{ActError}
-use Rattle.mc_app.specs.Step.{answer_of, answers_fault, ByReply, Row}
+use Rattle.mc_app.specs.Step.{answer_of, answers_fault, ByReply, ReplicaDoes, Row}
 
 -- what a plan of calls gives for a plan of replies
 abbrev pub Gives : {T : Type 0} → (List Event → T → Type 0) → (List Event → Reply → Type 0) → Type 0
@@ -39,17 +39,17 @@ err_call Due P Q Short gives (Some s) (Some x) own error (Err e) is call =
     (fault_map _ (Faults (P s) own s x) (Faults (Q s) own s x) _ (kind_of error) (λ faults. record { events = faults.events; begins = begins_by (P s) (Q s) (gives s) faults.events faults.begins; breaks = faults.breaks }) call)
 
 module _ (Due : ReplicaState → Option CoreError → Type 0) (Q : ReplicaState → List Event → Reply → Type 0) (Short : ReplicaState → ReplicaState → Type 0) where
-  err_step : (named own : Type 0) (error : CoreError) (s x : ReplicaState) → (is_fault_kind (kind_of error) ≡ true → named) → Call (Due s) (Q s) (Short s) own (Err error) s x → IfOk (answer_of error) (λ reply. Row (ByReply (Due s)) (Q s) named own s x reply)
+  err_step : (named own : Type 0) (error : CoreError) (s x : ReplicaState) → (is_fault_kind (kind_of error) ≡ true → named) → Call (Due s) (Q s) (Short s) own (Err error) s x → ReplicaDoes (λ reply. Row (ByReply (Due s)) (Q s) named own s x reply) (Short s x) (answer_of error)
   err_step named own core.KeeperFault s x rose call = inr (record { cause = rose refl; says = refl; faults = call })
-  err_step named own core.Memory s x rose call = tt
+  err_step named own core.Memory s x rose call = call
   err_step named own error s x rose call = inl (inl (record { cause = (error, call.0, refl); same = call.1 }))
 
   -- the reply to a call that did nothing, or not all
   pub err_row : (old new : Option ReplicaState) (named own : Type 0) (error : CoreError) (result : Result Reply ActError) → result ≡ answer_of error → (is_fault_kind (kind_of error) ≡ true → named)
-      → Told old new (λ s x. Call (Due s) (Q s) (Short s) own (Err error) s x) → Told old new (λ s x. IfOk result (λ reply. Row (ByReply (Due s)) (Q s) named own s x reply))
+      → Told old new (λ s x. Call (Due s) (Q s) (Short s) own (Err error) s x) → Told old new (λ s x. ReplicaDoes (λ reply. Row (ByReply (Due s)) (Q s) named own s x reply) (Short s x) result)
   err_row None new named own error result is rose call = tt
   err_row (Some s) None named own error result is rose call = absurd call
-  err_row (Some s) (Some x) named own error result is rose call = subst (λ (y : Result Reply ActError). IfOk y (λ reply. Row (ByReply (Due s)) (Q s) named own s x reply)) (sym is) (err_step named own error s x rose call)
+  err_row (Some s) (Some x) named own error result is rose call = subst (λ (y : Result Reply ActError). ReplicaDoes (λ reply. Row (ByReply (Due s)) (Q s) named own s x reply) (Short s x) y) (sym is) (err_step named own error s x rose call)
 
   -- and to one that did all
   pub ok_row : (old new : Option ReplicaState) (named own : Type 0) (reply : Reply) → Told old new (λ s x. Call (Due s) (Q s) (Short s) own (Ok reply) s x) → Told old new (λ s x. Row (ByReply (Due s)) (Q s) named own s x reply)

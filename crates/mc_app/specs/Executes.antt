@@ -1,10 +1,11 @@
 -- A line, its answer, and what was written of it.
-use Rattle.std.specs.Prelude.{ℕ, true, List, Option, Some, ◌≡◌}
+use Rattle.std.specs.Prelude.{ℕ, true, List, Option, Some, ◌≡◌, ◌⊎◌}
 use Rattle.std.specs.Io.KnownBytes.{Appends}
-use Rattle.mc_base.specs.Told.{AppendsPart}
+use Rattle.mc_base.specs.Told.{AppendsPart, Told}
 use Rattle.mc_core.specs.Events.{ReplicaState}
 use Rattle.mc_script.specs.declared.command.Command.{Command}
 use Rattle.mc_script.specs.declared.reply.Reply.{Reply}
+use Rattle.mc_app.specs.Step.{LeavesStep, has_replica}
 use Rattle.mc_app.specs.Runs.{Answer, LineStep, IsWithin, fault_of, owns_none, text_of_answer}
 
 -- this was read of a line, it was done and answered, and the answer was written; the keeper's count rose from one
@@ -34,3 +35,18 @@ pub record IsAnswered (calm : Type 0) (old : Option (List ReplicaState)) (faults
   pub step : LineStep old (Some (Some command)) new (Some answer)
   pub counted : IsWithin faults faults_now (fault_of (Some answer))
   pub owned : calm → owns_none (Some answer) ≡ true
+
+-- a want of memory in the call of a command left this of a world
+abbrev pub IsLeftOf : Option (List ReplicaState) → Command → Option (List ReplicaState) → Type 0
+IsLeftOf old command new = (has_replica command ≡ true) × Told old new (λ w w2. LeavesStep w command w2)
+
+-- memory was wanting for a command: this was left of it, or it was done, and its answer is not written
+abbrev pub CutsShort : Type 0 → Option (List ReplicaState) → ℕ → Command → Option (List ReplicaState) → ℕ → Type 0
+CutsShort calm old faults command new faults_now =
+    IsLeftOf old command new ⊎ ((reply : Reply) × IsAnswered calm old faults command new faults_now reply)
+
+-- memory was wanting for a line of which this was read: nothing changed, or its command was cut short
+abbrev pub LineShort : Type 0 → Option (List ReplicaState) → ℕ → Option (Option Command) → Option (List ReplicaState)
+    → ℕ → Type 0
+LineShort calm old faults read new faults_now = (new ≡ old)
+    ⊎ ((command : Command) × (read ≡ Some (Some command)) × CutsShort calm old faults command new faults_now)

@@ -5,6 +5,8 @@ use Rattle.mc_core.specs.Events.{ReplicaState}
 use Rattle.mc_script.specs.Line.{line_of}
 use Rattle.mc_script.specs.declared.command.Command.{Command}
 use Rattle.mc_app.specs.Lines.{lines_of, line_max, script_max, IsTooLong}
+use Rattle.mc_app.specs.Taking.{TakesLine}
+use Rattle.mc_app.specs.Executes.{IsLeftOf}
 use Rattle.mc_app.specs.Runs.{Answer, Runs}
 use Rattle.mc_app.specs.Step.{has_replica}
 
@@ -49,3 +51,15 @@ pub record MeetsBadLine (script : List ℕ) (start : Option (List ReplicaState))
 
 abbrev pub bad_line_text : ℕ → List ℕ
 bad_line_text number = codes "bad line " ++ decimal number ++ 10 ∷ []
+
+-- The next line, where this many bytes of the script were taken before it, was read, and a want of memory in the call
+-- of its command left this.
+pub record LeavesNext (given : ℕ) (ahead : List ℕ) (world left : Option (List ReplicaState)) : Type 0 where
+  pub line : List ℕ
+  pub rest : List ℕ
+  pub given_after : ℕ
+  pub takes : TakesLine line given given_after ahead rest
+  pub in_script : given_after ≤ script_max
+  pub command : Command
+  pub asks : line_of line ≡ Some (Some command)
+  pub leaves : IsLeftOf world command left

@@ -1,5 +1,5 @@
 -- The record of the lines: one entry for each.
-use Rattle.std.specs.Prelude.{◌≡◌, ℕ, Bool, true, false, List, [], ◌∷◌, ◌++◌, Option, Some, None, slice_get}
+use Rattle.std.specs.Prelude.{◌≡◌, ◌↔◌, ◌⊎◌, ℕ, Bool, true, false, List, [], ◌∷◌, ◌++◌, Option, Some, None, slice_get}
 use Rattle.mc_base.specs.Causes.{Rose}
 use Rattle.mc_app.specs.declared.entry.LineEntry.{LineEntry}
 use Rattle.mc_app.specs.Step.{is_named}
@@ -21,11 +21,15 @@ RoseAt count (Some old) (Some new) = Rose (count old) (count new)
 RoseAt count None new = ⊥
 RoseAt count (Some old) None = ⊥
 
--- the entry names only keepers whose counts rose, and no desk
+-- the entry names exactly the keepers whose counts rose, and no desk
 pub record NamesRisen {K : Type 0} (faults own : K → ℕ) (old new : List K) (entry : LineEntry) : Type 0 where
-  pub keepers : (r : ℕ) → is_named entry.keepers r ≡ true → RoseAt faults (slice_get old r) (slice_get new r)
+  pub keepers : (r : ℕ) → (is_named entry.keepers r ≡ true) ↔ RoseAt faults (slice_get old r) (slice_get new r)
   pub desks : entry.desks ≡ []
-  pub inside : (r : ℕ) → is_named entry.own r ≡ true → RoseAt own (slice_get old r) (slice_get new r)
+  pub inside : (r : ℕ) → (is_named entry.own r ≡ true) ↔ RoseAt own (slice_get old r) (slice_get new r)
+
+-- the record as it was, or with one entry more
+abbrev pub IsLonger : List LineEntry → List LineEntry → Type 0
+IsLonger old new = (new ≡ old) ⊎ ((entry : LineEntry) × (new ≡ old ++ entry ∷ []))
 
 -- the keeper is quiet, and has not failed by itself
 abbrev pub IsCalm : Bool → ℕ → Type 0

@@ -164,6 +164,16 @@ Row Refusal Planned named own s new reply =
 abbrev pub ReplicaStep : ReplicaState → Command → Type 0 → Type 0 → ReplicaState → Reply → Type 0
 ReplicaStep s command named own new reply = Row (Refuses s command) (Plan s command) named own s new reply
 
+-- what is left of a replica where a command was not answered for want of memory: what its call leaves, or all is done
+abbrev pub ReplicaShort : ReplicaState → Command → Type 0 → Type 0 → ReplicaState → Type 0
+ReplicaShort s command named own new =
+    Leaves command s new ⊎ ((reply : Reply) × ReplicaStep s command named own new reply)
+
+-- what a command does at its replica, answered or not
+abbrev pub ReplicaDoes : {E : Type 0} → (Reply → Type 0) → Type 0 → Result Reply E → Type 0
+ReplicaDoes Answered Left (Ok reply) = Answered reply
+ReplicaDoes Answered Left (Err error) = Left
+
 -- whether a list of replicas has this number
 abbrev pub is_named : List ℕ → ℕ → Bool
 is_named numbers r = list_any (λ number. number == r) numbers
@@ -178,3 +188,19 @@ pub record Step (w : List ReplicaState) (command : Command) (entry : LineEntry) 
   pub after : w2 ≡ set w (place_of command) new
   pub step : ReplicaStep old command (is_named entry.keepers (place_of command) ≡ true)
       (is_named entry.own (place_of command) ≡ true) new reply
+
+-- only the replica with this number changes, and P ties what it was and is
+pub record ChangesAt (place : ℕ) (P : ReplicaState → ReplicaState → Type 0) (w w2 : List ReplicaState) : Type 0 where
+  pub old : ReplicaState
+  pub new : ReplicaState
+  pub stands : slice_get w place ≡ Some old
+  pub after : w2 ≡ set w place new
+  pub change : P old new
+
+-- what a want of memory in a call leaves of a world
+abbrev pub LeavesStep : List ReplicaState → Command → List ReplicaState → Type 0
+LeavesStep w command w2 = ChangesAt (place_of command) (Leaves command) w w2
+
+-- a command was not answered for want of memory, which leaves this of a world
+abbrev pub ShortStep : List ReplicaState → Command → Type 0 → Type 0 → List ReplicaState → Type 0
+ShortStep w command named own w2 = ChangesAt (place_of command) (λ s new. ReplicaShort s command named own new) w w2

@@ -1,5 +1,5 @@
 -- The words of what is done at a replica and in a world, at a bound `K: Keeper`.
-use Rattle.std.specs.Prelude.{◌≡◌, ◌≤◌, ⊤, ℕ, Bool, true, false, List, [], ◌∷◌, Option, Result, IfOk}
+use Rattle.std.specs.Prelude.{◌≡◌, ◌≤◌, ⊤, ℕ, Bool, true, false, List, [], ◌∷◌, Option, Result}
 use Rattle.mc_base.specs.Causes.{Rose}
 use Rattle.mc_base.specs.Told.{Told}
 use Rattle.mc_base.specs.declared.counted.Counted as counted
@@ -15,9 +15,9 @@ use Rattle.mc_script.specs.declared.command.Command.{Command}
 use Rattle.mc_script.specs.declared.reply.Reply.{Reply}
 use Rattle.mc_app.specs.declared.acting.ActError.{ActError}
 use Rattle.mc_app.specs.declared.world.World.{World}
-use Rattle.mc_app.specs.Executes.{Executes, ExecutesPart, IsAnswered}
+use Rattle.mc_app.specs.Executes.{CutsShort, Executes, ExecutesPart, IsAnswered, LineShort}
 use Rattle.mc_app.specs.Record.{IsCalm, NamesRisen, Recorded}
-use Rattle.mc_app.specs.Step.{ReplicaStep, Step}
+use Rattle.mc_app.specs.Step.{Leaves, ReplicaDoes, ReplicaStep, ShortStep, Step, has_replica}
 use Rattle.mc_app.specs.Worlds.{world_state}
 
 -- What every call leaves of a world: whether its keeper tells, and the desks; counts don't fall, what is quiet stays
@@ -36,10 +36,11 @@ module _ {K D : Type 0} (k : Members K D) where
   abbrev pub WorldKeeps : Bool → World K D → World K D → Type 0
   WorldKeeps = WorldKeepsAt k.told k.fuse k.own k.faults k.quiet
 
-  -- a command is answered at its replica, where the keeper tells
+  -- a command is answered at its replica, where the keeper tells; or this is what a want of memory in its call leaves
   abbrev pub Replies : Command → Result Reply ActError → Replica K D → Replica K D → Type 0
-  Replies command result old new = Becomes k (λ own s after. IfOk result (λ reply.
-      ReplicaStep s command (Rose (k.faults old.keeper) (k.faults new.keeper)) own after reply)) old new
+  Replies command result old new = Becomes k (λ own s after. ReplicaDoes (λ reply.
+      ReplicaStep s command (Rose (k.faults old.keeper) (k.faults new.keeper)) own after reply)
+      (Leaves command s after) result) old new
 
   -- what is told of a world, and whether its keeper is calm
   abbrev pub told_of : World K D → Option (List ReplicaState)
@@ -55,6 +56,13 @@ module _ {K D : Type 0} (k : Members K D) where
       × (Calm old → entry.own ≡ [])
       × Told (told_of old) (told_of new) (λ w w2. Step w command entry reply w2)) old.entries new.entries
 
+  -- a command of a replica that is there was not answered for want of memory: this is left, and the record is as it was
+  abbrev pub Shortens : Command → World K D → World K D → Type 0
+  Shortens command old new = (has_replica command ≡ true) × (new.entries ≡ old.entries)
+      × Told (told_of old) (told_of new) (λ w w2. ShortStep w command
+      (Rose (k.faults old.replica.keeper) (k.faults new.replica.keeper))
+      (Rose (k.own old.replica.keeper) (k.own new.replica.keeper)) w2)
+
   -- the same of a reply that is not yet written
   abbrev pub AnswersIn : Command → World K D → World K D → Reply → Type 0
   AnswersIn command old new = IsAnswered (Calm old) (told_of old) (k.faults old.replica.keeper) command
@@ -68,6 +76,15 @@ module _ {K D : Type 0} (k : Members K D) where
   abbrev pub ExecutesPartIn : Option (Option Command) → World K D → World K D → Option (List ℕ) → Option (List ℕ)
       → Type 0
   ExecutesPartIn read old new = ExecutesPart (Calm old) (told_of old) (k.faults old.replica.keeper) read
+      (told_of new) (k.faults new.replica.keeper)
+
+  -- and where memory was wanting
+  abbrev pub CutsShortIn : Command → World K D → World K D → Type 0
+  CutsShortIn command old new = CutsShort (Calm old) (told_of old) (k.faults old.replica.keeper) command
+      (told_of new) (k.faults new.replica.keeper)
+
+  abbrev pub LineShortIn : Option (Option Command) → World K D → World K D → Type 0
+  LineShortIn read old new = LineShort (Calm old) (told_of old) (k.faults old.replica.keeper) read
       (told_of new) (k.faults new.replica.keeper)
 
 -- The same of a loop over lines, in a proof file.

@@ -1,9 +1,9 @@
 // One command in a world.
-ghost use Rattle.std.specs.Prelude.{◌≡◌, ◌↔◌, ◌++◌, [], ◌∷◌, true, false, IfOk, OnOk, IsErrOf};
+ghost use Rattle.std.specs.Prelude.{◌≡◌, ◌↔◌, ◌++◌, [], ◌∷◌, true, false, IfOk, OnOk, OnErr, IsErrOf};
 ghost use Rattle.mc_base.specs.Causes.{Rose};
 ghost use Rattle.mc_app.specs.Record.{numbers_of};
 ghost use Rattle.mc_app.specs.Step.{answers_fault, has_replica};
-ghost use Rattle.mc_app.specs.Words.{Records, WorldKeeps};
+ghost use Rattle.mc_app.specs.Words.{Records, Shortens, WorldKeeps};
 
 use crate::replies::act_at;
 use crate::{LineEntry, World};
@@ -35,10 +35,11 @@ impl From<AllocError> for ActError {
     }
 }
 
-/// Executes one command. The world and the reply are by `Step`, and the record grows by one entry, which names only
-/// keepers whose counts rose, and among those that failed by themselves no quiet one whose own count was 0. `BadLine`
-/// comes exactly where the command names a replica that isn't there, and changes nothing. After `Memory` some events of
-/// the command may have happened.
+/// Executes one command. The world and the reply are by `Step`, and the record grows by one entry, which names
+/// exactly the keepers whose counts rose, and as failed by itself no quiet one whose own count was 0. `BadLine` comes
+/// exactly where the command names a replica that isn't there, and changes nothing. After `Memory` the record is as it
+/// was, and the command is done, or its replica is what a want of memory in the call leaves: as it was, or after some
+/// first blocks of a delete.
 pub fn act<K: Keeper>(
     world: &mut World<K>,
     alloc: Global,
@@ -47,6 +48,7 @@ pub fn act<K: Keeper>(
     ensures line { IfOk result (Records K.Keeper command.now world.old world.new) }
     ensures there { OnOk result (has_replica command.now ≡ true) }
     ensures bad { IsErrOf result ActError.BadLine → (has_replica command.now ≡ false) × (world.new ≡ world.old) }
+    ensures short { IsErrOf result ActError.Memory → Shortens K.Keeper command.now world.old world.new }
     ensures keeps { WorldKeeps K.Keeper (answers_fault result) world.old world.new }
 {
     if !has_replica(command) {
@@ -86,7 +88,8 @@ fn has_replica(command: &Command) -> bool
 }
 
 fn push_entry(entries: &mut List<LineEntry>, entry: LineEntry) -> Result<(), AllocError>
-    ensures { OnOk result (entries.new ≡ entries.old ++ entry ∷ []) }
+    ensures ok { OnOk result (entries.new ≡ entries.old ++ entry ∷ []) }
+    ensures err { OnErr result (entries.new ≡ entries.old) }
 {
     entries.push(entry)?;
     Ok(())

@@ -1,5 +1,5 @@
 // A line, its command, and the way of its reply into the sink.
-ghost use Rattle.std.specs.Prelude.{◌≡◌, ◌≤◌, OnOk, IfOk, IsErrOf, Some, false};
+ghost use Rattle.std.specs.Prelude.{◌≡◌, ◌≤◌, [], OnOk, IfOk, IsErrOf, Some, false};
 ghost use Rattle.std.specs.Io.KnownBytes.{Appends, Keeps};
 ghost use Rattle.mc_base.specs.Causes.{Counts};
 ghost use Rattle.mc_base.specs.Told.{AppendsPart};
@@ -7,16 +7,18 @@ ghost use Rattle.mc_script.specs.Line.{line_of};
 ghost use Rattle.mc_script.specs.ReplyText.{reply_text};
 ghost use Rattle.mc_app.specs.declared.acting.ActError.{ActError};
 ghost use Rattle.mc_app.specs.Progress.{IsBadCommand};
+ghost use Rattle.mc_app.specs.Record.{IsLonger};
 ghost use Rattle.mc_app.specs.Step.{has_replica};
-ghost use Rattle.mc_app.specs.Words.{AnswersIn, ExecutesIn, ExecutesPartIn, WorldKeeps};
+ghost use Rattle.mc_app.specs.Words.{AnswersIn, CutsShortIn, ExecutesIn, ExecutesPartIn, LineShortIn, WorldKeeps};
 ghost use Rattle.mc_app.specs.declared.execute.ExecuteError.TheVariants.{Failed as WriteFailed, Memory};
 
 use crate::write::write_text;
-use crate::{ActError, World, act};
-use mc_base::{Bytes, Failed, Sink};
+use crate::{ActError, LineEntry, World, act};
+use mc_base::{Bytes, Failed, List, Sink};
 use mc_keep::Keeper;
 use mc_script::{Command, LineError, Reply, read_line, write_reply};
 use std::alloc::{AllocError, Global};
+use std::mem::replace;
 use thiserror::Error;
 
 /// Why a line was not executed, or its reply not written.
@@ -51,7 +53,8 @@ impl From<AllocError> for ExecuteError {
 
 /// Executes a line, and writes its reply. `Bad` comes exactly where the line is no command or names a replica that
 /// isn't there, and then nothing is written and nothing changes. `Failed` comes only where the sink failed, and then
-/// some first bytes of the reply are written.
+/// some first bytes of the reply are written. Under `Memory` nothing is written, and the command was done, or nothing
+/// or a part of it.
 pub fn execute_line<K: Keeper, O: Sink>(
     alloc: Global,
     world: &mut World<K>,
@@ -60,11 +63,14 @@ pub fn execute_line<K: Keeper, O: Sink>(
 ) -> Result<(), ExecuteError>
     ensures ok { OnOk result (ExecutesIn K.Keeper (line_of line.now) world.old world.new
         (O.written out.old) (O.written out.new)) }
-    ensures bad { IsErrOf result ExecuteError.Bad →
-        IsBadCommand (line_of line.now) × Keeps (O.written out.old) (O.written out.new) }
+    ensures bad { IsErrOf result ExecuteError.Bad → IsBadCommand (line_of line.now)
+        × Keeps (O.written out.old) (O.written out.new) × (world.new ≡ world.old) }
     ensures failed { IsErrOf result ExecuteError.Failed → ExecutesPartIn K.Keeper (line_of line.now)
         world.old world.new (O.written out.old) (O.written out.new) }
     ensures memory { IsErrOf result ExecuteError.Memory → Keeps (O.written out.old) (O.written out.new) }
+    ensures short { IsErrOf result ExecuteError.Memory →
+        LineShortIn K.Keeper (line_of line.now) world.old world.new }
+    ensures entries { IsLonger world.old.entries world.new.entries }
     ensures keeps { WorldKeeps K.Keeper false world.old world.new }
     ensures cause { Counts (O.faults out.old) (O.faults out.new) (IsErrOf result ExecuteError.Failed) }
 {
@@ -76,6 +82,41 @@ pub fn execute_line<K: Keeper, O: Sink>(
     }
 }
 
+/// Executes a line of a world whose record is empty, writes its reply as `execute_line` does, and empties the record.
+pub fn execute_and_clear<K: Keeper, O: Sink>(
+    alloc: Global,
+    world: &mut World<K>,
+    line: &[u8],
+    out: &mut O,
+) -> Result<(), ExecuteError>
+    requires { world.old.entries ≡ [] }
+    ensures ok { OnOk result (ExecutesIn K.Keeper (line_of line.now) world.old world.new
+        (O.written out.old) (O.written out.new)) }
+    ensures bad { IsErrOf result ExecuteError.Bad → IsBadCommand (line_of line.now)
+        × Keeps (O.written out.old) (O.written out.new) × (world.new.replica ≡ world.old.replica) }
+    ensures failed { IsErrOf result ExecuteError.Failed → ExecutesPartIn K.Keeper (line_of line.now)
+        world.old world.new (O.written out.old) (O.written out.new) }
+    ensures memory { IsErrOf result ExecuteError.Memory → Keeps (O.written out.old) (O.written out.new) }
+    ensures short { IsErrOf result ExecuteError.Memory →
+        LineShortIn K.Keeper (line_of line.now) world.old world.new }
+    ensures entries { world.new.entries ≡ [] }
+    ensures keeps { WorldKeeps K.Keeper false world.old world.new }
+    ensures cause { Counts (O.faults out.old) (O.faults out.new) (IsErrOf result ExecuteError.Failed) }
+{
+    let result = execute_line(alloc, world, line, out);
+    clear_record(alloc, &mut world.entries);
+    result
+}
+
+// Empties a record.
+fn clear_record(alloc: Global, entries: &mut List<LineEntry>)
+    ensures { entries.new ≡ [] }
+{
+    let mut items = replace(entries, List::new(alloc)).into_vec();
+    items.clear();
+    *entries = List::from_vec(items);
+}
+
 // Does a command, and writes its reply.
 fn answer<K: Keeper, O: Sink>(
     alloc: Global,
@@ -85,11 +126,13 @@ fn answer<K: Keeper, O: Sink>(
 ) -> Result<(), ExecuteError>
     ensures ok { OnOk result (ExecutesIn K.Keeper (Some (Some command.now)) world.old world.new
         (O.written out.old) (O.written out.new)) }
-    ensures bad { IsErrOf result ExecuteError.Bad →
-        (has_replica command.now ≡ false) × Keeps (O.written out.old) (O.written out.new) }
+    ensures bad { IsErrOf result ExecuteError.Bad → (has_replica command.now ≡ false)
+        × Keeps (O.written out.old) (O.written out.new) × (world.new ≡ world.old) }
     ensures failed { IsErrOf result ExecuteError.Failed → ExecutesPartIn K.Keeper (Some (Some command.now))
         world.old world.new (O.written out.old) (O.written out.new) }
     ensures memory { IsErrOf result ExecuteError.Memory → Keeps (O.written out.old) (O.written out.new) }
+    ensures short { IsErrOf result ExecuteError.Memory → CutsShortIn K.Keeper command.now world.old world.new }
+    ensures entries { IsLonger world.old.entries world.new.entries }
     ensures keeps { WorldKeeps K.Keeper false world.old world.new }
     ensures cause { Counts (O.faults out.old) (O.faults out.new) (IsErrOf result ExecuteError.Failed) }
 {
@@ -122,7 +165,9 @@ fn act_on<K: Keeper>(
     command: &Command,
 ) -> Result<Reply, ActError>
     ensures answered { IfOk result (AnswersIn K.Keeper command.now world.old world.new) }
-    ensures bad { IsErrOf result ActError.BadLine → has_replica command.now ≡ false }
+    ensures bad { IsErrOf result ActError.BadLine → (has_replica command.now ≡ false) × (world.new ≡ world.old) }
+    ensures short { IsErrOf result ActError.Memory → CutsShortIn K.Keeper command.now world.old world.new }
+    ensures entries { IsLonger world.old.entries world.new.entries }
     ensures keeps { WorldKeeps K.Keeper false world.old world.new }
 {
     act(world, alloc, command)

@@ -13,7 +13,7 @@ ghost use Rattle.mc_script.specs.declared.command.Command.TheVariants.{Put, Del,
 ghost use Rattle.mc_script.specs.declared.reply.Reply.{Reply as Said};
 ghost use Rattle.mc_script.specs.declared.reply.Reply.TheVariants.{Priority, Deleted};
 ghost use Rattle.mc_app.specs.declared.entry.LineEntry.{LineEntry as Entry};
-ghost use Rattle.mc_app.specs.Promises.{HasDeleted, HasProcessed, OnlyGrows, batch_cid, is_read};
+ghost use Rattle.mc_app.specs.Promises.{HasDeleted, HasProcessed, IsLineAt, OnlyGrows, SinceLine, batch_cid, is_read};
 ghost use Rattle.mc_app.specs.Runs.{Answer, Runs, faults_in, own_free};
 ghost use Rattle.mc_app.specs.Step.{Plan, Step};
 ghost use Rattle.mc_app.specs.Worlds.{first_state};
@@ -57,6 +57,24 @@ pub fn acknowledged_deletes_are_processed()
     ensures { (w : List ReplicaState) (r : ℕ) (key : List ℕ) (entry : Entry) (count : ℕ)
         (w2 : List ReplicaState) → Step w (Del r key) entry (Deleted count) w2 → HasDeleted w r key count w2 }
 {}
+
+/// In a run, the block of a put that was answered by `ok` stands in the last world, at its place in the order of the
+/// processed blocks; and so does that of a batch whose commit was answered by `ok` and a number that isn't 0. The line
+/// may stand at any place, counted from 0. The last world is that which the keeper is taken back with (`run`).
+pub fn acknowledged_blocks_stand()
+    ensures puts { (lines : List (List ℕ)) (answers : List (Option Answer)) (first last : Option (List ReplicaState))
+        (k r : ℕ) (key bytes : List ℕ) (priority : ℕ) → Runs first lines answers last →
+        IsLineAt lines answers k (Put r key bytes) (Priority priority) → SinceLine first lines answers k last
+        (λ w w2. HasProcessed w r (λ kept. made_cid (next_links kept) (delta_of_put kept key bytes)) w2) }
+    ensures commits { (lines : List (List ℕ)) (answers : List (Option Answer)) (first last : Option (List ReplicaState))
+        (k r : ℕ) (priority : ℕ) → Runs first lines answers last →
+        IsLineAt lines answers k (Commit r) (Priority priority) → priority ≢ 0 → SinceLine first lines answers k last
+        (λ w w2. (batch : OpenBatch) × HasProcessed w r (batch_cid batch) w2) }
+{
+    order_and_store_grow();
+    acknowledged_puts_are_processed();
+    acknowledged_commits_are_processed();
+}
 
 /// Replicas with equal processed blocks, in whatever order, give equal answers to every command that only reads.
 pub fn equal_blocks_answer_equally()

@@ -3,7 +3,7 @@ use Rattle.mc_app.proofs.RunFacts.{gives_up_first, outcome_lost}
 use Rattle.mc_app.proofs.running.run_keepers.Goals as goal
 
 pub returns-in-Err-Memory-clause-outcome : goal.returns-in-Err-Memory-clause-outcome
-returns-in-Err-Memory-clause-outcome g c = gives_up_first _ _ _ _ (omega (arith, c.make.ensures.lost), λ quiet. refl)
+returns-in-Err-Memory-clause-outcome g c = gives_up_first _ _ _ _ _ (omega (arith, c.make.ensures.lost), λ quiet. refl) tt
 
 pub returns-clause-outcome : goal.returns-clause-outcome
-returns-clause-outcome g c = outcome_lost _ _ _ _ _ _ _ _ _ _ _ _ _ _ (λ quiet. (c.in-Ok.ensures.quiet quiet, c.in-Ok.ensures.fresh.1)) c.in-Ok.ensures.told c.make.ensures.lost c.end.ensures.lost c.run_keeper-status.ensures.outcome
+returns-clause-outcome g c = outcome_lost _ _ _ _ _ _ _ _ _ _ _ _ _ _ _ _ (λ quiet. (c.in-Ok.ensures.quiet quiet, c.in-Ok.ensures.fresh.1)) c.in-Ok.ensures.told c.make.ensures.lost c.end.ensures.lost (λ w kept. tt) c.run_keeper-status.ensures.outcome
