@@ -22,8 +22,8 @@ use Rattle.mc_app.specs.Worlds.{world_state}
 
 -- What every call leaves of a world: whether its keeper tells, and the desks; counts don't fall, what is quiet stays
 -- so, and where the answer is `fault keeper`, the keeper's count rose.
-pub record WorldKeepsAt {K D : Type 0} (told : K → Option Kept) (fuse : K → Option Fuse) (own faults : K → ℕ)
-    (quiet : K → Bool) (failed : Bool) (old new : World K D) : Type 0 where
+pub record WorldKeepsAt {K D : Type 0} {g : keeper.Ghosts K D} {h : counted.Ghosts K} {i : counted.Ghosts D} (told : K → Option Kept) (fuse : K → Option Fuse) (own faults : K → ℕ)
+    (quiet : K → Bool) (failed : Bool) (old new : World K D g h i) : Type 0 where
   pub tells : Told (world_state told fuse old) (world_state told fuse new) (λ _ _. ⊤)
   pub desks_same : new.desks ≡ old.desks
   pub own_later : own old.replica.keeper ≤ own new.replica.keeper
@@ -32,61 +32,61 @@ pub record WorldKeepsAt {K D : Type 0} (told : K → Option Kept) (fuse : K → 
   pub later : faults old.replica.keeper ≤ faults new.replica.keeper
   pub rose : failed ≡ true → Rose (faults old.replica.keeper) (faults new.replica.keeper)
 
-module _ {K D : Type 0} (k : Members K D) where
-  abbrev pub WorldKeeps : Bool → World K D → World K D → Type 0
+module _ {K D : Type 0} {g : keeper.Ghosts K D} {h : counted.Ghosts K} {i : counted.Ghosts D} (k : Members K D) where
+  abbrev pub WorldKeeps : Bool → World K D g h i → World K D g h i → Type 0
   WorldKeeps = WorldKeepsAt k.told k.fuse k.own k.faults k.quiet
 
   -- a command is answered at its replica, where the keeper tells; or this is what a want of memory in its call leaves
-  abbrev pub Replies : Command → Result Reply ActError → Replica K D → Replica K D → Type 0
+  abbrev pub Replies : Command → Result Reply ActError → Replica K D g h i → Replica K D g h i → Type 0
   Replies command result old new = Becomes k (λ own s after. ReplicaDoes (λ reply.
       ReplicaStep s command (Rose (k.faults old.keeper) (k.faults new.keeper)) own after reply)
       (Leaves command s after) result) old new
 
   -- what is told of a world, and whether its keeper is calm
-  abbrev pub told_of : World K D → Option (List ReplicaState)
+  abbrev pub told_of : World K D g h i → Option (List ReplicaState)
   told_of world = world_state k.told k.fuse world
 
-  abbrev pub Calm : World K D → Type 0
+  abbrev pub Calm : World K D g h i → Type 0
   Calm world = IsCalm (k.quiet world.replica.keeper) (k.own world.replica.keeper)
 
   -- a command is answered in a world, and its entry of the record names no keeper that had no part in it
-  abbrev pub Records : Command → World K D → World K D → Reply → Type 0
+  abbrev pub Records : Command → World K D g h i → World K D g h i → Reply → Type 0
   Records command old new reply = Recorded (λ entry.
       NamesRisen k.faults k.own (old.replica.keeper ∷ []) (new.replica.keeper ∷ []) entry
       × (Calm old → entry.own ≡ [])
       × Told (told_of old) (told_of new) (λ w w2. Step w command entry reply w2)) old.entries new.entries
 
   -- a command of a replica that is there was not answered for want of memory: this is left, and the record is as it was
-  abbrev pub Shortens : Command → World K D → World K D → Type 0
+  abbrev pub Shortens : Command → World K D g h i → World K D g h i → Type 0
   Shortens command old new = (has_replica command ≡ true) × (new.entries ≡ old.entries)
       × Told (told_of old) (told_of new) (λ w w2. ShortStep w command
       (Rose (k.faults old.replica.keeper) (k.faults new.replica.keeper))
       (Rose (k.own old.replica.keeper) (k.own new.replica.keeper)) w2)
 
   -- the same of a reply that is not yet written
-  abbrev pub AnswersIn : Command → World K D → World K D → Reply → Type 0
+  abbrev pub AnswersIn : Command → World K D g h i → World K D g h i → Reply → Type 0
   AnswersIn command old new = IsAnswered (Calm old) (told_of old) (k.faults old.replica.keeper) command
       (told_of new) (k.faults new.replica.keeper)
 
   -- and of a line whose reply is written, or some first bytes of it
-  abbrev pub ExecutesIn : Option (Option Command) → World K D → World K D → Option (List ℕ) → Option (List ℕ) → Type 0
+  abbrev pub ExecutesIn : Option (Option Command) → World K D g h i → World K D g h i → Option (List ℕ) → Option (List ℕ) → Type 0
   ExecutesIn read old new = Executes (Calm old) (told_of old) (k.faults old.replica.keeper) read
       (told_of new) (k.faults new.replica.keeper)
 
-  abbrev pub ExecutesPartIn : Option (Option Command) → World K D → World K D → Option (List ℕ) → Option (List ℕ)
+  abbrev pub ExecutesPartIn : Option (Option Command) → World K D g h i → World K D g h i → Option (List ℕ) → Option (List ℕ)
       → Type 0
   ExecutesPartIn read old new = ExecutesPart (Calm old) (told_of old) (k.faults old.replica.keeper) read
       (told_of new) (k.faults new.replica.keeper)
 
   -- and where memory was wanting
-  abbrev pub CutsShortIn : Command → World K D → World K D → Type 0
+  abbrev pub CutsShortIn : Command → World K D g h i → World K D g h i → Type 0
   CutsShortIn command old new = CutsShort (Calm old) (told_of old) (k.faults old.replica.keeper) command
       (told_of new) (k.faults new.replica.keeper)
 
-  abbrev pub LineShortIn : Option (Option Command) → World K D → World K D → Type 0
+  abbrev pub LineShortIn : Option (Option Command) → World K D g h i → World K D g h i → Type 0
   LineShortIn read old new = LineShort (Calm old) (told_of old) (k.faults old.replica.keeper) read
       (told_of new) (k.faults new.replica.keeper)
 
 -- The same of a loop over lines, in a proof file.
-abbrev pub HasKeptWorld : {K D : Type 0} → keeper.Ghosts K D → counted.Ghosts K → World K D → World K D → Type 0
+abbrev pub HasKeptWorld : {K D : Type 0} {i : counted.Ghosts D} (k : keeper.Ghosts K D) (c : counted.Ghosts K) → World K D k c i → World K D k c i → Type 0
 HasKeptWorld k c = WorldKeepsAt k.told k.fuse k.own c.faults k.quiet false
