@@ -7,7 +7,9 @@ use Rattle.mc_model.specs.Kept.{Kept}
 use Rattle.mc_keep.specs.Causes.{has_fired}
 use Rattle.mc_keep.specs.Frame.{GoesAt}
 use Rattle.mc_keep.specs.Plan.{Schedule}
+use Rattle.mc_base.specs.declared.counted.Counted as counted
 use Rattle.mc_keep.specs.declared.fuse.Fuse.{Fuse}
+use Rattle.mc_keep.specs.declared.keeper.Keeper as keeper
 use Rattle.mc_app.specs.declared.world.World.{World}
 use Rattle.mc_app.specs.Worlds.{world_state}
 use Rattle.mc_app.specs.Words.{WorldKeepsAt}
@@ -34,8 +36,8 @@ no_fault e = absurd (let f : false ≡ true = e in cc)
 pub calm_goes : {S : Type 0} {told : S → Option Kept} {fuse : S → Option Fuse} {own faults : S → ℕ} {quiet : S → Bool} {schedule : S → Option Schedule} {failed : Bool} (old new : S) → GoesAt told fuse own faults quiet schedule failed old new → fuse old ≡ None → quiet old ≡ true → failed ≡ false
 calm_goes {fuse = fuse} old new goes none e = goes.calm (subst (λ (f : Option Fuse). has_fired f (fuse new) ≡ false) (sym none) refl) e
 
-module _ {K D : Type 0} {told : K → Option Kept} {fuse : K → Option Fuse} {own faults : K → ℕ} {quiet : K → Bool} where
-  pub world_itself : (now : World K D) → WorldKeepsAt told fuse own faults quiet false now now
+module _ {K D : Type 0} {g : keeper.Ghosts K D} {h : counted.Ghosts K} {i : counted.Ghosts D} {told : K → Option Kept} {fuse : K → Option Fuse} {own faults : K → ℕ} {quiet : K → Bool} where
+  pub world_itself : (now : World K D g h i) → WorldKeepsAt told fuse own faults quiet false now now
   world_itself now = record {
     tells = tells_itself (world_state told fuse now);
     desks_same = refl;
@@ -48,7 +50,7 @@ module _ {K D : Type 0} {told : K → Option Kept} {fuse : K → Option Fuse} {o
   }
 
   -- the second one is the last
-  pub world_more : {f failed : Bool} {old mid new : World K D} → WorldKeepsAt told fuse own faults quiet f old mid → WorldKeepsAt told fuse own faults quiet failed mid new → WorldKeepsAt told fuse own faults quiet failed old new
+  pub world_more : {f failed : Bool} {old mid new : World K D g h i} → WorldKeepsAt told fuse own faults quiet f old mid → WorldKeepsAt told fuse own faults quiet failed mid new → WorldKeepsAt told fuse own faults quiet failed old new
   world_more {old = old} {mid = mid} {new = new} before next = record {
     tells = tells_then (world_state told fuse old) (world_state told fuse mid) (world_state told fuse new) before.tells next.tells;
     desks_same = next.desks_same ∙ before.desks_same;

@@ -2,7 +2,9 @@
 use Rattle.std.specs.Prelude.{◌≡◌, true, false, List, [], ◌∷◌, Option, Some, None}
 use Rattle.mc_model.specs.Kept.{Kept}
 use Rattle.mc_keep.specs.Calls.{Members, Reads}
+use Rattle.mc_base.specs.declared.counted.Counted as counted
 use Rattle.mc_keep.specs.declared.fuse.Fuse.{Fuse}
+use Rattle.mc_keep.specs.declared.keeper.Keeper as keeper
 use Rattle.mc_core.specs.Events.{ReplicaState}
 use Rattle.mc_core.specs.Replica.{replica_state, opened_state}
 use Rattle.mc_app.specs.declared.world.World.{World}
@@ -20,8 +22,8 @@ told_all tell [] = Some []
 told_all tell (x ∷ xs) = both_told (tell x) (told_all tell xs)
 
 -- the replicas of a world, in order of name
-abbrev pub world_state : {K Desk : Type 0} → (K → Option Kept) → (K → Option Fuse) → World K Desk
-    → Option (List ReplicaState)
+abbrev pub world_state : {K D : Type 0} {g : keeper.Ghosts K D} {h : counted.Ghosts K} {i : counted.Ghosts D} → (K → Option Kept)
+    → (K → Option Fuse) → World K D g h i → Option (List ReplicaState)
 world_state told fuse world = told_all (replica_state told fuse) (world.replica ∷ [])
 
 -- those that are opened over what some keepers tell, with no fuse

@@ -3,7 +3,9 @@ use Rattle.std.proofs.Common.{◌≡◌, ◌∙◌, ap, subst, sym, refl, ℕ, B
 use Rattle.std.specs.Prelude.{⊤}
 use Rattle.mc_model.specs.Kept.{Kept}
 use Rattle.mc_keep.specs.Plan.{Schedule}
+use Rattle.mc_base.specs.declared.counted.Counted as counted
 use Rattle.mc_keep.specs.declared.fuse.Fuse.{Fuse}
+use Rattle.mc_keep.specs.declared.keeper.Keeper as keeper
 use Rattle.mc_keep.specs.Causes.{is_fault_kind}
 use Rattle.mc_keep.specs.Frame.{ReadsAt, GoesAt}
 use Rattle.mc_keep.specs.Plan.{is_fault as keeper_failed}
@@ -11,54 +13,50 @@ use Rattle.mc_keep.specs.declared.error.KeepError.{KeepError}
 use Rattle.mc_keep.specs.declared.error.KeepError.TheVariants.{Failed, Memory}
 use Rattle.mc_keep.proofs.Frames.{goes_itself, goes_more, goes_reads, read_itself, read_well}
 use Rattle.mc_core.specs.Refusals.{OfKeeper, kind_of, stops}
-use Rattle.mc_core.specs.Reports.{IsCounted}
 use Rattle.mc_core.specs.declared.error.CoreError.{CoreError}
 use Rattle.mc_core.specs.declared.replica.Replica.{Replica}
 use Rattle.mc_core.specs.Exact.{RestSame}
 use Rattle.mc_core.specs.Words.{ContinuesAt, CommitKeepsAt}
 
 -- the batch and the gaps wanted stay over two calls
-pub rest_more : {K D : Type 0} {old mid new : Replica K D} → RestSame old mid → RestSame mid new → RestSame old new
+pub rest_more : {K D : Type 0} {g : keeper.Ghosts K D} {h : counted.Ghosts K} {i : counted.Ghosts D} {old mid new : Replica K D g h i} → RestSame old mid → RestSame mid new → RestSame old new
 rest_more before next = record { batch_same = next.batch_same ∙ before.batch_same; whole_same = next.whole_same ∙ before.whole_same }
 
-module _ {K D : Type 0} {told : K → Option Kept} {fuse : K → Option Fuse} {own faults : K → ℕ} {quiet : K → Bool} {schedule : K → Option Schedule} where
+module _ {K D : Type 0} {g : keeper.Ghosts K D} {h : counted.Ghosts K} {i : counted.Ghosts D} {told : K → Option Kept} {fuse : K → Option Fuse} {own faults : K → ℕ} {quiet : K → Bool} {schedule : K → Option Schedule} where
   -- the second one is the last
-  pub continues_more : {failed : Bool} {old mid new : Replica K D} → ContinuesAt told fuse own faults quiet schedule false old mid → mid.stopped ≡ false → ContinuesAt told fuse own faults quiet schedule failed mid new → ContinuesAt told fuse own faults quiet schedule failed old new
-  continues_more {failed = failed} before up next = record {
-    counted = λ running n. next.counted running (before.counted up n);
+  pub continues_more : {failed : Bool} {old mid new : Replica K D g h i} → ContinuesAt told fuse own faults quiet schedule false old mid → ContinuesAt told fuse own faults quiet schedule failed mid new → ContinuesAt told fuse own faults quiet schedule failed old new
+  continues_more {failed = failed} before next = record {
     keeper_goes = goes_more before.keeper_goes next.keeper_goes;
     stops = next.stops ∙ ap (λ b. failed || b) before.stops;
   }
 
-  pub commit_more : {failed : Bool} {old mid new : Replica K D} → CommitKeepsAt told fuse own faults quiet schedule false old mid → mid.stopped ≡ false → CommitKeepsAt told fuse own faults quiet schedule failed mid new → CommitKeepsAt told fuse own faults quiet schedule failed old new
-  commit_more before up next = record { rest_same = rest_more before.rest_same next.rest_same; continues = continues_more before.continues up next.continues }
+  pub commit_more : {failed : Bool} {old mid new : Replica K D g h i} → CommitKeepsAt told fuse own faults quiet schedule false old mid → CommitKeepsAt told fuse own faults quiet schedule failed mid new → CommitKeepsAt told fuse own faults quiet schedule failed old new
+  commit_more before next = record { rest_same = rest_more before.rest_same next.rest_same; continues = continues_more before.continues next.continues }
 
   -- where only reads have come to the keeper
-  pub looks_on : {spare : K → ℕ} {failed : Bool} {old new : Replica K D} → ReadsAt told fuse spare own faults quiet schedule failed old.keeper new.keeper → new.numbers ≡ old.numbers → new.stopped ≡ (failed || old.stopped)
+  pub looks_on : {spare : K → ℕ} {failed : Bool} {old new : Replica K D g h i} → ReadsAt told fuse spare own faults quiet schedule failed old.keeper new.keeper → new.stopped ≡ (failed || old.stopped)
       → ContinuesAt told fuse own faults quiet schedule failed old new
-  looks_on {old = old} {new = new} reads same stops = record {
-    counted = λ running n. subst (IsCounted (told new.keeper)) (sym same) (subst (λ t. IsCounted t old.numbers) (sym reads.told_same) n);
+  looks_on reads stops = record {
     keeper_goes = goes_reads reads;
     stops = stops;
   }
 
   -- where nothing has come to it
-  pub still_on : {failed : Bool} {old new : Replica K D} → new.keeper ≡ old.keeper → new.numbers ≡ old.numbers → new.stopped ≡ old.stopped → failed ≡ false → ContinuesAt told fuse own faults quiet schedule failed old new
-  still_on {failed = true} keeper same stops well = absurd (let f : false ≡ true = sym well in cc)
-  still_on {failed = false} {old = old} {new = new} keeper same stops well = record {
-    counted = λ running n. subst (IsCounted (told new.keeper)) (sym same) (subst (λ k. IsCounted (told k) old.numbers) (sym keeper) n);
-    keeper_goes = subst (GoesAt told fuse own faults quiet schedule false old.keeper) (sym keeper) (goes_itself old.keeper);
+  pub still_on : {failed : Bool} {old new : Replica K D g h i} → new.keeper ≡ old.keeper → new.stopped ≡ old.stopped → failed ≡ false → ContinuesAt told fuse own faults quiet schedule failed old new
+  still_on {failed = true} keeper_same stops well = absurd (let f : false ≡ true = sym well in cc)
+  still_on {failed = false} {old = old} keeper_same stops well = record {
+    keeper_goes = subst (GoesAt told fuse own faults quiet schedule false old.keeper) (sym keeper_same) (goes_itself old.keeper);
     stops = stops;
   }
 
   -- commits after reads, or after nothing
 
-  pub looks_first : {spare : K → ℕ} {old new : Replica K D} → ReadsAt told fuse spare own faults quiet schedule false old.keeper new.keeper → new.numbers ≡ old.numbers → new.stopped ≡ old.stopped → RestSame old new
+  pub looks_first : {spare : K → ℕ} {old new : Replica K D g h i} → ReadsAt told fuse spare own faults quiet schedule false old.keeper new.keeper → new.stopped ≡ old.stopped → RestSame old new
       → CommitKeepsAt told fuse own faults quiet schedule false old new
-  looks_first reads same stops rest = record { rest_same = rest; continues = looks_on reads same stops }
+  looks_first reads stops rest = record { rest_same = rest; continues = looks_on reads stops }
 
-  pub commit_itself : (now : Replica K D) → CommitKeepsAt told fuse own faults quiet schedule false now now
-  commit_itself now = record { rest_same = record { batch_same = refl; whole_same = refl }; continues = still_on refl refl refl refl }
+  pub commit_itself : (now : Replica K D g h i) → CommitKeepsAt told fuse own faults quiet schedule false now now
+  commit_itself now = record { rest_same = record { batch_same = refl; whole_same = refl }; continues = still_on refl refl refl }
 
 -- a keeper's error is a fault exactly where the replica's is
 pub same_fault : (keep : KeepError) (error : CoreError) → OfKeeper keep error → keeper_failed {T = ⊤} (Err keep) ≡ is_fault_kind (kind_of error)

@@ -11,7 +11,6 @@ pub mod Keeps
 pub mod KindFacts
 pub mod KnownFacts
 pub mod MadeFacts
-pub mod NumberFacts
 pub mod OpenFacts
 pub mod PartFacts
 pub mod PlanFacts

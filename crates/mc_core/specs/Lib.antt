@@ -1,5 +1,6 @@
 pub mod Batches
 pub mod Calls
+pub mod Counted
 pub mod Deletes
 pub mod Events
 pub mod Exact

@@ -5,7 +5,9 @@ use Rattle.mc_model.specs.Kept.{Kept}
 use Rattle.mc_model.specs.Events.{opened}
 use Rattle.mc_model.specs.State.{OpenBatch, Running, durable_of}
 use Rattle.mc_model.specs.Wanted.{no_queue}
+use Rattle.mc_base.specs.declared.counted.Counted as counted
 use Rattle.mc_keep.specs.declared.fuse.Fuse.{Fuse}
+use Rattle.mc_keep.specs.declared.keeper.Keeper as keeper
 use Rattle.mc_core.specs.declared.replica.Replica.{Replica}
 use Rattle.mc_core.specs.Events.{ReplicaState, state_of}
 
@@ -18,7 +20,8 @@ run_of true batch whole = None
 run_of false batch whole = Some (running_with batch whole)
 
 -- a replica, where its keeper tells
-abbrev pub replica_state : {K Desk : Type 0} → (K → Option Kept) → (K → Option Fuse) → Replica K Desk → Option ReplicaState
+abbrev pub replica_state : {K D : Type 0} {g : keeper.Ghosts K D} {h : counted.Ghosts K} {i : counted.Ghosts D} → (K → Option Kept) → (K → Option Fuse)
+    → Replica K D g h i → Option ReplicaState
 replica_state told fuse replica = state_of (told replica.keeper) (fuse replica.keeper) (run_of replica.stopped replica.batch replica.whole)
 
 -- a replica that was opened over what a keeper tells

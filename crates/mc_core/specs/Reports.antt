@@ -1,26 +1,10 @@
 -- The numbers that a replica keeps beside its keeper, and its report.
-use Rattle.std.specs.Prelude.{◌≡◌, ℕ, ◌+◌, ◌-◌, ◌^◌, min, Bool, false, length, unwrap_or, Option, IfSome}
+use Rattle.std.specs.Prelude.{◌≡◌, ◌+◌, Bool, length, unwrap_or}
 use Rattle.mc_model.specs.Kept.{Kept}
 use Rattle.mc_keep.specs.declared.changes.Changes.{Changes}
 use Rattle.mc_core.specs.declared.report.Numbers.{Numbers}
 use Rattle.mc_core.specs.declared.report.Report.{Report}
-
--- a number that may pass 64 bits
-abbrev pub capped : ℕ → ℕ
-capped n = min n (2 ^ 64 - 1)
-
--- they are those of what is told
-pub record IsCount (kept : Kept) (numbers : Numbers) : Type 0 where
-  pub processed : numbers.processed ≡ capped (length kept.order)
-  pub stored : numbers.stored ≡ capped (length kept.graph)
-  pub mark : numbers.mark ≡ kept.mark
-
-abbrev pub IsCounted : Option Kept → Numbers → Type 0
-IsCounted told numbers = IfSome told (λ kept. IsCount kept numbers)
-
--- what is counted stays so where the replica has not stopped
-abbrev pub StaysCounted : Bool → Option Kept → Numbers → Option Kept → Numbers → Type 0
-StaysCounted stopped told numbers told_new numbers_new = stopped ≡ false → IsCounted told numbers → IsCounted told_new numbers_new
+use Rattle.mc_core.specs.Counted.{capped}
 
 -- the numbers after these changes
 pub record IsAfter (numbers : Numbers) (changes : Changes) (new : Numbers) : Type 0 where

@@ -1,8 +1,6 @@
 // One replica.
 ghost use Rattle.std.specs.Prelude.{◌≡◌, true, false, None, IfOk, IfErr};
-ghost use Rattle.mc_keep.specs.Calls.{Reads};
-ghost use Rattle.mc_core.specs.Reports.{IsCounted};
-ghost use Rattle.mc_core.specs.Replica.{replica_state, opened_state};
+ghost use Rattle.mc_core.specs.Counted.{is_counted};
 
 use crate::report::{Numbers, numbers_of};
 use mc_base::Failed;
@@ -11,7 +9,7 @@ use mc_write::Batch;
 
 /// One replica over its keeper: the stored blocks, the order of the processed ones and the dirty mark are the keeper's;
 /// what is lost at a stop is the replica's. What it does is a list of events of the replica; where the keeper fails,
-/// these are cut short, and the replica has stopped.
+/// these are cut short, and the replica has stopped. Where it has not, its numbers are those of what its keeper tells.
 #[derive(Drop)]
 pub struct Replica<K: Keeper> {
     pub(crate) keeper: K,
@@ -19,6 +17,7 @@ pub struct Replica<K: Keeper> {
     pub(crate) batch: Option<Batch>,
     pub(crate) whole: bool,
     pub(crate) stopped: bool,
+    pub ghost counted: { is_counted stopped (K.told keeper) numbers ≡ true },
 }
 
 /// Why a replica was not opened.
@@ -40,12 +39,16 @@ pub struct OpenError<K: Keeper> {
 }
 
 impl<K: Keeper> Replica<K> {
+    ghost use Rattle.std.specs.Prelude.{IfSome};
+    ghost use Rattle.mc_keep.specs.Calls.{Reads};
+    ghost use Rattle.mc_model.specs.Kept.{IsKept};
+    ghost use Rattle.mc_core.specs.Replica.{replica_state, opened_state};
+
     /// Opens the replica of a keeper: nothing is wanted, and every gap counts as wanted exactly where the dirty mark is
     /// clear. Takes no memory.
     pub fn open(keeper: K) -> Result<Replica<K>, OpenError<K>>
         ensures opened { IfOk result (λ replica.
             replica_state K.told K.fuse replica ≡ opened_state (K.told keeper) (K.fuse keeper)) }
-        ensures counted { IfOk result (λ replica. IsCounted (K.told replica.keeper) replica.numbers) }
         ensures reads { IfOk result (λ replica. Reads K.Keeper false keeper replica.keeper) }
         ensures runs { IfOk result (λ replica. (replica.stopped ≡ false) × (replica.batch ≡ None)) }
         ensures refused { IfErr result (λ error.
@@ -66,6 +69,12 @@ impl<K: Keeper> Replica<K> {
             }),
         }
     }
+
+    /// What a replica's keeper tells is sound: no block is stored or processed twice, each stored block is good, and each
+    /// processed block is stored. A caller has this of every replica, also of one that a lock hands back. Does nothing.
+    pub fn is_sound(&self)
+        ensures { IfSome (K.told self.now.keeper) IsKept }
+    {}
 
     /// The keeper.
     pub fn keeper(&self) -> &K

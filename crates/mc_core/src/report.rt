@@ -1,7 +1,7 @@
 // The numbers of a replica, without a look at its keeper.
 ghost use Rattle.std.specs.Prelude.{◌≡◌, IfOk, IfErr, IfSome, true};
 ghost use Rattle.mc_core.specs.declared.error.CoreError.{CoreError as Refused};
-ghost use Rattle.mc_core.specs.Reports.{IsAfter, IsCounted, IsReport};
+ghost use Rattle.mc_core.specs.Reports.{IsAfter, IsReport};
 
 use crate::{CoreError, Replica};
 use mc_keep::{Changes, Keeper, Summary};
@@ -28,11 +28,10 @@ pub struct Report {
 }
 
 impl<K: Keeper> Replica<K> {
-    /// The numbers of the replica. Takes no memory and doesn't look at the keeper. They are right where the replica is
-    /// counted, which an opening makes and every call keeps. Refusals: `Stopped`, and exactly where an earlier call
-    /// answered `KeeperFault`.
+    /// The numbers of what the replica's keeper tells. Takes no memory and doesn't look at the keeper. Refusals:
+    /// `Stopped`, and exactly where an earlier call answered `KeeperFault`.
     pub fn report(&self) -> Result<Report, CoreError>
-        ensures report { IfOk result (λ report. IsCounted (K.told self.now.keeper) self.now.numbers →
+        ensures report { IfOk result (λ report.
             IfSome (K.told self.now.keeper) (λ kept. IsReport kept self.now.whole report)) }
         ensures refused { IfErr result (λ error. (error ≡ Refused.Stopped) × (self.now.stopped ≡ true)) }
         ensures stopped { self.now.stopped ≡ true → IfOk result (λ report. ⊥) }

@@ -3,10 +3,10 @@ use Rattle.mc_core.proofs.Keeps.{still_on}
 use Rattle.mc_core.proofs.replica.Replica.batch_begin.Goals as goal
 
 pub returns-then-self-clause-keeps : goal.returns-then-self-clause-keeps
-returns-then-self-clause-keeps g c = still_on refl refl refl refl
+returns-then-self-clause-keeps g c = still_on refl refl refl
 
 pub returns-then-is_some-clause-keeps : goal.returns-then-is_some-clause-keeps
-returns-then-is_some-clause-keeps g c = still_on refl refl refl refl
+returns-then-is_some-clause-keeps g c = still_on refl refl refl
 
 pub returns-clause-keeps : goal.returns-clause-keeps
-returns-clause-keeps g c = still_on refl refl refl refl
+returns-clause-keeps g c = still_on refl refl refl

@@ -34,13 +34,13 @@ returns-in-Ok-clause-made g c =
     c.take_up_batch.ensures.part
 
 pub returns-then-self-clause-keeps : goal.returns-then-self-clause-keeps
-returns-then-self-clause-keeps g c = still_on refl refl refl refl
+returns-then-self-clause-keeps g c = still_on refl refl refl
 
 pub returns-in_default-clause-keeps : goal.returns-in_default-clause-keeps
-returns-in_default-clause-keeps g c = still_on refl refl refl refl
+returns-in_default-clause-keeps g c = still_on refl refl refl
 
 pub returns-then-is_empty-clause-keeps : goal.returns-then-is_empty-clause-keeps
-returns-then-is_empty-clause-keeps g c = still_on refl refl refl refl
+returns-then-is_empty-clause-keeps g c = still_on refl refl refl
 
 pub returns-in-Ok-clause-keeps : goal.returns-in-Ok-clause-keeps
-returns-in-Ok-clause-keeps g c = continues_more (looks_on c.in-Ok.ensures.reads refl refl) c.if-self.false c.take_up_batch.ensures.keeps
+returns-in-Ok-clause-keeps g c = continues_more (looks_on c.in-Ok.ensures.reads refl) c.take_up_batch.ensures.keeps

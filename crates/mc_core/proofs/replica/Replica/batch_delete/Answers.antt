@@ -19,12 +19,12 @@ returns-in-Err-clause-call g c =
     (keeper_rose _ _ _ c.from-error.ensures c.in-Err.ensures.reads.own_goes.rose) (delete_due _ (g.K.Keeper.fuse c.args.self.now.keeper) c.args.self.now.batch c.args.self.now.whole c.args.key.now _ _ c.from-error.ensures)
 
 pub returns-then-self-clause-keeps : goal.returns-then-self-clause-keeps
-returns-then-self-clause-keeps g c = still_on refl refl refl refl
+returns-then-self-clause-keeps g c = still_on refl refl refl
 
 pub returns-in_default-clause-keeps : goal.returns-in_default-clause-keeps
-returns-in_default-clause-keeps g c = still_on refl refl refl refl
+returns-in_default-clause-keeps g c = still_on refl refl refl
 
 pub returns-in_err-key-clause-keeps : goal.returns-in_err-key-clause-keeps
 returns-in_err-key-clause-keeps g c =
     let p = err_from_is_err_and c.from_residual.result c.from_residual.ensures.1 in
-    rw (p.1, p.2) (still_on refl refl refl c.in_err-key.ensures.no_fault)
+    rw (p.1, p.2) (still_on refl refl c.in_err-key.ensures.no_fault)

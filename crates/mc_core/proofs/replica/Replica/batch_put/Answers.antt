@@ -14,23 +14,23 @@ returns-in-Ok-clause-call g c =
     (rw (c.in_ok-name.ensures.key) at c.in-Ok.ensures.ok))
 
 pub returns-then-self-clause-keeps : goal.returns-then-self-clause-keeps
-returns-then-self-clause-keeps g c = still_on refl refl refl refl
+returns-then-self-clause-keeps g c = still_on refl refl refl
 
 pub returns-in_default-clause-keeps : goal.returns-in_default-clause-keeps
-returns-in_default-clause-keeps g c = still_on refl refl refl refl
+returns-in_default-clause-keeps g c = still_on refl refl refl
 
 pub returns-in_err-name-clause-keeps : goal.returns-in_err-name-clause-keeps
 returns-in_err-name-clause-keeps g c =
     let p = err_from_is_err_and c.from_residual.result c.from_residual.ensures.1 in
-    rw (p.1, p.2) (still_on refl refl refl c.in_err-name.ensures.no_fault)
+    rw (p.1, p.2) (still_on refl refl c.in_err-name.ensures.no_fault)
 
 pub returns-in_err-check_value-clause-keeps : goal.returns-in_err-check_value-clause-keeps
 returns-in_err-check_value-clause-keeps g c =
     let p = err_from_is_err_and c.from_residual-in_err-check_value.result c.from_residual-in_err-check_value.ensures.1 in
-    rw (p.1, p.2) (still_on refl refl refl c.in_err-check_value.ensures.no_fault)
+    rw (p.1, p.2) (still_on refl refl c.in_err-check_value.ensures.no_fault)
 
 pub returns-in-Ok-clause-keeps : goal.returns-in-Ok-clause-keeps
-returns-in-Ok-clause-keeps g c = still_on refl refl refl refl
+returns-in-Ok-clause-keeps g c = still_on refl refl refl
 
 pub returns-in-Err-clause-keeps : goal.returns-in-Err-clause-keeps
-returns-in-Err-clause-keeps g c = still_on refl refl refl refl
+returns-in-Err-clause-keeps g c = still_on refl refl refl

@@ -13,4 +13,4 @@ pub returns-in-Err-clause-part : goal.returns-in-Err-clause-part
 returns-in-Err-clause-part g c = part_more _ _ (Store (vertices c.args.store.store) ∷ []) (Process c.args.process.marks ∷ []) _ _ _ (omega arith) c.in-Err.ensures.part
 
 pub returns-in-Ok-clause-keeps : goal.returns-in-Ok-clause-keeps
-returns-in-Ok-clause-keeps g c = commit_more c.in-Ok.ensures.keeps c.in-Ok.ensures.up c.commit_process.ensures.keeps
+returns-in-Ok-clause-keeps g c = commit_more c.in-Ok.ensures.keeps c.commit_process.ensures.keeps

@@ -35,7 +35,7 @@ pub returns-in-Err-clause-made : goal.returns-in-Err-clause-made
 returns-in-Err-clause-made g c = none_deleted _ _ _ _ _ _ c.args.key.now _ c.in-Err.ensures.reads.told_same
 
 pub returns-then-self-clause-keeps : goal.returns-then-self-clause-keeps
-returns-then-self-clause-keeps g c = still_on refl refl refl refl
+returns-then-self-clause-keeps g c = still_on refl refl refl
 
 pub returns-in-Ok-clause-keeps : goal.returns-in-Ok-clause-keeps
-returns-in-Ok-clause-keeps g c = continues_more (looks_on c.in-Ok.ensures.reads refl refl) c.if-self.false c.take_up_all.ensures.keeps.continues
+returns-in-Ok-clause-keeps g c = continues_more (looks_on c.in-Ok.ensures.reads refl) c.take_up_all.ensures.keeps.continues

@@ -3,4 +3,4 @@ use Rattle.mc_core.proofs.Keeps.{still_on}
 use Rattle.mc_core.proofs.replica.Replica.has.Goals as goal
 
 pub returns-then-self-clause-keeps : goal.returns-then-self-clause-keeps
-returns-then-self-clause-keeps g c = still_on refl refl refl refl
+returns-then-self-clause-keeps g c = still_on refl refl refl

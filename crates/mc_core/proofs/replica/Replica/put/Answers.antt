@@ -24,7 +24,7 @@ returns-in-Ok-clause-made g c =
     (λ kept. delta_of_put kept c.args.key.now c.args.value.now) _ _ _ _ _ _ _ _ _ _ _ c.if-self.false c.in-Ok.ensures.reads.told_same c.in-Ok.ensures.reads.fuse_same c.is_sound.ensures c.in-Ok.ensures.planned c.take_up.ensures.part
 
 pub returns-then-self-clause-keeps : goal.returns-then-self-clause-keeps
-returns-then-self-clause-keeps g c = still_on refl refl refl refl
+returns-then-self-clause-keeps g c = still_on refl refl refl
 
 pub returns-in-Ok-clause-keeps : goal.returns-in-Ok-clause-keeps
-returns-in-Ok-clause-keeps g c = continues_more (looks_on c.in-Ok.ensures.reads refl refl) c.if-self.false c.take_up.ensures.keeps.continues
+returns-in-Ok-clause-keeps g c = continues_more (looks_on c.in-Ok.ensures.reads refl) c.take_up.ensures.keeps.continues

@@ -29,7 +29,7 @@ pub loop-made-preserved : goal.loop-made-preserved
 loop-made-preserved g c = record {
   taken = taken_goes_on c.kept_is_durable.ensures.back _ _ _ _ _ _ _ _ c.in-Some.made c.requires.up c.loop-made.invariant.taken c.in-Ok.ensures.takes;
   up = c.in-Ok.ensures.up;
-  keeps = commit_more c.loop-made.invariant.keeps c.loop-made.invariant.up c.in-Ok.ensures.keeps;
+  keeps = commit_more c.loop-made.invariant.keeps c.in-Ok.ensures.keeps;
 }
 
 pub returns-in-Err-clause-takes : goal.returns-in-Err-clause-takes
@@ -41,4 +41,4 @@ returns-in-Err-clause-takes g c =
     taken_ends c.kept_is_durable.ensures.back _ _ _ _ _ _ _ _ c.in-Some.made rest.0 c.args.blocks _ _ _ c.in-Err.error c.requires.up c.loop-made.invariant.keeps.continues.keeper_goes.own_later (sym c.into_vec-made-items.ensures ∙ rest.1) c.loop-made.invariant.taken c.in-Err.ensures.takes
 
 pub returns-in-Err-clause-keeps : goal.returns-in-Err-clause-keeps
-returns-in-Err-clause-keeps g c = commit_more c.loop-made.invariant.keeps c.loop-made.invariant.up c.in-Err.ensures.keeps
+returns-in-Err-clause-keeps g c = commit_more c.loop-made.invariant.keeps c.in-Err.ensures.keeps
