@@ -1,10 +1,8 @@
 -- Blocks that differ are new to an empty keeper.
-use Rattle.std.proofs.Common.{◌≡◌, true, false, not, List, [], ◌∷◌, ◌&&◌, sym, refl, ap, ◌∙◌, subst}
-use Rattle.std.specs.List.{list_any}
-use Rattle.mc_base.specs.declared.cid.Cid.{Cid}
+use Rattle.std.proofs.Common.{◌≡◌, true, not, List, [], ◌∷◌, ◌&&◌, sym, refl, ap, ◌∙◌, subst}
 use Rattle.mc_model.specs.declared.block.Block.{Block}
 use Rattle.mc_model.specs.Ascending.{is_once}
-use Rattle.mc_model.specs.Front.{same_cid, is_among, is_processed}
+use Rattle.mc_model.specs.Front.{same_cid, is_processed}
 use Rattle.mc_model.specs.Kept.{Kept, nothing_kept}
 use Rattle.mc_model.proofs.Members.{none_passes}
 use Rattle.mc_keep.specs.New.{AreNew}
