@@ -11,9 +11,11 @@ use Rattle.mc_app.specs.Runs.{Answer, LineStep, IsWithin, fault_of, owns_none, t
 
 -- this was read of a line, it was done and answered, and the answer was written; the keeper's count rose from one
 -- number to another; where all was calm, the record names no keeper that failed by itself, and the answer is no fault;
--- it is the refusal that the replica decides alone where one was due; and the replica has stopped where it had or failed
+-- it is the refusal that the replica decides alone where one was due; and the replica has stopped where it had or
+-- failed
 pub record Executes (calm : Type 0) (old : Option (List ReplicaState)) (faults : ℕ) (stop : Bool)
-    (read : Option (Option Command)) (new : Option (List ReplicaState)) (faults_now : ℕ) (stop_now : Bool) (before after : Option (List ℕ)) : Type 0 where
+    (read : Option (Option Command)) (new : Option (List ReplicaState)) (faults_now : ℕ) (stop_now : Bool)
+    (before after : Option (List ℕ)) : Type 0 where
   pub answer : Option Answer
   pub step : LineStep old read new answer
   pub counted : IsWithin faults faults_now (fault_of answer)
@@ -24,7 +26,8 @@ pub record Executes (calm : Type 0) (old : Option (List ReplicaState)) (faults :
 
 -- and some first bytes of the answer were written
 pub record ExecutesPart (calm : Type 0) (old : Option (List ReplicaState)) (faults : ℕ) (stop : Bool)
-    (read : Option (Option Command)) (new : Option (List ReplicaState)) (faults_now : ℕ) (stop_now : Bool) (before after : Option (List ℕ)) : Type 0 where
+    (read : Option (Option Command)) (new : Option (List ReplicaState)) (faults_now : ℕ) (stop_now : Bool)
+    (before after : Option (List ℕ)) : Type 0 where
   pub answer : Option Answer
   pub step : LineStep old read new answer
   pub counted : IsWithin faults faults_now (fault_of answer)

@@ -56,8 +56,8 @@ abbrev pub stops_after_all : List (Option Answer) → Bool → Bool
 stops_after_all [] stop = stop
 stops_after_all (answer ∷ answers) stop = stops_after_all answers (stops_after answer stop)
 
--- the same of the answers to some lines: `stopped` exactly behind a fault, and a refusal of the key or of the value only
--- where the words of the line give it
+-- the same of the answers to some lines: `stopped` exactly behind a fault, and a refusal of the key or of the value
+-- only where the words of the line give it
 abbrev pub HaveFronts : Bool → List (List ℕ) → List (Option Answer) → Type 0
 HaveFronts stop [] [] = ⊤
 HaveFronts stop (line ∷ lines) (answer ∷ answers) =

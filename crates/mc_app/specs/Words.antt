@@ -22,8 +22,8 @@ use Rattle.mc_app.specs.Step.{Leaves, ReplicaDoes, ReplicaStep, ShortStep, Step,
 use Rattle.mc_app.specs.Worlds.{world_state}
 
 -- What every call leaves of a world: whether its keeper tells, and the desks; counts don't fall, what is quiet stays
--- so, and where the answer is `fault keeper`, the keeper's count rose. A keeper without a fuse gets none, and where it is
--- quiet it has not failed.
+-- so, and where the answer is `fault keeper`, the keeper's count rose. A keeper without a fuse gets none, and where it
+-- is quiet it has not failed.
 pub record WorldKeepsAt {K D : Type 0} {g : keeper.Ghosts K D} {h : counted.Ghosts K} {i : counted.Ghosts D}
     (told : K → Option Kept) (fuse : K → Option Fuse) (own faults : K → ℕ) (quiet : K → Bool)
     (failed : Bool) (old new : World K D g h i) : Type 0 where
@@ -84,29 +84,30 @@ module _ {K D : Type 0} {g : keeper.Ghosts K D} {h : counted.Ghosts K} {i : coun
 
   -- the same of a reply that is not yet written
   abbrev pub AnswersIn : Command → World K D g h i → World K D g h i → Reply → Type 0
-  AnswersIn command old new = IsAnswered (Calm old) (told_of old) (k.faults old.replica.keeper) old.replica.stopped command
-      (told_of new) (k.faults new.replica.keeper) new.replica.stopped
+  AnswersIn command old new = IsAnswered (Calm old) (told_of old) (k.faults old.replica.keeper) old.replica.stopped
+      command (told_of new) (k.faults new.replica.keeper) new.replica.stopped
 
   -- and of a line whose reply is written, or some first bytes of it
-  abbrev pub ExecutesIn : Option (Option Command) → World K D g h i → World K D g h i → Option (List ℕ) → Option (List ℕ) → Type 0
-  ExecutesIn read old new = Executes (Calm old) (told_of old) (k.faults old.replica.keeper) old.replica.stopped read
-      (told_of new) (k.faults new.replica.keeper) new.replica.stopped
+  abbrev pub ExecutesIn : Option (Option Command) → World K D g h i → World K D g h i → Option (List ℕ)
+      → Option (List ℕ) → Type 0
+  ExecutesIn read old new = Executes (Calm old) (told_of old) (k.faults old.replica.keeper) old.replica.stopped
+      read (told_of new) (k.faults new.replica.keeper) new.replica.stopped
 
-  abbrev pub ExecutesPartIn : Option (Option Command) → World K D g h i → World K D g h i → Option (List ℕ) → Option (List ℕ)
-      → Type 0
-  ExecutesPartIn read old new = ExecutesPart (Calm old) (told_of old) (k.faults old.replica.keeper) old.replica.stopped read
-      (told_of new) (k.faults new.replica.keeper) new.replica.stopped
+  abbrev pub ExecutesPartIn : Option (Option Command) → World K D g h i → World K D g h i → Option (List ℕ)
+      → Option (List ℕ) → Type 0
+  ExecutesPartIn read old new = ExecutesPart (Calm old) (told_of old) (k.faults old.replica.keeper) old.replica.stopped
+      read (told_of new) (k.faults new.replica.keeper) new.replica.stopped
 
   -- and where memory was wanting
   abbrev pub CutsShortIn : Command → World K D g h i → World K D g h i → Type 0
-  CutsShortIn command old new = CutsShort (Calm old) (told_of old) (k.faults old.replica.keeper) old.replica.stopped command
-      (told_of new) (k.faults new.replica.keeper) new.replica.stopped
+  CutsShortIn command old new = CutsShort (Calm old) (told_of old) (k.faults old.replica.keeper) old.replica.stopped
+      command (told_of new) (k.faults new.replica.keeper) new.replica.stopped
 
   abbrev pub LineShortIn : Option (Option Command) → World K D g h i → World K D g h i → Type 0
-  LineShortIn read old new = LineShort (Calm old) (told_of old) (k.faults old.replica.keeper) old.replica.stopped read
-      (told_of new) (k.faults new.replica.keeper) new.replica.stopped
+  LineShortIn read old new = LineShort (Calm old) (told_of old) (k.faults old.replica.keeper) old.replica.stopped
+      read (told_of new) (k.faults new.replica.keeper) new.replica.stopped
 
 -- The same of a loop over lines, in a proof file.
-abbrev pub HasKeptWorld : {K D : Type 0} {i : counted.Ghosts D} (k : keeper.Ghosts K D) (c : counted.Ghosts K) → World K D k c i
-    → World K D k c i → Type 0
+abbrev pub HasKeptWorld : {K D : Type 0} {i : counted.Ghosts D} (k : keeper.Ghosts K D) (c : counted.Ghosts K)
+    → World K D k c i → World K D k c i → Type 0
 HasKeptWorld k c = WorldKeepsAt k.told k.fuse k.own c.faults k.quiet false

@@ -22,8 +22,8 @@ told_all tell [] = Some []
 told_all tell (x ∷ xs) = both_told (tell x) (told_all tell xs)
 
 -- the replicas of a world, in order of name
-abbrev pub world_state : {K D : Type 0} {g : keeper.Ghosts K D} {h : counted.Ghosts K} {i : counted.Ghosts D} → (K → Option Kept)
-    → (K → Option Fuse) → World K D g h i → Option (List ReplicaState)
+abbrev pub world_state : {K D : Type 0} {g : keeper.Ghosts K D} {h : counted.Ghosts K} {i : counted.Ghosts D}
+    → (K → Option Kept) → (K → Option Fuse) → World K D g h i → Option (List ReplicaState)
 world_state told fuse world = told_all (replica_state told fuse) (world.replica ∷ [])
 
 -- those that are opened over what some keepers tell, with no fuse

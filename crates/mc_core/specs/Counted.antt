@@ -15,7 +15,8 @@ is_mark false mark = not mark
 -- whether they are the numbers of what is kept
 abbrev pub is_count : Kept → Numbers → Bool
 is_count kept numbers =
-    nat_eq numbers.processed (capped (length kept.order)) && (nat_eq numbers.stored (capped (length kept.graph)) && is_mark numbers.mark kept.mark)
+    nat_eq numbers.processed (capped (length kept.order))
+    && (nat_eq numbers.stored (capped (length kept.graph)) && is_mark numbers.mark kept.mark)
 
 -- whether they are those of what is told, where the replica has not stopped
 abbrev pub is_counted : Bool → Option Kept → Numbers → Bool

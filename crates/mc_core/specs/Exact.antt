@@ -6,7 +6,8 @@ use Rattle.mc_base.specs.declared.counted.Counted as counted
 use Rattle.mc_keep.specs.declared.fuse.Fuse.{Fuse}
 use Rattle.mc_keep.specs.declared.keeper.Keeper as keeper
 use Rattle.mc_core.specs.declared.error.CoreError.{CoreError}
-use Rattle.mc_core.specs.declared.error.CoreError.TheVariants.{BadKey, ValueTooLong, BlockTooLarge, PriorityFull, Clash, KeeperFault, Stopped, NoBatch, BatchOpen, Memory}
+use Rattle.mc_core.specs.declared.error.CoreError.TheVariants.{BadKey, ValueTooLong, BlockTooLarge, PriorityFull, Clash}
+use Rattle.mc_core.specs.declared.error.CoreError.TheVariants.{KeeperFault, Stopped, NoBatch, BatchOpen, Memory}
 use Rattle.mc_core.specs.declared.replica.Replica.{Replica}
 use Rattle.mc_core.specs.Refusals.{ByKind, kind_of, key_refusal, value_refusal}
 
@@ -42,12 +43,14 @@ abbrev pub NoMemory : {T : Type 0} → Result T CoreError → Type 0
 NoMemory result = IfErr result (λ error. error ≢ Memory)
 
 -- the batch and the gaps wanted are as before
-pub record RestSame {K D : Type 0} {g : keeper.Ghosts K D} {h : counted.Ghosts K} {i : counted.Ghosts D} (old new : Replica K D g h i) : Type 0 where
+pub record RestSame {K D : Type 0} {g : keeper.Ghosts K D} {h : counted.Ghosts K} {i : counted.Ghosts D}
+    (old new : Replica K D g h i) : Type 0 where
   pub batch_same : new.batch ≡ old.batch
   pub whole_same : new.whole ≡ old.whole
 
 -- what the keeper tells and its fuse are as before
-pub record TellsSameAt {K D : Type 0} {g : keeper.Ghosts K D} {h : counted.Ghosts K} {i : counted.Ghosts D} (told : K → Option Kept) (fuse : K → Option Fuse) (old new : Replica K D g h i) : Type 0 where
+pub record TellsSameAt {K D : Type 0} {g : keeper.Ghosts K D} {h : counted.Ghosts K} {i : counted.Ghosts D}
+    (told : K → Option Kept) (fuse : K → Option Fuse) (old new : Replica K D g h i) : Type 0 where
   pub told_same : told new.keeper ≡ told old.keeper
   pub fuse_same : fuse new.keeper ≡ fuse old.keeper
 

@@ -20,7 +20,8 @@ run_of true batch whole = None
 run_of false batch whole = Some (running_with batch whole)
 
 -- a replica, where its keeper tells
-abbrev pub replica_state : {K D : Type 0} {g : keeper.Ghosts K D} {h : counted.Ghosts K} {i : counted.Ghosts D} → (K → Option Kept) → (K → Option Fuse)
+abbrev pub replica_state : {K D : Type 0} {g : keeper.Ghosts K D} {h : counted.Ghosts K} {i : counted.Ghosts D}
+    → (K → Option Kept) → (K → Option Fuse)
     → Replica K D g h i → Option ReplicaState
 replica_state told fuse replica = state_of (told replica.keeper) (fuse replica.keeper) (run_of replica.stopped replica.batch replica.whole)
 

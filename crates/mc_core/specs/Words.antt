@@ -21,13 +21,15 @@ use Rattle.mc_core.specs.Replica.{replica_state}
 
 -- What every call leaves of a replica: only the last call of its keeper may have failed, and then the replica has
 -- stopped, as one has that had stopped before.
-pub record ContinuesAt {K D : Type 0} {g : keeper.Ghosts K D} {h : counted.Ghosts K} {i : counted.Ghosts D} (told : K → Option Kept) (fuse : K → Option Fuse) (own faults : K → ℕ)
+pub record ContinuesAt {K D : Type 0} {g : keeper.Ghosts K D} {h : counted.Ghosts K} {i : counted.Ghosts D}
+    (told : K → Option Kept) (fuse : K → Option Fuse) (own faults : K → ℕ)
     (quiet : K → Bool) (schedule : K → Option Schedule) (failed : Bool) (old new : Replica K D g h i) : Type 0 where
   pub keeper_goes : GoesAt told fuse own faults quiet schedule failed old.keeper new.keeper
   pub stops : new.stopped ≡ (failed || old.stopped)
 
 -- what commits leave besides: the batch and the gaps wanted are the same
-pub record CommitKeepsAt {K D : Type 0} {g : keeper.Ghosts K D} {h : counted.Ghosts K} {i : counted.Ghosts D} (told : K → Option Kept) (fuse : K → Option Fuse) (own faults : K → ℕ)
+pub record CommitKeepsAt {K D : Type 0} {g : keeper.Ghosts K D} {h : counted.Ghosts K} {i : counted.Ghosts D}
+    (told : K → Option Kept) (fuse : K → Option Fuse) (own faults : K → ℕ)
     (quiet : K → Bool) (schedule : K → Option Schedule) (failed : Bool) (old new : Replica K D g h i) : Type 0 where
   pub rest_same : RestSame old new
   pub continues : ContinuesAt told fuse own faults quiet schedule failed old new
@@ -54,9 +56,11 @@ module _ {K D : Type 0} {g : keeper.Ghosts K D} {h : counted.Ghosts K} {i : coun
       Call (Refusal s) (Plan s) (Short s) rose result s after) old new
 
   -- what a call does that only reads: its answer is this over what is kept
-  abbrev pub Answers : {T : Type 0} → (Kept → T → Type 0) → Result T CoreError → Replica K D g h i → Replica K D g h i → Type 0
+  abbrev pub Answers : {T : Type 0} → (Kept → T → Type 0) → Result T CoreError → Replica K D g h i
+      → Replica K D g h i → Type 0
   Answers P result old new = Acts (λ s. Is (read_refusal s)) (OnlyReads P) Stays result old new
 
 -- The same of a loop over commits, in a proof file.
-abbrev pub HasCommitted : {K D : Type 0} {i : counted.Ghosts D} (k : keeper.Ghosts K D) (c : counted.Ghosts K) → Replica K D k c i → Replica K D k c i → Type 0
+abbrev pub HasCommitted : {K D : Type 0} {i : counted.Ghosts D} (k : keeper.Ghosts K D) (c : counted.Ghosts K)
+    → Replica K D k c i → Replica K D k c i → Type 0
 HasCommitted k c = CommitKeepsAt k.told k.fuse k.own c.faults k.quiet k.schedule false

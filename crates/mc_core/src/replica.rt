@@ -70,8 +70,9 @@ impl<K: Keeper> Replica<K> {
         }
     }
 
-    /// What a replica's keeper tells is sound: no block is stored or processed twice, each stored block is good, and each
-    /// processed block is stored. A caller has this of every replica, also of one that a lock hands back. Does nothing.
+    /// What a replica's keeper tells is sound: no block is stored or processed twice, each stored block is good, and
+    /// each processed block is stored. A caller has this of every replica, also of one that a lock hands back. Does
+    /// nothing.
     pub fn is_sound(&self)
         ensures { IfSome (K.told self.now.keeper) IsKept }
     {}

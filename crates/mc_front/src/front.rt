@@ -1,5 +1,6 @@
 // What the blocks of a group do to the front.
-ghost use Rattle.std.specs.Prelude.{◌≡◌, ◌<◌, ◌+◌, ◌-◌, ◌^◌, ◌++◌, List, IfSome, IfOk, OnOk, OnErr, filter, length, map};
+ghost use Rattle.std.specs.Prelude.{◌≡◌, ◌<◌, ◌+◌, ◌-◌, ◌^◌, ◌++◌, List, filter, length, map};
+ghost use Rattle.std.specs.Prelude.{IfSome, IfOk, OnOk, OnErr};
 ghost use Rattle.mc_model.specs.declared.block.Block.{Block};
 ghost use Rattle.mc_model.specs.Front.{is_among, gaps};
 ghost use Rattle.mc_model.specs.Kept.{processed};

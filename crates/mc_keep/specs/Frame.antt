@@ -9,7 +9,8 @@ use Rattle.mc_keep.specs.Plan.{Schedule, ReadsGo, CallsGo}
 -- After reads alone: what is told and the fuse are the same, and room doesn't shrink. `failed` is whether the last read
 -- failed, `is_fault result` or `is_err result`, and `false` between two reads. Both counts rose exactly where it did;
 -- what is quiet stays so, and has not failed; and no read before the last was planned to fail.
-pub record ReadsAt {S : Type 0} (told : S → Option Kept) (fuse : S → Option Fuse) (spare own faults : S → ℕ) (quiet : S → Bool) (schedule : S → Option Schedule) (failed : Bool) (old new : S) : Type 0 where
+pub record ReadsAt {S : Type 0} (told : S → Option Kept) (fuse : S → Option Fuse) (spare own faults : S → ℕ)
+    (quiet : S → Bool) (schedule : S → Option Schedule) (failed : Bool) (old new : S) : Type 0 where
   pub told_same : told new ≡ told old
   pub fuse_same : fuse new ≡ fuse old
   pub spare_more : spare old ≤ spare new
@@ -20,7 +21,8 @@ pub record ReadsAt {S : Type 0} (told : S → Option Kept) (fuse : S → Option 
   pub planned : ReadsGo (schedule old) (schedule new) failed
 
 -- After a reserve nothing but the room is another.
-pub record ReservesAt {S : Type 0} (told : S → Option Kept) (fuse : S → Option Fuse) (spare own faults : S → ℕ) (quiet : S → Bool) (schedule : S → Option Schedule) (old new : S) : Type 0 where
+pub record ReservesAt {S : Type 0} (told : S → Option Kept) (fuse : S → Option Fuse) (spare own faults : S → ℕ)
+    (quiet : S → Bool) (schedule : S → Option Schedule) (old new : S) : Type 0 where
   pub told_same : told new ≡ told old
   pub fuse_same : fuse new ≡ fuse old
   pub spare_more : spare old ≤ spare new
@@ -31,7 +33,8 @@ pub record ReservesAt {S : Type 0} (told : S → Option Kept) (fuse : S → Opti
 
 -- After a commit of so many rows, apart from what is told. A commit that fails by its fuse alone is none of the own
 -- count, and one that fails over a quiet keeper fails by the fuse.
-pub record CommitsAt {S : Type 0} (told : S → Option Kept) (fuse : S → Option Fuse) (spare own faults : S → ℕ) (quiet : S → Bool) (rows : ℕ) (failed : Bool) (old new : S) : Type 0 where
+pub record CommitsAt {S : Type 0} (told : S → Option Kept) (fuse : S → Option Fuse) (spare own faults : S → ℕ)
+    (quiet : S → Bool) (rows : ℕ) (failed : Bool) (old new : S) : Type 0 where
   pub silent : told old ≡ None → told new ≡ None
   pub fuse_burnt : fuse new ≡ burnt (fuse old)
   pub spare_left : spare old ≤ spare new + rows
@@ -44,7 +47,8 @@ pub record CommitsAt {S : Type 0} (told : S → Option Kept) (fuse : S → Optio
 -- After reads, reserves and commits in turn, of which the last one alone may have failed: what a call that may commit
 -- leaves, apart from what is told and from room. Where no fuse fired, a quiet keeper has not failed, and no call before
 -- the last was planned to fail.
-pub record GoesAt {S : Type 0} (told : S → Option Kept) (fuse : S → Option Fuse) (own faults : S → ℕ) (quiet : S → Bool) (schedule : S → Option Schedule) (failed : Bool) (old new : S) : Type 0 where
+pub record GoesAt {S : Type 0} (told : S → Option Kept) (fuse : S → Option Fuse) (own faults : S → ℕ)
+    (quiet : S → Bool) (schedule : S → Option Schedule) (failed : Bool) (old new : S) : Type 0 where
   pub silent : told old ≡ None → told new ≡ None
   pub no_fuse : fuse old ≡ None → fuse new ≡ None
   pub own_later : own old ≤ own new

@@ -53,7 +53,8 @@ ReadsAsPlanned (Some old) new failed =
 -- of the calls after so many, up to this number, the last one was planned to fail where it did, and no other one was
 pub record AreMade (is_planned_at : ℕ → Bool) (before now : ℕ) (failed : Bool) : Type 0 where
   pub last_is : failed ≡ true → is_planned_at now ≡ true
-  pub others : (number : ℕ) → before < number → number ≤ now → (failed ≡ true → number < now) → is_planned_at number ≡ false
+  pub others : (number : ℕ) → before < number → number ≤ now → (failed ≡ true → number < now)
+      → is_planned_at number ≡ false
 
 -- reads were made, of which the last one alone may have failed; nothing else of the schedule is another
 pub record ReadsGoOn (old : Schedule) (new : Option Schedule) (failed : Bool) : Type 0 where

@@ -49,7 +49,8 @@ pub trait Keepers: Counted {
         ensures fresh { IfOk result (λ keeper.
             (Self.K.faults keeper ≡ 0) × (Self.K.own keeper ≡ 0) × (Self.K.fuse keeper ≡ None)) }
         ensures quiet { quiet self.old plan.now ≡ true → IfOk result (λ keeper. Self.K.quiet keeper ≡ true) }
-        ensures starts_same { (plan : KeeperPlan) (index : ℕ) → starts self.new plan index ≡ starts self.old plan index }
+        ensures starts_same { (plan : KeeperPlan) (index : ℕ) →
+            starts self.new plan index ≡ starts self.old plan index }
         ensures quiet_same { (plan : KeeperPlan) → quiet self.new plan ≡ quiet self.old plan }
         ensures lost { lost self.new ≡ lost self.old }
         ensures planned { MakesAsPlanned Self.K.schedule (schedule self.old) (schedule self.new) index result }
@@ -60,7 +61,8 @@ pub trait Keepers: Counted {
         ensures taken { takes self.old keeper desks self.new }
         ensures lost { lost self.new
             ≡ min (lost self.old + Self.K.faults keeper + sum_by Self.K.Desk.faults desks) (2 ^ 64 - 1) }
-        ensures starts_same { (plan : KeeperPlan) (index : ℕ) → starts self.new plan index ≡ starts self.old plan index }
+        ensures starts_same { (plan : KeeperPlan) (index : ℕ) →
+            starts self.new plan index ≡ starts self.old plan index }
         ensures quiet_same { (plan : KeeperPlan) → quiet self.new plan ≡ quiet self.old plan }
         ensures planned { schedule self.new ≡ schedule self.old }
         ensures count { Self.faults self.new ≡ Self.faults self.old };

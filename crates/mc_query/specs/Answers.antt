@@ -11,7 +11,8 @@ Ascend bound inclusive [] = ⊤
 Ascend bound inclusive (pair ∷ pairs) = (is_past bound inclusive pair.key ≡ true) × Ascend pair.key false pairs
 
 -- at most so many pairs, each of a key that the prefix selects, ascending past the bound
-pub record AreAnswers (bound : List ℕ) (inclusive : Bool) (prefix : List ℕ) (count : ℕ) (pairs : List Pair) : Type 0 where
+pub record AreAnswers (bound : List ℕ) (inclusive : Bool) (prefix : List ℕ) (count : ℕ) (pairs : List Pair)
+    : Type 0 where
   pub few : length pairs ≤ count
   pub under : list_all (λ (pair : Pair). is_under prefix pair.key) pairs ≡ true
   pub ascend : Ascend bound inclusive pairs
