@@ -5,8 +5,8 @@ use Rattle.std.specs.List.{list_all, filter_map, flat_map}
 use Rattle.std.specs.Option.{option_and_then, option_map, option_or}
 use Rattle.std.specs.Str.{is_utf8}
 use Rattle.mc_base.specs.Wire.{Field, Content, Varint, Part, varint_field_bytes, part_field_bytes}
-use Rattle.mc_base.specs.NodeRead.{parts_in}
 use Rattle.mc_base.specs.WireRead.{WireFault, Front, NoKey, NoContent, Whole, Placed, fields_of, fronts_from}
+use Rattle.mc_base.specs.NodeRead.{parts_in}
 use Rattle.mc_model.specs.declared.delta.Delta.{Delta}
 use Rattle.mc_model.specs.declared.delta.Element.{Element}
 use Rattle.mc_model.specs.declared.delta.Tomb.{Tomb}
