@@ -5,17 +5,14 @@ use Rattle.std.specs.List.{list_all, filter_map, flat_map}
 use Rattle.std.specs.Option.{option_and_then, option_map, option_or}
 use Rattle.std.specs.Str.{is_utf8}
 use Rattle.mc_base.specs.Wire.{Field, Content, Varint, Part, varint_field_bytes, part_field_bytes}
+pub use Rattle.mc_base.specs.Wire.{part_of, parts_of}
 use Rattle.mc_base.specs.WireRead.{WireFault, Front, NoKey, NoContent, Whole, Placed, fields_of, fronts_from}
 use Rattle.mc_base.specs.NodeRead.{parts_in}
 use Rattle.mc_model.specs.declared.delta.Delta.{Delta}
 use Rattle.mc_model.specs.declared.delta.Element.{Element}
 use Rattle.mc_model.specs.declared.delta.Tomb.{Tomb}
 
--- what is held with the wire type of bytes, or of a varint
-abbrev pub content_part : Content → Option (List ℕ)
-content_part (Part bytes) = Some bytes
-content_part content = None
-
+-- what is held with the wire type of a varint
 abbrev pub content_varint : Content → Option ℕ
 content_varint (Varint value) = Some value
 content_varint content = None
@@ -24,15 +21,9 @@ abbrev pub is_text : Content → Bool
 is_text (Part bytes) = is_utf8 bytes
 is_text content = true
 
--- what a field of this number holds, where it has the wire type of bytes, or of a varint
-abbrev pub part_of : ℕ → Field → Option (List ℕ)
-part_of number field = if field.number == number then content_part field.content else None
-
+-- what a field of this number holds, where it has the wire type of a varint
 abbrev pub varint_of : ℕ → Field → Option ℕ
 varint_of number field = if field.number == number then content_varint field.content else None
-
-abbrev pub parts_of : ℕ → List Field → List (List ℕ)
-parts_of number fields = filter_map (part_of number) fields
 
 -- the last one, or this where there is none
 abbrev pub last_or : {A : Type 0} → A → List A → A

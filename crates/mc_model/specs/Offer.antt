@@ -1,8 +1,8 @@
 -- Bytes that are offered under a content identifier: the block that they are, or the first damage.
-use Rattle.std.specs.Prelude.{ℕ, ◌+◌, List, [], ◌∷◌, length, drop, nat_le, not, Bool, if◌then◌else◌, Option, Some, None, Result, Ok, Err, unwrap_or}
+use Rattle.std.specs.Prelude.{ℕ, ◌+◌, List, [], ◌∷◌, length, nat_le, not, Bool, if◌then◌else◌, Option, Some, None, Result, Ok, Err, option_map, unwrap_or}
 use Rattle.std.specs.Result.{is_ok, result_ok}
 use Rattle.std.specs.Str.{bytes_eq}
-use Rattle.mc_base.specs.Cid.{is_cid, digest_of}
+use Rattle.mc_base.specs.Cid.{cid_digest, digest_of}
 use Rattle.mc_base.specs.NodeRead.{NodeFault, NodeText, node_of}
 use Rattle.mc_base.specs.declared.cid.Cid.{Cid}
 use Rattle.mc_model.specs.declared.block.Block.{Block}
@@ -23,7 +23,7 @@ pub data Damage : Type 0 where
 
 -- the identifier with these 36 bytes
 abbrev pub cid_of_bytes : List ℕ → Option Cid
-cid_of_bytes bytes = if is_cid bytes then Some (record { 0 = drop 4 bytes }) else None
+cid_of_bytes bytes = option_map (λ digest. record { 0 = digest }) (cid_digest bytes)
 
 -- one identifier, and those of the links after it
 abbrev pub onto_links : ℕ → Option Cid → Result (List Cid) Damage → Result (List Cid) Damage
