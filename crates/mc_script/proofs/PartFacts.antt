@@ -5,18 +5,20 @@ use Rattle.std.specs.Char.{is_ascii_digit, to_ascii_lowercase}
 use Rattle.std.specs.Fmt.{decimal}
 use Rattle.std.specs.List.{AllPass, list_all, repeat}
 use Rattle.std.specs.Result.{result_ok, result_unwrap_or}
-use Rattle.std.specs.Str.{all_ascii_digits, bytes_eq, str_to_ascii_lowercase}
+use Rattle.std.specs.Str.{IsAscii, IsUtf8, all_ascii_digits, bytes_eq, str_to_ascii_lowercase}
 use Rattle.std.specs.Str.Parse.{digits_value}
 use Rattle.std.proofs.lemmas.Bool.{and_parts, cases_lt, eqb-true, le-leb, leb-true, lt-ltb, ltb-true}
 use Rattle.std.proofs.lemmas.Bool.Decides.{eqb_tells, nat_tests}
-use Rattle.std.proofs.lemmas.Fmt.{decimal-digits_value, decimal_is_IsNumeral, length-decimal-le}
+use Rattle.std.proofs.lemmas.Fmt.{IsAscii-decimal, decimal-digits_value, decimal_is_IsNumeral, length-decimal-le}
 use Rattle.std.proofs.lemmas.List.{length-map}
 use Rattle.std.proofs.lemmas.List.Elements.{All-head, All-tail}
 use Rattle.std.proofs.lemmas.Slice.Eq.{bytes_eq-Decides}
+use Rattle.std.proofs.lemmas.Str.{IsUtf8-from_ascii}
+use Rattle.std.proofs.lemmas.Str.Ascii.{IsAscii-cons, IsAscii-nil}
 use Rattle.std.proofs.lemmas.Str.Parse.{IsNumeralModel, numerals_by_value, tells_all_ascii_digits}
 use Rattle.hex.specs.Hex.{IsBytes, decode_of, decode_pairs, digit_or_error, encode_lower, encode_with, hex_digit_value, is_hex_digit, lower_digits, pair_value, value_at, ◌>>=◌}
 use Rattle.hex.specs.declared.error.FromHexError.{FromHexError}
-use Rattle.hex.proofs.HexLemmas.{decode_of-encode_lower, decode_of-even, decode_of-ok, length-encode_with}
+use Rattle.hex.proofs.HexLemmas.{decode_of-encode_lower, decode_of-even, decode_of-ok, IsAscii-encode_with, length-encode_with}
 use Rattle.hex.proofs.Pairs.{cons_byte, decode_pairs-ok_pair}
 use Rattle.mc_script.specs.Grammar.{Part, Replica, Key, Prefix, Value, Number, HasWord, Says, is_whole_word, word_of}
 use Rattle.mc_script.specs.ReplyText.{hex_text}
@@ -64,7 +66,7 @@ hex_whole (byte ∷ word) all =
     rw (one byte first, hex_whole word (All-tail (λ (byte : ℕ). is_hex_digit byte ≡ true) byte word all)) refl
   where
     one : (byte : ℕ) → is_hex_digit byte ≡ true → not (byte == 32) ≡ true
-    one byte digit = elim (cases_lt 32 byte) [ | inl above ↦ grind (arith, nat_tests) | inr below ↦ absurd (grind (arith, nat_tests)) ]
+    one byte digit = elim (cases_lt 32 byte) [ inl above ↦ grind (arith, nat_tests) | inr below ↦ absurd (grind (arith, nat_tests)) ]
 
 -- ---- a number
 
@@ -314,3 +316,22 @@ word_says (Value bytes) has = value_found (hex_text bytes) bytes (written_hex by
 word_says (Number number) has =
     let small : number < 2 ^ 64 = has in
     (small, length-decimal-le 20 number (omega arith) (omega (arith, small)) small, (0, refl))
+
+-- ---- words are UTF-8
+
+pub plain_ascii : (word : List ℕ) → list_all (λ byte. nat_lt byte 128) word ≡ true → IsAscii word
+plain_ascii [] all = IsAscii-nil
+plain_ascii (byte ∷ word) all =
+    let parts = and_parts (nat_lt byte 128) (list_all (λ byte. nat_lt byte 128) word) all in
+    IsAscii-cons byte word (ltb-true byte 128 parts.0) (plain_ascii word parts.1)
+
+pub word_is_utf8 : (part : Part) → HasWord part → IsUtf8 (word_of part)
+word_is_utf8 (Replica r) has = IsUtf8-from_ascii ((97 + r) ∷ []) (IsAscii-cons (97 + r) [] (letter r has) IsAscii-nil)
+  where
+    letter : (r : ℕ) → r < 8 → 97 + r < 128
+    letter r small = omega arith
+word_is_utf8 (Key key) has = has.0
+word_is_utf8 (Prefix prefix) has = has.0
+word_is_utf8 (Value []) has = IsUtf8-from_ascii (codes "-") (plain_ascii (codes "-") refl)
+word_is_utf8 (Value (byte ∷ bytes)) has = IsUtf8-from_ascii (encode_lower (byte ∷ bytes)) (IsAscii-encode_with lower_digits (byte ∷ bytes) (plain_ascii lower_digits refl))
+word_is_utf8 (Number number) has = IsUtf8-from_ascii (decimal number) (IsAscii-decimal number has)
