@@ -34,7 +34,7 @@ no_space_all (byte ∷ word) h =
     is_not false e = refl
 
 -- words without a space are the words of the line that they make
-joined_is_split : (word : List ℕ) (words : List (List ℕ)) → has_no_space word ≡ true → list_all has_no_space words ≡ true → words_of (join_with_byte 32 (word ∷ words)) ≡ word ∷ words
+pub joined_is_split : (word : List ℕ) (words : List (List ℕ)) → has_no_space word ≡ true → list_all has_no_space words ≡ true → words_of (join_with_byte 32 (word ∷ words)) ≡ word ∷ words
 joined_is_split word [] one all = slice_split_none (λ byte. byte == 32) word (no_space_all word one)
 joined_is_split word (next ∷ words) one all =
     let parts = and_parts (has_no_space next) (list_all has_no_space words) all in

@@ -302,17 +302,17 @@ says_whole word (Number number) says =
 
 -- ---- a written word says its part
 
+pub written_hex : (bytes : List ℕ) → IsBytes bytes → bytes_of_hex (hex_text bytes) ≡ Some bytes
+written_hex [] are = refl
+written_hex (byte ∷ bytes) are =
+    let len = length-encode_with lower_digits (byte ∷ bytes) in
+    no_dash (encode_lower (byte ∷ bytes)) (byte ∷ bytes) (bytes_eq (encode_lower (byte ∷ bytes)) (codes "-")) refl (λ e. omega (arith, len, e)) (rw (le-leb 1 (length (encode_lower (byte ∷ bytes))) (omega (arith, len)), decode_of-encode_lower (byte ∷ bytes) are) refl)
+
 pub word_says : (part : Part) → HasWord part → Says (word_of part) part
 word_says (Replica r) has = (has, refl)
 word_says (Key key) has = (refl, has.1)
 word_says (Prefix prefix) has = (refl, has.1)
 word_says (Value bytes) has = value_found (hex_text bytes) bytes (written_hex bytes has)
-  where
-    written_hex : (bytes : List ℕ) → IsBytes bytes → bytes_of_hex (hex_text bytes) ≡ Some bytes
-    written_hex [] are = refl
-    written_hex (byte ∷ bytes) are =
-        let len = length-encode_with lower_digits (byte ∷ bytes) in
-        no_dash (encode_lower (byte ∷ bytes)) (byte ∷ bytes) (bytes_eq (encode_lower (byte ∷ bytes)) (codes "-")) refl (λ e. omega (arith, len, e)) (rw (le-leb 1 (length (encode_lower (byte ∷ bytes))) (omega (arith, len)), decode_of-encode_lower (byte ∷ bytes) are) refl)
 word_says (Number number) has =
     let small : number < 2 ^ 64 = has in
     (small, length-decimal-le 20 number (omega arith) (omega (arith, small)) small, (0, refl))

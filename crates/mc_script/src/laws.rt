@@ -1,8 +1,13 @@
 // What holds of the definitions, whatever is read or written.
-ghost use Rattle.std.specs.Prelude.{◌≡◌, ◌↔◌, ℕ, List, Some};
+ghost use Rattle.std.specs.Prelude.{◌≡◌, ◌++◌, ℕ, List, Some};
 ghost use Rattle.mc_script.specs.Grammar.{IsLineOf, IsWritable, command_text};
 ghost use Rattle.mc_script.specs.Line.{line_of};
+ghost use Rattle.mc_script.specs.Replies.{IsTyped};
+ghost use Rattle.mc_script.specs.ReplyText.{reply_text};
 ghost use Rattle.mc_script.specs.declared.command.Command.{Command};
+ghost use Rattle.mc_script.specs.declared.reply.Reply.{Reply};
+
+use mc_cidtext::read_again;
 
 /// A line is read as a command exactly where it is a line of it: the command's name and its words, as the list of forms
 /// has them (`form`), with one space between two of them. What a line has free is the case of hexadecimal digits, and
@@ -17,3 +22,12 @@ pub fn lines_are_commands()
 pub fn commands_are_read_again()
     ensures { (command : Command) → IsWritable command → line_of (command_text command) ≡ Some (Some command) }
 {}
+
+/// Replies of one text are equal, and so is what follows them: so all that a script wrote tells its replies, one after
+/// the other, where their values are those that their types have.
+pub fn replies_are_told_apart()
+    ensures { (reply other : Reply) (after behind : List ℕ) → IsTyped reply → IsTyped other →
+        reply_text reply ++ after ≡ reply_text other ++ behind → (reply ≡ other) × (after ≡ behind) }
+{
+    read_again();
+}
