@@ -1,17 +1,17 @@
 -- Lines of commands are read as them, and only they are.
 use Rattle.std.proofs.Common.{◌≡◌, ℕ, ◌+◌, ◌<◌, ◌≤◌, ◌==◌, ◌⊎◌, inl, inr, Bool, true, false, ◌&&◌, not, List, [], ◌∷◌, ◌++◌, length, map, Option, Some, None, cond, codes, refl, sym, ap, ◌∙◌, subst, arith}
-use Rattle.std.specs.Prelude.{if◌then◌else◌, nat_lt}
+use Rattle.std.specs.Prelude.{◌↔◌, if◌then◌else◌, nat_lt}
 use Rattle.std.specs.List.{All, AllByRecursion, join_with_byte, list_all, onto_first, slice_split}
 use Rattle.std.specs.Option.{option_map}
 use Rattle.std.specs.Str.{IsUtf8, bytes_eq, is_utf8}
-use Rattle.std.proofs.lemmas.Bool.{and_parts}
+use Rattle.std.proofs.lemmas.Bool.{and_parts, eqb-true}
 use Rattle.std.proofs.lemmas.Bool.Decides.{nat_tests}
 use Rattle.std.proofs.lemmas.List.Elements.{All-cons, All-nil}
 use Rattle.std.proofs.lemmas.List.Splits.{join_with_byte-slice_split, slice_split_at, slice_split_none}
 use Rattle.std.proofs.lemmas.Slice.Eq.{bytes_eq-Decides}
 use Rattle.std.proofs.lemmas.Str.{IsUtf8-append, IsUtf8-from_ascii, IsUtf8-from_is_utf8, is_utf8-from_IsUtf8}
 use Rattle.mc_script.specs.Arguments.{key_words, range_words, replica_words, value_words, ◌>>=◌}
-use Rattle.mc_script.specs.Grammar.{HasWord, IsLineOf, IsWritable, Key, Number, Part, Prefix, Replica, Say, Says, Value, command_text, form, is_whole_word, word_of}
+use Rattle.mc_script.specs.Grammar.{HasWord, IsComment, IsLineOf, IsSilent, IsWritable, Key, Number, Part, Prefix, Replica, Say, Says, Value, command_text, form, is_whole_word, word_of}
 use Rattle.mc_script.specs.Line.{batch_by_name, command_by_name, command_of_words, has_no_reply, line_of, line_of_text, on_key, on_range, on_replica, on_value}
 use Rattle.mc_script.specs.Words.{bytes_of_hex, is_word, number_of, replica_of, words_of}
 use Rattle.mc_script.specs.declared.command.Command.{Command}
@@ -307,6 +307,32 @@ line_is_found command line h = by_test (is_utf8 line) refl h
         let found = words_found (words_of line) command (words_have_no_space line) (text_found line command h) in
         record { words = found.0; text = IsUtf8-from_is_utf8 line is; said = found.2; joined = sym (join_with_byte-slice_split 32 line) ∙ ap (join_with_byte 32) found.1 }
     by_test false is h = cc h
+
+-- ---- a line without a reply
+
+comment_found : (line : List ℕ) → has_no_reply line ≡ true → IsComment line
+comment_found [] h = tt
+comment_found (first ∷ rest) h = eqb-true first 35 h
+
+comment_read : (line : List ℕ) → IsComment line → has_no_reply line ≡ true
+comment_read [] is = refl
+comment_read (first ∷ rest) is = rw is refl
+
+silent_is_found : (line : List ℕ) → line_of line ≡ Some None → IsSilent line
+silent_is_found line h = by_test (is_utf8 line) refl h
+  where
+    no_command : (o : Option Command) → option_map (λ command. Some command) o ≡ Some None → ⊥
+    no_command (Some command) h = cc h
+    no_command None h = cc h
+    by_reply : (test : Bool) → has_no_reply line ≡ test → (if test then Some None else option_map (λ command. Some command) (command_of_words (words_of line))) ≡ Some None → IsComment line
+    by_reply true is h = comment_found line is
+    by_reply false is h = absurd (no_command (command_of_words (words_of line)) h)
+    by_test : (test : Bool) → is_utf8 line ≡ test → (if test then line_of_text line else None) ≡ Some None → IsSilent line
+    by_test true is h = (IsUtf8-from_is_utf8 line is, by_reply (has_no_reply line) refl h)
+    by_test false is h = cc h
+
+pub silent_lines : (line : List ℕ) → line_of line ≡ Some None ↔ IsSilent line
+silent_lines line = (silent_is_found line, λ silent. rw (is_utf8-from_IsUtf8 line silent.0, comment_read line silent.1) refl)
 
 -- ---- written lines
 

@@ -396,3 +396,37 @@ pub told_apart : (reply other : Reply) (after behind : List ℕ) → IsReadAgain
 told_apart reply other after behind again typed also same =
     let both : (reply, after) ≡ (other, behind) = sym (told_reply reply after again typed) ∙ ap told same ∙ told_reply other behind again also in
     (ap (λ (p : Reply × List ℕ). p.0) both, ap (λ (p : Reply × List ℕ). p.1) both)
+
+-- ---- the replies of a text
+
+line_has_bytes : (text rest : List ℕ) → (text ++ 10 ∷ []) ++ rest ≡ [] → ⊥
+line_has_bytes [] rest h = cc h
+line_has_bytes (byte ∷ text) rest h = cc h
+
+has_bytes : (reply : Reply) (rest : List ℕ) → reply_text reply ++ rest ≡ [] → ⊥
+has_bytes Done rest h = cc h
+has_bytes (Priority priority) rest h = cc h
+has_bytes (Deleted blocks) rest h = cc h
+has_bytes (Value (Some bytes)) rest h = line_has_bytes (hex_text bytes) rest h
+has_bytes (Value None) rest h = cc h
+has_bytes (Has true) rest h = cc h
+has_bytes (Has false) rest h = cc h
+has_bytes (Rows rows) rest h = cc h
+has_bytes (Heads heads) rest h = cc h
+has_bytes Stopped rest h = cc h
+has_bytes FaultKeeper rest h = cc h
+has_bytes (RefusedKey number) rest h = cc h
+has_bytes RefusedValue rest h = cc h
+has_bytes (RefusedSize len) rest h = cc h
+has_bytes RefusedPriority rest h = cc h
+has_bytes (RefusedClash cid) rest h = cc h
+has_bytes RefusedBatch rest h = cc h
+
+pub all_told_apart : (replies others : List Reply) → IsReadAgain → AllByRecursion IsTyped replies → AllByRecursion IsTyped others → flat_map reply_text replies ≡ flat_map reply_text others → replies ≡ others
+all_told_apart [] [] again typed also same = refl
+all_told_apart [] (other ∷ others) again typed also same = absurd (has_bytes other (flat_map reply_text others) (sym same))
+all_told_apart (reply ∷ replies) [] again typed also same = absurd (has_bytes reply (flat_map reply_text replies) same)
+all_told_apart (reply ∷ replies) (other ∷ others) again typed also same =
+    let apart = told_apart reply other (flat_map reply_text replies) (flat_map reply_text others) again typed.0 also.0 same in
+    let rest = all_told_apart replies others again typed.1 also.1 apart.1 in
+    λ i. apart.0 i ∷ rest i

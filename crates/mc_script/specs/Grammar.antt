@@ -80,3 +80,11 @@ pub record IsLineOf (command : Command) (line : List ℕ) : Type 0 where
   pub text : IsUtf8 line
   pub said : Say words (form command).1
   pub joined : line ≡ join_with_byte 32 ((form command).0 ∷ words)
+
+-- a line without a reply is UTF-8, and empty or a comment, which begins with `#`
+abbrev pub IsComment : List ℕ → Type 0
+IsComment [] = ⊤
+IsComment (first ∷ rest) = first ≡ 35
+
+abbrev pub IsSilent : List ℕ → Type 0
+IsSilent line = IsUtf8 line × IsComment line
