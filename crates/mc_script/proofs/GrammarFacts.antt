@@ -1,17 +1,16 @@
 -- Lines of commands are read as them, and only they are.
-use Rattle.std.proofs.Common.{◌≡◌, ℕ, ◌+◌, ◌<◌, ◌≤◌, ◌==◌, ◌⊎◌, inl, inr, Bool, true, false, ◌&&◌, not, List, [], ◌∷◌, ◌++◌, length, map, Option, Some, None, cond, codes, refl, sym, ap, ◌∙◌, subst, arith}
+use Rattle.std.proofs.Common.{◌≡◌, ℕ, ◌==◌, ◌⊎◌, inl, inr, Bool, true, false, ◌&&◌, not, List, [], ◌∷◌, map, Option, Some, None, cond, codes, refl, sym, ap, ◌∙◌, subst}
 use Rattle.std.specs.Prelude.{◌↔◌, if◌then◌else◌, nat_lt}
-use Rattle.std.specs.List.{All, AllByRecursion, join_with_byte, list_all, onto_first, slice_split}
+use Rattle.std.specs.List.{All, AllByRecursion, join_with_byte, list_all, onto_first}
 use Rattle.std.specs.Option.{option_map}
 use Rattle.std.specs.Str.{IsUtf8, bytes_eq, is_utf8}
 use Rattle.std.proofs.lemmas.Bool.{and_parts, eqb-true}
-use Rattle.std.proofs.lemmas.Bool.Decides.{nat_tests}
 use Rattle.std.proofs.lemmas.List.Elements.{All-cons, All-nil}
 use Rattle.std.proofs.lemmas.List.Splits.{join_with_byte-slice_split, slice_split_at, slice_split_none}
 use Rattle.std.proofs.lemmas.Slice.Eq.{bytes_eq-Decides}
 use Rattle.std.proofs.lemmas.Str.{IsUtf8-append, IsUtf8-from_ascii, IsUtf8-from_is_utf8, is_utf8-from_IsUtf8}
 use Rattle.mc_script.specs.Arguments.{key_words, range_words, replica_words, value_words, ◌>>=◌}
-use Rattle.mc_script.specs.Grammar.{HasWord, IsComment, IsLineOf, IsSilent, IsWritable, Key, Number, Part, Prefix, Replica, Say, Says, Value, command_text, form, is_whole_word, word_of}
+use Rattle.mc_script.specs.Grammar.{HasWord, IsComment, IsLineOf, IsSilent, IsWritable, Key, Number, Part, Prefix, Replica, Say, Value, command_text, form, is_whole_word, word_of}
 use Rattle.mc_script.specs.Line.{batch_by_name, command_by_name, command_of_words, has_no_reply, line_of, line_of_text, on_key, on_range, on_replica, on_value}
 use Rattle.mc_script.specs.Words.{bytes_of_hex, is_word, number_of, replica_of, words_of}
 use Rattle.mc_script.specs.declared.command.Command.{Command}
@@ -324,9 +323,11 @@ silent_is_found line h = by_test (is_utf8 line) refl h
     no_command : (o : Option Command) → option_map (λ command. Some command) o ≡ Some None → ⊥
     no_command (Some command) h = cc h
     no_command None h = cc h
+
     by_reply : (test : Bool) → has_no_reply line ≡ test → (if test then Some None else option_map (λ command. Some command) (command_of_words (words_of line))) ≡ Some None → IsComment line
     by_reply true is h = comment_found line is
     by_reply false is h = absurd (no_command (command_of_words (words_of line)) h)
+
     by_test : (test : Bool) → is_utf8 line ≡ test → (if test then line_of_text line else None) ≡ Some None → IsSilent line
     by_test true is h = (IsUtf8-from_is_utf8 line is, by_reply (has_no_reply line) refl h)
     by_test false is h = cc h

@@ -1,9 +1,9 @@
 -- The text of a reply tells it.
-use Rattle.std.proofs.Common.{◌≡◌, ℕ, zero, suc, ◌+◌, ◌*◌, ◌/◌, ◌%◌, ◌<◌, ◌≤◌, ◌^◌, ◌==◌, Bool, true, false, ◌&&◌, ◌||◌, not, List, [], ◌∷◌, ◌++◌, length, map, slice_index, Option, Some, None, Result, Ok, Err, inl, inr, codes, refl, sym, ap, ◌∙◌, subst, arith, unwrap_or, append_assoc}
+use Rattle.std.proofs.Common.{◌≡◌, ℕ, zero, suc, ◌+◌, ◌*◌, ◌/◌, ◌%◌, ◌<◌, ◌≤◌, ◌==◌, Bool, true, false, ◌&&◌, not, List, [], ◌∷◌, ◌++◌, length, map, slice_index, Option, Some, None, Result, Ok, Err, inl, inr, codes, refl, sym, ap, ◌∙◌, arith, unwrap_or, append_assoc}
 use Rattle.std.specs.Prelude.{if◌then◌else◌, nat_le, nat_lt}
 use Rattle.std.specs.Char.{is_ascii_digit}
 use Rattle.std.specs.Fmt.{decimal, digit_glyph}
-use Rattle.std.specs.List.{All, AllByRecursion, AllPass, flat_map, list_all}
+use Rattle.std.specs.List.{AllByRecursion, AllPass, flat_map, list_all}
 use Rattle.std.specs.Str.{all_ascii_digits, bytes_eq}
 use Rattle.std.specs.Str.Parse.{digits_value}
 use Rattle.std.proofs.lemmas.Bool.{and_parts, cases_lt, eqb-true, lt-ltb, ltb-true}
@@ -11,7 +11,7 @@ use Rattle.std.proofs.lemmas.Bool.Decides.{nat_tests}
 use Rattle.std.proofs.lemmas.Fmt.{decimal_is_IsNumeral}
 use Rattle.std.proofs.lemmas.List.Elements.{All-head, All-tail, recursion_from_All}
 use Rattle.std.proofs.lemmas.Str.Parse.{IsNumeralModel, numerals_by_value, tells_all_ascii_digits}
-use Rattle.hex.specs.Hex.{IsBytes, decode_of, decode_pairs, encode_lower, hex_digit_value, is_hex_digit}
+use Rattle.hex.specs.Hex.{IsBytes, decode_pairs, encode_lower, hex_digit_value, is_hex_digit}
 use Rattle.hex.proofs.HexLemmas.{decode_of-encode_lower, decode_of-ok}
 use Rattle.percent_encoding.specs.Percent.{percent_encode_byte}
 use Rattle.mc_base.specs.Base32.{alphabet32, byte_bits, fives}
@@ -78,7 +78,7 @@ graphic_hex_digits (byte ∷ word) all =
     rw (one byte (All-head (λ (byte : ℕ). is_hex_digit byte ≡ true) byte word all), graphic_hex_digits word (All-tail (λ (byte : ℕ). is_hex_digit byte ≡ true) byte word all)) refl
   where
     one : (byte : ℕ) → is_hex_digit byte ≡ true → nat_lt 32 byte ≡ true
-    one byte digit = elim (cases_lt 32 byte) [ | inl above ↦ lt-ltb 32 byte above | inr below ↦ absurd (grind (arith, nat_tests)) ]
+    one byte digit = elim (cases_lt 32 byte) [ inl above ↦ lt-ltb 32 byte above | inr below ↦ absurd (grind (arith, nat_tests)) ]
 
 graphic_hex : (bytes : List ℕ) → IsBytes bytes → is_graphic (hex_text bytes) ≡ true
 graphic_hex [] are = refl
@@ -239,7 +239,7 @@ cid_is_read again cid is = ap (λ (digest : List ℕ). record { 0 = digest }) (a
 pair_is_cut : (first second rest : List ℕ) → is_graphic first ≡ true → cut 32 (pair_line first second ++ rest) ≡ (first, second ++ 10 ∷ rest)
 pair_is_cut first second rest graphic =
     let flat : pair_line first second ++ rest ≡ first ++ 32 ∷ (second ++ 10 ∷ rest) =
-        append_assoc (first ++ 32 ∷ second) (10 ∷ []) rest ∙ append_assoc first (32 ∷ second) (10 ∷ rest) in
+    append_assoc (first ++ 32 ∷ second) (10 ∷ []) rest ∙ append_assoc first (32 ∷ second) (10 ∷ rest) in
     ap (cut 32) flat ∙ cut_at 32 first (second ++ 10 ∷ rest) (omega arith) graphic
 
 -- ---- rows and heads

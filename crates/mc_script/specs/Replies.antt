@@ -1,10 +1,10 @@
 -- What the types of a reply say of its values.
-use Rattle.std.specs.Prelude.{◌≡◌, ℕ, ◌<◌, ◌^◌, List, [], ◌∷◌, length, All, Some, None, ⊤}
+use Rattle.std.specs.Prelude.{◌≡◌, ℕ, ◌<◌, ◌^◌, length, All, Some, None, ⊤}
 use Rattle.std.specs.List.{AllByRecursion}
 use Rattle.hex.specs.Hex.{IsBytes}
 use Rattle.mc_base.specs.declared.cid.Cid.{Cid}
 use Rattle.mc_script.specs.declared.reply.Reply.{Reply}
-use Rattle.mc_script.specs.declared.reply.Reply.TheVariants.{Done, Priority, Deleted, Value, Has, Rows, Heads, Stopped, FaultKeeper, RefusedKey, RefusedValue, RefusedSize, RefusedPriority, RefusedClash, RefusedBatch}
+use Rattle.mc_script.specs.declared.reply.Reply.TheVariants.{Priority, Deleted, Value, Rows, Heads, RefusedKey, RefusedSize, RefusedClash}
 
 -- a number of 64 bits
 abbrev pub IsWide : ℕ → Type 0
