@@ -1,4 +1,3 @@
-use Rattle.std.proofs.Common.{length}
 use Rattle.mc_base.proofs.FillFacts.{IsFilling}
 use Rattle.mc_base.proofs.repeating.fill.Given as goal
 
