@@ -1,11 +1,10 @@
 -- The commands, one row for each: its name and the words behind it; and which lines are lines of a command.
-use Rattle.std.specs.Prelude.{◌≡◌, ℕ, ◌+◌, ◌<◌, ◌≤◌, ◌^◌, ◌==◌, ◌&&◌, ◌++◌, not, Bool, true, List, [], ◌∷◌, length, map, codes, ⊤}
+use Rattle.std.specs.Prelude.{◌≡◌, ℕ, ◌+◌, ◌<◌, ◌≤◌, ◌^◌, ◌==◌, ◌&&◌, ◌++◌, not, nat_lt, Bool, true, List, [], ◌∷◌, length, map, codes, ⊤}
 use Rattle.std.specs.Fmt.{decimal}
 use Rattle.std.specs.List.{AllByRecursion, join_with_byte, list_all, repeat}
 use Rattle.std.specs.Str.{IsUtf8, str_to_ascii_lowercase}
 use Rattle.hex.specs.Hex.{IsBytes}
 use Rattle.mc_script.specs.ReplyText.{hex_text}
-use Rattle.mc_script.specs.Words.{is_word}
 use Rattle.mc_script.specs.declared.command.Command.{Command}
 use Rattle.mc_script.specs.declared.command.Command.TheVariants.{Put, Del, Begin, BatchPut, BatchDel, Commit, Get, Has, Query, Heads}
 
@@ -32,7 +31,7 @@ form (Heads r) = (codes "heads", Replica r ∷ [])
 
 -- at least one byte, and no space
 abbrev pub is_whole_word : List ℕ → Bool
-is_whole_word word = is_word word && list_all (λ byte. not (byte == 32)) word
+is_whole_word word = nat_lt 0 (length word) && list_all (λ byte. not (byte == 32)) word
 
 -- the word that is written: the letter of a replica, a key or a prefix as it is, a value in lower-case hexadecimal digits
 -- or as a dash, a number in decimal digits without leading zeros
