@@ -10,10 +10,10 @@ ghost use Rattle.mc_script.specs.declared.reply.Reply.{Reply};
 
 use mc_cidtext::read_again;
 
-/// A line is read as a command exactly where it is a line of it: the command's name and its words, as the list of forms
-/// has them (`form`), with one space between two of them. What a line has free is the case of hexadecimal digits, and
-/// the zeros before a number. A line has no reply exactly where it is UTF-8, and empty or a comment. Every other line is
-/// bad.
+/// A line is read as a command exactly where it is a line of it: the command's name and its words, as the list of
+/// forms has them (`form`), with one space between two of them. What a line has free is the case of hexadecimal digits,
+/// and the zeros before a number. A line has no reply exactly where it is UTF-8, and empty or a comment. Every other
+/// line is bad.
 pub fn lines_are_commands()
     ensures read { (command : Command) (line : List ℕ) → IsLineOf command line → line_of line ≡ Some (Some command) }
     ensures found { (command : Command) (line : List ℕ) → line_of line ≡ Some (Some command) → IsLineOf command line }
@@ -21,13 +21,14 @@ pub fn lines_are_commands()
 {}
 
 /// The one line that is written for a command is read as it, where the command's words can be written: the replica is
-/// one of `a` to `h`, a key and a prefix are UTF-8 of at least one byte and without a space, and a number is below 2^64.
+/// one of `a` to `h`, a key and a prefix are UTF-8 of at least one byte and without a space, a value is bytes, and a
+/// number is below 2^64.
 pub fn commands_are_read_again()
     ensures { (command : Command) → IsWritable command → line_of (command_text command) ≡ Some (Some command) }
 {}
 
-/// A text begins with the text of one reply at most: two replies of one text are equal, also where something follows, and
-/// so what is written for many replies tells each of them. Their values are those that their types have.
+/// A text begins with the text of one reply at most: two replies of one text are equal, also where something follows,
+/// and so what is written for many replies tells each of them. Their values are those that their types have.
 pub fn replies_are_told_apart()
     ensures first { (reply other : Reply) (after behind : List ℕ) → IsTyped reply → IsTyped other →
         reply_text reply ++ after ≡ reply_text other ++ behind → (reply ≡ other) × (after ≡ behind) }
