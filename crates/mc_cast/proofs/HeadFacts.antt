@@ -1,7 +1,7 @@
 -- A head is read field by field.
 use Rattle.std.proofs.Common.{◌≡◌, ℕ, ◌≤◌, List, [], ◌∷◌, length, Option, None, Some, refl, sym, ap, ◌∙◌, arith}
 use Rattle.std.specs.Prelude.{option_map, option_and_then, unwrap_or}
-use Rattle.std.specs.List.{filter_map, cons_option}
+use Rattle.std.specs.List.{cons_option}
 use Rattle.mc_base.specs.Cid.{cid_digest}
 use Rattle.mc_base.specs.Wire.{Field, part_of, parts_of}
 use Rattle.mc_base.specs.WireRead.{Placed, fields_in, fields_of, fronts_from}

@@ -1,5 +1,5 @@
 -- Planned faults: which calls of a keeper, of its desks and of who makes keepers fail, where that is known.
-use Rattle.std.specs.Prelude.{◌≡◌, ⊤, ℕ, ◌+◌, ◌<◌, ◌≤◌, Bool, true, false, ◌||◌, List, [], ◌∷◌, drop, slice_get, Option, Some, None, unwrap_or, Result, Ok, Err, IfOk, if◌then◌else◌}
+use Rattle.std.specs.Prelude.{◌≡◌, ⊤, ℕ, ◌<◌, ◌≤◌, Bool, true, false, ◌||◌, List, [], ◌∷◌, drop, slice_get, Option, Some, None, unwrap_or, Result, Ok, Err, IfOk, if◌then◌else◌}
 use Rattle.std.specs.Result.{is_ok}
 pub use Rattle.mc_base.specs.Plan.{next_number, is_planned}
 use Rattle.mc_model.specs.Kept.{Kept}
