@@ -1,10 +1,10 @@
 -- Filling a buffer with bytes that come over and over.
-use Rattle.std.proofs.Common.{◌≡◌, inl, inr, ℕ, ◌+◌, ◌%◌, ◌<◌, List, length, slice_set, refl, sym, ap, ◌∙◌, arith}
+use Rattle.std.proofs.Common.{◌≡◌, ◌≢◌, inl, inr, ℕ, ◌+◌, ◌%◌, ◌<◌, List, length, slice_set, refl, sym, ap, ◌∙◌, arith}
 use Rattle.std.specs.List.{slice_index}
 use Rattle.std.proofs.lemmas.Bool.{cases_lt}
 use Rattle.std.proofs.lemmas.Grind.{get_or-set_at}
 use Rattle.std.proofs.lemmas.List.{get_or-set_other, length-set}
-use Rattle.std.proofs.Math.Nat.{mod-add-mod, mod-eq_of_lt, mod-lt}
+use Rattle.std.proofs.Math.Nat.{mod-add-mod, mod-eq_of_lt, mod-lt, mod_self}
 
 -- the first i bytes of a buffer of this length are filled, and the next one is at this place
 pub record IsFilling (bytes : List ℕ) (first : ℕ) (into : List ℕ) (len i at : ℕ) : Type 0 where
@@ -38,3 +38,10 @@ fill_next bytes first into len i at byte filling less is = record {
           let same : j ≡ i = omega (arith, below, last) in
           get_or-set_at into i j byte 0 same (omega (arith, less, filling.room)) ∙ is ∙ ap (slice_index bytes) (filling.next ∙ ap (λ (k : ℕ). (first + k) % length bytes) (sym same))
     ]
+
+-- the place after another, at the end and before it
+pub begins_again : (at len : ℕ) → at + 1 ≡ len → 0 ≡ (at + 1) % len
+begins_again at len same = rw same (sym (mod_self len))
+
+pub goes_on : (at len : ℕ) → at < len → at + 1 ≢ len → at + 1 ≡ (at + 1) % len
+goes_on at len below other = sym (mod-eq_of_lt (omega (arith, below, other)))

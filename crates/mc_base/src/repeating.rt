@@ -68,7 +68,16 @@ fn fill(bytes: &[u8], first: usize, into: &mut [u8]) -> usize
     let mut at = first;
     for i in 0..into.len() {
         into[i] = bytes[at];
-        at = (at + 1) % bytes.len();
+        at = place_after(bytes, at);
     }
     at
+}
+
+// The place after this one, where the bytes begin again at their end.
+#[tactic(auto, using(crate::proofs::FillFacts::begins_again, crate::proofs::FillFacts::goes_on))]
+fn place_after(bytes: &[u8], at: usize) -> usize
+    requires { at < length bytes.now }
+    ensures { result ≡ (at + 1) % length bytes.now }
+{
+    if at + 1 == bytes.len() { 0 } else { at + 1 }
 }
