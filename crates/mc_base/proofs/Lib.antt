@@ -2,6 +2,7 @@ pub mod AsciiDigits
 pub mod Booleans
 pub mod Cids
 pub mod Digest
+pub mod FillFacts
 pub mod FiveBits
 pub mod Orders
 pub mod Telling

@@ -7,7 +7,7 @@ use Rattle.std.proofs.lemmas.List.{take_more, take_more_set, length-set, drop_mo
 use Rattle.std.specs.Prelude.{IfOk, IfErr, nat_le, nat_lt, ◌==◌, ◌&&◌, if◌then◌else◌}
 use Rattle.mc_base.specs.declared.varint.VarintFault.{VarintFault}
 use Rattle.mc_base.specs.declared.varint.VarintFault.TheVariants.{Short, Long, NotMinimal}
-use Rattle.mc_base.specs.Varint.{IsBase128, IsVarint, high_run, varint_fault}
+use Rattle.mc_base.specs.Varint.{IsBase128, IsUnsignedVarint, high_run, varint_fault}
 
 -- the first bytes all have the high bit, and any spelling of the rest completes them
 pub record IsReading (bytes : List ℕ) (at value weight : ℕ) : Type 0 where
@@ -61,7 +61,7 @@ drop_place bytes at byte place = rw (drop_more bytes at 0 place.within, place.is
 
 -- the last group ends the varint
 pub last_group : (bytes : List ℕ) (at value weight byte group : ℕ) → IsReading bytes at value weight → at < 9 → IsAt bytes at byte → byte < 128 → (0 < at → 0 < byte) → group ≡ byte
-    → IsVarint (take (at + 1) bytes) (value + group * weight)
+    → IsUnsignedVarint (take (at + 1) bytes) (value + group * weight)
 last_group bytes at value weight byte group reading h found below positive same =
     let whole = reading.complete (byte ∷ []) byte positive (below, refl) in
     record {
@@ -137,7 +137,7 @@ one_spelling (a ∷ c ∷ first) (b ∷ d ∷ second) after other one two h k e 
     (cc, omega arith)
 
 -- a varint at the front is no fault
-pub no_fault : (bytes : List ℕ) (value count : ℕ) → count ≤ length bytes → IsVarint (take count bytes) value → varint_fault bytes ≡ None
+pub no_fault : (bytes : List ℕ) (value count : ℕ) → count ≤ length bytes → IsUnsignedVarint (take count bytes) value → varint_fault bytes ≡ None
 no_fault bytes value count h is =
     let ends = ends_at (take count bytes) (drop count bytes) value is.spelled in
     let whole = take-append-drop count bytes in
@@ -147,8 +147,8 @@ no_fault bytes value count h is =
     chosen_none (high_run bytes) (length bytes) (get_or bytes (high_run bytes) 0) (omega (arith, is.size)) (omega (arith, length-take {A = ℕ})) (λ more. last (positive more))
 
 -- a reading of the first varint reads each varint
-pub every_varint : (bytes : List ℕ) (result : Result (ℕ × ℕ) VarintFault) → IfOk result (λ read. read.1 ≤ length bytes) → IfOk result (λ read. IsVarint (take read.1 bytes) read.0) → IfErr result (λ fault. varint_fault bytes ≡ Some fault)
-    → (value count : ℕ) → count ≤ length bytes → IsVarint (take count bytes) value → result ≡ Ok (value, count)
+pub every_varint : (bytes : List ℕ) (result : Result (ℕ × ℕ) VarintFault) → IfOk result (λ read. read.1 ≤ length bytes) → IfOk result (λ read. IsUnsignedVarint (take read.1 bytes) read.0) → IfErr result (λ fault. varint_fault bytes ≡ Some fault)
+    → (value count : ℕ) → count ≤ length bytes → IsUnsignedVarint (take count bytes) value → result ≡ Ok (value, count)
 every_varint bytes (Ok read) within is fault value count h varint =
     let whole : take read.1 bytes ++ drop read.1 bytes ≡ take count bytes ++ drop count bytes = take-append-drop read.1 bytes ∙ sym (take-append-drop count bytes) in
     let same = one_spelling (take read.1 bytes) (take count bytes) (drop read.1 bytes) (drop count bytes) read.0 value is.spelled varint.spelled whole in
@@ -196,7 +196,7 @@ write_next value rest len spelling byte writing large is =
     }
 
 -- the last group is written
-pub write_last : (value rest len : ℕ) (spelling : List ℕ) (byte : ℕ) → IsWriting value rest len spelling → rest < 128 → byte ≡ rest → IsVarint (take (len + 1) (slice_set spelling len byte)) value
+pub write_last : (value rest len : ℕ) (spelling : List ℕ) (byte : ℕ) → IsWriting value rest len spelling → rest < 128 → byte ≡ rest → IsUnsignedVarint (take (len + 1) (slice_set spelling len byte)) value
 write_last value rest len spelling byte writing below is =
     let whole = writing.complete (byte ∷ []) (omega arith, sym is) in
     record {

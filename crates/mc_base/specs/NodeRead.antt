@@ -4,7 +4,7 @@ use Rattle.std.specs.Prelude.{ℕ, ◌+◌, ◌-◌, List, [], ◌∷◌, ◌++�
 use Rattle.std.specs.List.{list_any, filter_map}
 use Rattle.std.specs.Option.{option_or, option_map}
 use Rattle.std.specs.Str.{is_utf8}
-use Rattle.mc_base.specs.Wire.{Field, Content, Part, wire_type}
+use Rattle.mc_base.specs.Wire.{Field, Content, Part, part_of, wire_type}
 use Rattle.mc_base.specs.WireRead as wire
 use Rattle.mc_base.specs.WireRead.{WireFault, Front, NoKey, NoContent, Whole, Placed, fronts_from}
 
@@ -60,16 +60,12 @@ abbrev pub link_fault : ℕ → List Placed → Option NodeFault
 link_fault before [] = None
 link_fault before (placed ∷ rest) = option_or (fault_at placed.at (link_front_fault before placed.front)) (link_fault (number_of placed.front) rest)
 
-abbrev pub part_of : Content → Option (List ℕ)
-part_of (Part bytes) = Some bytes
-part_of content = None
-
--- the bytes of a field of this number
+-- the bytes of a front that is a field of this number
 abbrev pub part_in : ℕ → Front → Option (List ℕ)
-part_in number (Whole field len) = if field.number == number then part_of field.content else None
+part_in number (Whole field len) = part_of number field
 part_in number front = None
 
--- the bytes of the fields of this number, in order
+-- the bytes of the fronts that are fields of this number, in order
 abbrev pub parts_in : ℕ → List Placed → List (List ℕ)
 parts_in number fronts = filter_map (λ placed. part_in number placed.front) fronts
 

@@ -11,13 +11,13 @@ IsBase128 (byte ∷ []) value = (byte < 128) × (value ≡ byte)
 IsBase128 (byte ∷ next ∷ bytes) value = (128 ≤ byte) × (byte < 256) × (high : ℕ) × (0 < high) × (value + 128 ≡ byte + 128 * high) × IsBase128 (next ∷ bytes) high
 
 -- these bytes are the varint of this value
-pub record IsVarint (bytes : List ℕ) (value : ℕ) : Type 0 where
+pub record IsUnsignedVarint (bytes : List ℕ) (value : ℕ) : Type 0 where
   pub spelled : IsBase128 bytes value
   pub size : length bytes ≤ 9
 
 -- new is old with the varint of the value at its end
 abbrev pub AppendsVarint : List ℕ → List ℕ → ℕ → Type 0
-AppendsVarint old new value = (bytes : List ℕ) × IsVarint bytes value × (new ≡ old ++ bytes)
+AppendsVarint old new value = (bytes : List ℕ) × IsUnsignedVarint bytes value × (new ≡ old ++ bytes)
 
 -- how many bytes with the high bit come first
 abbrev pub high_run : List ℕ → ℕ
@@ -35,4 +35,4 @@ varint_fault bytes =
 
 -- no spelling is the beginning of another, so each value has one spelling, and bytes may follow it
 abbrev pub OneSpelling : Type 0
-OneSpelling = (first second after other : List ℕ) (one two : ℕ) → IsVarint first one → IsVarint second two → first ++ after ≡ second ++ other → (first ≡ second) × (one ≡ two)
+OneSpelling = (first second after other : List ℕ) (one two : ℕ) → IsUnsignedVarint first one → IsUnsignedVarint second two → first ++ after ≡ second ++ other → (first ≡ second) × (one ≡ two)

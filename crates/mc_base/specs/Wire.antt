@@ -1,6 +1,6 @@
 -- Fields in the Protocol Buffers wire format (Protocol Buffers documentation, "Encoding": "Base 128 Varints" and "Message Structure").
-use Rattle.std.specs.Prelude.{◌≡◌, ℕ, zero, suc, ◌+◌, ◌*◌, ◌/◌, ◌%◌, ◌<◌, ◌≤◌, List, [], ◌∷◌, ◌++◌, length, Bool, IsTrue, nat_le, nat_lt, if◌then◌else◌}
-use Rattle.std.specs.List.{list_all}
+use Rattle.std.specs.Prelude.{◌≡◌, ℕ, zero, suc, ◌+◌, ◌*◌, ◌/◌, ◌%◌, ◌<◌, ◌≤◌, List, [], ◌∷◌, ◌++◌, length, Bool, IsTrue, nat_le, nat_lt, ◌==◌, if◌then◌else◌, Option, Some, None}
+use Rattle.std.specs.List.{list_all, filter_map}
 
 -- a byte after which its varint goes on: its high bit is set
 abbrev pub goes_on : ℕ → Bool
@@ -38,6 +38,19 @@ wire_type (Varint value) = 0
 wire_type (Fixed64 bytes) = 1
 wire_type (Part bytes) = 2
 wire_type (Fixed32 bytes) = 5
+
+-- the bytes that a content with the wire type of bytes holds
+abbrev pub bytes_held : Content → Option (List ℕ)
+bytes_held (Part bytes) = Some bytes
+bytes_held content = None
+
+-- the bytes that a field of this number holds, where it has the wire type of bytes
+abbrev pub part_of : ℕ → Field → Option (List ℕ)
+part_of number field = if field.number == number then bytes_held field.content else None
+
+-- the bytes of the fields of this number, in order
+abbrev pub parts_of : ℕ → List Field → List (List ℕ)
+parts_of number fields = filter_map (part_of number) fields
 
 -- the bytes of a content
 abbrev pub IsContent : List ℕ → Content → Type 0

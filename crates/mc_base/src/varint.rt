@@ -1,6 +1,6 @@
 // Unsigned varints, the numbers of CIDs and multihashes.
 ghost use Rattle.std.specs.Prelude.{◌≡◌, ◌^◌, ◌<◌, ◌≤◌, ℕ, length, take, IfOk, OnOk, OnErr, IfErr, Some, Ok};
-ghost use Rattle.mc_base.specs.Varint.{IsVarint, AppendsVarint, varint_fault, OneSpelling};
+ghost use Rattle.mc_base.specs.Varint.{IsUnsignedVarint, AppendsVarint, varint_fault, OneSpelling};
 
 use crate::bytes::Bytes;
 use std::alloc::AllocError;
@@ -25,9 +25,9 @@ pub enum VarintFault {
 pub fn read_varint(bytes: &[u8]) -> Result<(u64, usize), VarintFault>
     ensures length { IfOk result (λ read. read.1 ≤ length bytes.now) }
     // What is read is a varint.
-    ensures read { IfOk result (λ read. IsVarint (take read.1 bytes.now) read.0) }
+    ensures read { IfOk result (λ read. IsUnsignedVarint (take read.1 bytes.now) read.0) }
     // Each varint is read.
-    ensures every { (value count : ℕ) → count ≤ length bytes.now → IsVarint (take count bytes.now) value → result ≡ Ok (value, count) }
+    ensures every { (value count : ℕ) → count ≤ length bytes.now → IsUnsignedVarint (take count bytes.now) value → result ≡ Ok (value, count) }
     ensures ok { OnOk result (varint_fault bytes.now ≡ None) }
     ensures fault { IfErr result (λ fault. varint_fault bytes.now ≡ Some fault) }
 {
@@ -37,7 +37,7 @@ pub fn read_varint(bytes: &[u8]) -> Result<(u64, usize), VarintFault>
 // The same, without the clause that each varint is read.
 fn first_varint(bytes: &[u8]) -> Result<(u64, usize), VarintFault>
     ensures length { IfOk result (λ read. read.1 ≤ length bytes.now) }
-    ensures read { IfOk result (λ read. IsVarint (take read.1 bytes.now) read.0) }
+    ensures read { IfOk result (λ read. IsUnsignedVarint (take read.1 bytes.now) read.0) }
     ensures ok { OnOk result (varint_fault bytes.now ≡ None) }
     ensures fault { IfErr result (λ fault. varint_fault bytes.now ≡ Some fault) }
 {

@@ -8,11 +8,12 @@ mod fault;
 pub use decoding::decode;
 pub use encoding::{encode, one_text, read_again};
 pub use fault::{Base32Error, Base32Fault};
+pub use mc_base::Case;
 
 #[cfg(test)]
 mod tests {
     use super::*;
-    use mc_base::{Bytes, Case};
+    use mc_base::Bytes;
     use std::alloc::Global;
     use std::test::Fail;
 

@@ -10,7 +10,7 @@ use Rattle.mc_base.specs.NodeRead.{node_of}
 use Rattle.mc_base.specs.Node.{node_bytes}
 use Rattle.mc_base.specs.Wire.{varint_bytes}
 use Rattle.mc_base.specs.declared.cid.Cid.{Cid}
-use Rattle.mc_model.specs.DeltaText.{delta_of, delta_bytes}
+use Rattle.mc_model.specs.DeltaText.{delta_read, delta_bytes}
 use Rattle.mc_model.specs.Made.{made_bytes, made_cid}
 use Rattle.mc_model.specs.Offer.{offer, is_good, block_max, cid_of_bytes}
 use Rattle.mc_model.specs.declared.delta.Delta.{Delta}
@@ -30,7 +30,7 @@ NodesHaveLength = (links : List Cid) (payload : List ℕ) → IsTrue (list_all h
     length (node_bytes links payload) ≡ 44 * length links + 1 + length (varint_bytes (length payload)) + length payload
 
 abbrev pub DeltasAreRead : Type 0
-DeltasAreRead = (delta : Delta) → IsWritable delta → delta_of (delta_bytes delta) ≡ Some delta
+DeltasAreRead = (delta : Delta) → IsWritable delta → delta_read (delta_bytes delta) ≡ Ok delta
 
 cid_named : CidsAreRead → (cid : Cid) → has_digest cid ≡ true → cid_of_bytes (cid_bytes cid) ≡ Some cid
 cid_named read cid digest = rw (read cid.0 (eqb-true (length cid.0) 32 digest)) refl

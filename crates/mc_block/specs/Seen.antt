@@ -1,5 +1,4 @@
 -- What the damages and errors of this crate say.
-use Rattle.std.specs.Prelude.{Some}
 use Rattle.mc_model.specs.Offer as model
 use Rattle.mc_dagpb.specs.Seen as node
 use Rattle.mc_dagpb.specs.declared.fault.NodeError.{NodeError}
@@ -17,7 +16,7 @@ damage_of (TooLarge len) = model.TooLarge len
 damage_of (WrongDigest found) = model.WrongDigest found.0
 damage_of (NotDagPb fault) = model.NotDagPb (node.fault_named fault)
 damage_of (BadLink index) = model.BadLink index
-damage_of (BadDelta fault) = model.BadDelta (Some (delta.fault_named fault))
+damage_of (BadDelta fault) = model.BadDelta (delta.fault_named fault)
 
 -- a fault of the node, or of the delta in it, is a damage of the block
 abbrev pub of_node : NodeError → BlockError

@@ -1,11 +1,11 @@
 -- Messages without a wire fault, and written ones.
 use Rattle.std.proofs.Common.{◌≡◌, ℕ, ◌<◌, ◌≤◌, ◌^◌, List, [], ◌∷◌, ◌++◌, length, map, Option, None, Some, append-nil, subst, refl, sym, arith}
 use Rattle.std.specs.Prelude.{option_map, option_and_then, IsSome, ◌↔◌}
-use Rattle.std.specs.List.{cons_option, filter_map, AllByRecursion}
+use Rattle.std.specs.List.{cons_option, AllByRecursion}
 use Rattle.mc_base.specs.Cid.{CidsAreRead, cid_prefix}
-use Rattle.mc_base.specs.Wire.{Field, Fields, IsPiece, Part, part_field_bytes, varint_bytes}
+use Rattle.mc_base.specs.Wire.{Field, Fields, IsPiece, Part, part_field_bytes, part_of, parts_of, varint_bytes}
 use Rattle.mc_base.specs.WireRead.{Front, NoKey, NoContent, Placed, WireFault, Whole, fault_of, fields_in, fields_of, fronts_from, onto_fields}
-use Rattle.mc_cast.specs.Cast.{cast_bytes, cast_fault, digest_in, fault_at, fault_in, first_fault, head_bytes, heads_in, heads_of, named_by, or_fault, part_of}
+use Rattle.mc_cast.specs.Cast.{cast_bytes, cast_fault, digest_in, fault_at, fault_in, first_fault, head_bytes, heads_in, heads_of, named_by, or_fault}
 use Rattle.mc_cast.specs.Reads.{IsCast}
 
 -- ---- no fault, and fields
@@ -65,13 +65,13 @@ head_some : (front : Front) (rest : Option (List Field)) → fault_at front ≡ 
 head_some (NoKey fault) rest none some = absurd (cc)
 head_some (NoContent number wire fault) rest none some = absurd (cc)
 head_some (Whole field len) None none some = absurd (cc)
-head_some (Whole field len) (Some fields) none some = part_some (part_of field) (filter_map part_of fields) none some
+head_some (Whole field len) (Some fields) none some = part_some (part_of 1 field) (parts_of 1 fields) none some
 
 head_none : (front : Front) (rest : Option (List Field)) → IsSome (option_and_then heads_in (onto_fields front rest)) → (fault_at front ≡ None) × IsSome (option_and_then heads_in rest)
 head_none (NoKey fault) rest some = absurd (cc)
 head_none (NoContent number wire fault) rest some = absurd (cc)
 head_none (Whole field len) None some = absurd (cc)
-head_none (Whole field len) (Some fields) some = part_none (part_of field) (filter_map part_of fields) some
+head_none (Whole field len) (Some fields) some = part_none (part_of 1 field) (parts_of 1 fields) some
 
 some_heads : (fronts : List Placed) → cast_fault fronts ≡ None → IsSome (option_and_then heads_in (fields_in fronts))
 some_heads [] h = refl

@@ -1,7 +1,7 @@
 -- A message is read field by field.
 use Rattle.std.proofs.Common.{◌≡◌, ℕ, ◌≤◌, List, [], ◌∷◌, ◌++◌, length, drop, append_assoc, append-nil, Option, None, Some, refl, sym, ap, ◌∙◌, arith}
 use Rattle.std.specs.Prelude.{option_map, option_and_then}
-use Rattle.mc_base.specs.Wire.{Field}
+use Rattle.mc_base.specs.Wire.{Field, part_of}
 use Rattle.mc_base.specs.WireRead.{Front, NoKey, NoContent, Placed, WireFault, Whole, fault_of, fields_in, fields_of, front_of, fronts_from}
 use Rattle.mc_wire.specs.Seen.{FaultAt, FieldAt, fault_named, field_at, fronts_at}
 use Rattle.mc_wire.specs.declared.fault.WireFaultAt.{WireFaultAt}
@@ -10,7 +10,7 @@ use Rattle.mc_cast.specs.declared.fault.CastFault.TheVariants.{Wire, BadCid}
 use Rattle.mc_cast.specs.declared.fault.CastError.{CastError}
 use Rattle.mc_cast.specs.declared.fault.CastError.TheVariants.{Memory, Fault}
 use Rattle.mc_cast.specs.declared.message.Heads.{Heads}
-use Rattle.mc_cast.specs.Cast.{cast_fault, digest_in, fault_at, heads_in, heads_of, part_of}
+use Rattle.mc_cast.specs.Cast.{cast_fault, digest_in, fault_at, heads_in, heads_of}
 use Rattle.mc_cast.specs.Reads.{IsCast, IsFaultOf, IsUnnamed}
 use Rattle.mc_cast.specs.Steps.{IsFaultIn, StandFor, TakesHead, digests_of}
 
@@ -45,11 +45,11 @@ read_begun text kept none empty = record {
 }
 
 -- one field that is no head, and one that is
-heads_same : (field : Field) (rest : Option (List Field)) → part_of field ≡ None → option_and_then heads_in (option_map (λ fields. field ∷ fields) rest) ≡ option_and_then heads_in rest
+heads_same : (field : Field) (rest : Option (List Field)) → part_of 1 field ≡ None → option_and_then heads_in (option_map (λ fields. field ∷ fields) rest) ≡ option_and_then heads_in rest
 heads_same field None none = refl
 heads_same field (Some fields) none = rw none refl
 
-heads_more : (field : Field) (rest : Option (List Field)) (body : List ℕ) (named : Option (List ℕ)) → part_of field ≡ Some body → option_map digest_in (fields_of body) ≡ Some named
+heads_more : (field : Field) (rest : Option (List Field)) (body : List ℕ) (named : Option (List ℕ)) → part_of 1 field ≡ Some body → option_map digest_in (fields_of body) ≡ Some named
     → option_and_then heads_in (option_map (λ fields. field ∷ fields) rest) ≡ option_map (λ others. named ∷ others) (option_and_then heads_in rest)
 heads_more field None body named is names = refl
 heads_more field (Some fields) body named is names = rw is (by_body (fields_of body) names)
@@ -64,10 +64,10 @@ before_more heads named None = refl
 before_more heads named (Some others) = ap (λ (all : List (Option (List ℕ))). Some all) (sym (append_assoc heads (named ∷ []) others))
 
 -- one field more
-pub read_next : (text : List ℕ) (at : ℕ) (kept new : Heads) (field : PlacedField) → IsRead text at kept → FieldAt text at field → TakesHead (part_of (field_at text field)) kept new → IsRead text field.next new
-read_next text at kept new field reading found takes = by_part (part_of (field_at text field)) refl takes
+pub read_next : (text : List ℕ) (at : ℕ) (kept new : Heads) (field : PlacedField) → IsRead text at kept → FieldAt text at field → TakesHead (part_of 1 (field_at text field)) kept new → IsRead text field.next new
+read_next text at kept new field reading found takes = by_part (part_of 1 (field_at text field)) refl takes
   where
-    by_part : (part : Option (List ℕ)) → part_of (field_at text field) ≡ part → TakesHead part kept new → IsRead text field.next new
+    by_part : (part : Option (List ℕ)) → part_of 1 (field_at text field) ≡ part → TakesHead part kept new → IsRead text field.next new
     by_part None none same = record {
       in_text = found.ends;
       sound = sym (ap cast_fault found.fronts ∙ rw none refl) ∙ reading.sound;
@@ -111,7 +111,7 @@ pub read_fault : (text : List ℕ) (at : ℕ) (kept : Heads) (fault : WireFaultA
 read_fault text at kept fault reading found = sym reading.sound ∙ rw (found.fronts, fault_stays (front_of (drop at text)) (fault_named fault.kind) found.kind) refl
 
 -- a fault in a head is the first
-pub head_fault : (text : List ℕ) (at : ℕ) (kept : Heads) (field : PlacedField) (error : CastError) → IsRead text at kept → FieldAt text at field → IsFaultIn (part_of (field_at text field)) error → IsFaultOf text error
+pub head_fault : (text : List ℕ) (at : ℕ) (kept : Heads) (field : PlacedField) (error : CastError) → IsRead text at kept → FieldAt text at field → IsFaultIn (part_of 1 (field_at text field)) error → IsFaultOf text error
 head_fault text at kept field Memory reading found h = tt
 head_fault text at kept field (Fault (Wire fault)) reading found h = sym reading.sound ∙ ap cast_fault found.fronts ∙ rw h refl
 head_fault text at kept field (Fault (BadCid index)) reading found h = absurd h

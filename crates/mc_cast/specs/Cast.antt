@@ -1,33 +1,19 @@
 -- A broadcast by its fields (Protocol Buffers encoding): a head is a field 1 of wire type 2, and its cid is the last such field in
 -- it. Other fields count for nothing.
-use Rattle.std.specs.Prelude.{ℕ, ◌+◌, ◌==◌, if◌then◌else◌, List, [], ◌∷◌, ◌++◌, drop, Option, None, Some, option_map, option_and_then, unwrap_or}
-use Rattle.std.specs.List.{filter_map, flat_map}
-use Rattle.mc_base.specs.Cid.{cid_prefix, is_cid}
-use Rattle.mc_base.specs.Wire.{Content, Field, Varint, Fixed64, Part, Fixed32}
+use Rattle.std.specs.Prelude.{ℕ, ◌+◌, List, [], ◌∷◌, ◌++◌, Option, None, Some, option_map, option_and_then, unwrap_or}
+use Rattle.std.specs.List.{flat_map}
+use Rattle.mc_base.specs.Cid.{cid_prefix, cid_digest}
+use Rattle.mc_base.specs.Wire.{Field, part_of, parts_of}
 use Rattle.mc_base.specs.WireRead.{Front, NoKey, NoContent, Whole, Placed, WireFault, fault_of, fields_of, fronts_from}
-
--- the bytes of a field 1 of wire type 2
-abbrev pub part_with : ℕ → Content → Option (List ℕ)
-part_with number (Varint value) = None
-part_with number (Fixed64 bytes) = None
-part_with number (Part bytes) = if number == 1 then Some bytes else None
-part_with number (Fixed32 bytes) = None
-
-abbrev pub part_of : Field → Option (List ℕ)
-part_of field = part_with field.number field.content
 
 -- the last part, where there is one
 abbrev pub last_of : List (List ℕ) → Option (List ℕ)
 last_of [] = None
 last_of (part ∷ parts) = Some (unwrap_or (last_of parts) part)
 
--- the digest of an identifier's binary form
-abbrev pub digest_of : List ℕ → Option (List ℕ)
-digest_of bytes = if is_cid bytes then Some (drop 4 bytes) else None
-
 -- the digest of the identifier that a head with these fields names, where it names one
 abbrev pub digest_in : List Field → Option (List ℕ)
-digest_in fields = option_and_then digest_of (last_of (filter_map part_of fields))
+digest_in fields = option_and_then cid_digest (last_of (parts_of 1 fields))
 
 -- what heads with these bytes name, in order, where each is made of fields
 abbrev pub named_by : List (List ℕ) → Option (List (Option (List ℕ)))
@@ -36,7 +22,7 @@ named_by (body ∷ bodies) = option_and_then (λ fields. option_map (λ others. 
 
 -- what the heads of a message with these fields name
 abbrev pub heads_in : List Field → Option (List (Option (List ℕ)))
-heads_in fields = named_by (filter_map part_of fields)
+heads_in fields = named_by (parts_of 1 fields)
 
 -- what the heads of a message name, where the message and each head are made of fields
 abbrev pub heads_of : List ℕ → Option (List (Option (List ℕ)))
@@ -67,7 +53,7 @@ fault_in (Some body) = first_fault (fronts_from 0 body)
 abbrev pub fault_at : Front → Option WireFault
 fault_at (NoKey fault) = Some fault
 fault_at (NoContent number wire fault) = Some fault
-fault_at (Whole field len) = fault_in (part_of field)
+fault_at (Whole field len) = fault_in (part_of 1 field)
 
 -- the first wire fault of a message, from left to right, with a look into each head when it is met
 abbrev pub cast_fault : List Placed → Option WireFault

@@ -1,6 +1,7 @@
 -- What one step of a reading leaves.
 use Rattle.std.specs.Prelude.{◌≡◌, ℕ, List, [], ◌∷◌, ◌++◌, map, Option, None, Some, IfSome, option_map, ⊤}
 use denote.Ref.{Bor}
+use Rattle.mc_base.specs.Cid.{cid_digest}
 use Rattle.mc_base.specs.declared.cid.Cid.{Cid}
 use Rattle.mc_base.specs.WireRead.{fields_of, fronts_from}
 use Rattle.mc_wire.specs.Seen.{fault_named}
@@ -8,7 +9,7 @@ use Rattle.mc_cast.specs.declared.fault.CastFault.TheVariants.{Wire, BadCid}
 use Rattle.mc_cast.specs.declared.fault.CastError.{CastError}
 use Rattle.mc_cast.specs.declared.fault.CastError.TheVariants.{Memory, Fault}
 use Rattle.mc_cast.specs.declared.message.Heads.{Heads}
-use Rattle.mc_cast.specs.Cast.{digest_in, digest_of, fault_in, first_fault, first_unnamed}
+use Rattle.mc_cast.specs.Cast.{digest_in, fault_in, first_fault, first_unnamed}
 
 -- the bytes that a reference points to
 abbrev pub text_of : Bor (List ℕ) → List ℕ
@@ -21,7 +22,7 @@ digest cid = cid.0
 -- the digest that is named after one more cid, or none more
 abbrev pub digest_after : Option (List ℕ) → Option (List ℕ) → Option (List ℕ)
 digest_after named None = named
-digest_after named (Some bytes) = digest_of bytes
+digest_after named (Some bytes) = cid_digest bytes
 
 abbrev pub digests_of : List Cid → List (List ℕ)
 digests_of cids = map digest cids

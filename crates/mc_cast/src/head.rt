@@ -1,5 +1,6 @@
 // The heads of a broadcast.
 ghost use Rattle.std.specs.Prelude.{◌≡◌, ◌≤◌, length, None, Some, IfOk, IfErr, option_map};
+ghost use Rattle.mc_base.specs.Wire as wire;
 ghost use Rattle.mc_base.specs.WireRead.{fields_of, fronts_from};
 ghost use Rattle.mc_wire.specs.Seen.{EndsAt, fault_named, field_at};
 ghost use Rattle.mc_cast.specs.Cast as cast;
@@ -14,7 +15,7 @@ const HEAD_OR_CID: u64 = 1;
 pub(crate) fn part_of(bytes: &[u8], field: Field) -> Option<&[u8]>
     requires ends { EndsAt field.content field.next }
     requires within { field.next ≤ length bytes.now }
-    ensures { option_map text_of result ≡ cast.part_of (field_at bytes.now field) }
+    ensures { option_map text_of result ≡ wire.part_of 1 (field_at bytes.now field) }
 {
     match field.content {
         Content::Part { from, to } if field.number == HEAD_OR_CID => Some(&bytes[from..to]),

@@ -1,5 +1,6 @@
 // Broadcasts, read and written.
 ghost use Rattle.std.specs.Prelude.{◌≡◌, ◌≤◌, ◌<◌, ◌^◌, ◌++◌, ◌∷◌, [], length, map, List as ListOf, ℕ, Option as OptionOf, None, Some, IfOk, IfErr, OnOk, option_map};
+ghost use Rattle.mc_base.specs.Wire as wire;
 ghost use Rattle.mc_wire.specs.Seen.{FieldAt, field_at};
 ghost use Rattle.mc_cast.specs.Cast as cast;
 ghost use Rattle.mc_cast.specs.Reads.{IsCast, IsFaultOf};
@@ -48,8 +49,8 @@ impl Heads {
     // Takes a head, where a field is one.
     fn take(&mut self, bytes: &[u8], field: Field) -> Result<(), CastError>
         requires placed { (at : ℕ) × FieldAt bytes.now at field }
-        ensures took { OnOk result (TakesHead (cast.part_of (field_at bytes.now field)) self.old self.new) }
-        ensures fault { IfErr result (λ error. IsFaultIn (cast.part_of (field_at bytes.now field)) error) }
+        ensures took { OnOk result (TakesHead (wire.part_of 1 (field_at bytes.now field)) self.old self.new) }
+        ensures fault { IfErr result (λ error. IsFaultIn (wire.part_of 1 (field_at bytes.now field)) error) }
     {
         let Some(body) = part_of(bytes, field) else {
             return Ok(());

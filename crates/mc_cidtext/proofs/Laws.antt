@@ -1,6 +1,7 @@
 -- Writing and reading texts of identifiers are each other's inverse.
-use Rattle.std.proofs.Common.{◌≡◌, ℕ, ◌<◌, inl, inr, Bool, true, false, List, [], ◌∷◌, ◌++◌, length, take, drop, Result, Ok, Err, refl, sym, ap, ◌∙◌, arith}
+use Rattle.std.proofs.Common.{◌≡◌, ℕ, ◌<◌, inl, inr, Bool, true, false, List, [], ◌∷◌, ◌++◌, length, take, drop, Some, None, Result, Ok, Err, refl, sym, ap, ◌∙◌, arith}
 use Rattle.std.specs.Prelude.{◌==◌, if◌then◌else◌}
+use Rattle.std.specs.Option.{ok_or}
 use Rattle.std.specs.Str.{bytes_eq}
 use Rattle.std.specs.List.{All}
 use Rattle.std.proofs.lemmas.Bool.Decides.{eqb_tells}
@@ -15,7 +16,7 @@ use Rattle.mc_base32.specs.Reading.{decode32, IsOneText as IsOneText32, IsReadAg
 use Rattle.mc_base32.specs.declared.fault.Base32Fault.{Base32Fault}
 use Rattle.mc_cidtext.specs.declared.fault.CidTextFault.{CidTextFault}
 use Rattle.mc_cidtext.specs.declared.fault.CidTextFault.TheVariants.{Prefix, NotProfile}
-use Rattle.mc_cidtext.specs.CidText.{cid_text, digest_of, read_cid_text}
+use Rattle.mc_cidtext.specs.CidText.{cid_text, digest_read, read_cid_text}
 
 -- a text that doesn't begin with `b`
 pub no_prefix : (text : List ℕ) → ((rest : List ℕ) → text ≡ 98 ∷ rest → ⊥) → read_cid_text text ≡ Err Prefix
@@ -37,11 +38,11 @@ written_is_read again cids digest len are =
     rw (again Lower (cid_prefix ++ digest) small, cids digest len) refl
 
 -- which way a reading went that gave a digest
-cid_chosen : (test : Bool) (bytes digest : List ℕ) → (if test then Ok (drop 4 bytes) else Err NotProfile) ≡ Ok digest → (test ≡ true) × (drop 4 bytes ≡ digest)
+cid_chosen : (test : Bool) (bytes digest : List ℕ) → ok_or (if test then Some (drop 4 bytes) else None) NotProfile ≡ Ok digest → (test ≡ true) × (drop 4 bytes ≡ digest)
 cid_chosen true bytes digest h = (refl, cc)
 cid_chosen false bytes digest h = absurd (cc)
 
-after_prefix : IsOneText32 → (text : List ℕ) (read : Result (List ℕ) Base32Fault) (digest : List ℕ) → decode32 Lower text ≡ read → digest_of read ≡ Ok digest → text ≡ base32_of Lower (cid_prefix ++ digest)
+after_prefix : IsOneText32 → (text : List ℕ) (read : Result (List ℕ) Base32Fault) (digest : List ℕ) → decode32 Lower text ≡ read → digest_read read ≡ Ok digest → text ≡ base32_of Lower (cid_prefix ++ digest)
 after_prefix one text (Ok bytes) digest is h =
     let went = cid_chosen (is_cid bytes) bytes digest h in
     one Lower text bytes is ∙ ap (base32_of Lower) (cid_parts bytes went.0 ∙ ap (λ (rest : List ℕ). cid_prefix ++ rest) went.1)
@@ -59,5 +60,5 @@ first_chosen byte read digest h = elim (eqb_tells byte 98) [
 pub read_was_written : IsOneText32 → (text digest : List ℕ) → read_cid_text text ≡ Ok digest → text ≡ cid_text digest
 read_was_written one [] digest h = absurd (cc)
 read_was_written one (byte ∷ text) digest h =
-    let went = first_chosen byte (digest_of (decode32 Lower text)) digest h in
+    let went = first_chosen byte (digest_read (decode32 Lower text)) digest h in
     rw (went.0, ← after_prefix one text (decode32 Lower text) digest refl went.1) refl

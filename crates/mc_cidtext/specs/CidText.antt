@@ -1,8 +1,9 @@
 -- The text of an identifier (Multiformats CID specification): the Multibase code `b`, and the lower-case base32 of its
 -- 36 bytes without padding (RFC 4648, section 6).
-use Rattle.std.specs.Prelude.{◌≡◌, ℕ, ◌==◌, ◌++◌, if◌then◌else◌, List, [], ◌∷◌, drop, length, codes, All, ◌<◌, Result, Ok, Err, ⊤}
+use Rattle.std.specs.Prelude.{◌≡◌, ℕ, ◌==◌, ◌++◌, if◌then◌else◌, List, [], ◌∷◌, length, codes, All, ◌<◌, Result, Ok, Err, ⊤}
+use Rattle.std.specs.Option.{ok_or}
 use Rattle.mc_base.specs.Base32.{base32_of}
-use Rattle.mc_base.specs.Cid.{cid_prefix, is_cid}
+use Rattle.mc_base.specs.Cid.{cid_prefix, cid_digest}
 use Rattle.mc_base.specs.declared.base32.Case.TheVariants.{Lower}
 use Rattle.mc_base32.specs.Reading.{decode32}
 use Rattle.mc_base32.specs.declared.fault.Base32Fault.{Base32Fault}
@@ -16,15 +17,15 @@ abbrev pub cid_text : List ℕ → List ℕ
 cid_text digest = codes "b" ++ base32_of Lower (cid_prefix ++ digest)
 
 -- what the base32 after the `b` gives: a digest where its bytes are an identifier
-abbrev pub digest_of : Result (List ℕ) Base32Fault → Result (List ℕ) CidTextFault
-digest_of (Ok bytes) = if is_cid bytes then Ok (drop 4 bytes) else Err NotProfile
-digest_of (Err fault) = Err (Base32 fault)
+abbrev pub digest_read : Result (List ℕ) Base32Fault → Result (List ℕ) CidTextFault
+digest_read (Ok bytes) = ok_or (cid_digest bytes) NotProfile
+digest_read (Err fault) = Err (Base32 fault)
 
 -- the digest of the identifier of a text, or the first fault: the first byte isn't `b`; the others aren't base32; their
 -- bytes aren't an identifier of this kind
 abbrev pub read_cid_text : List ℕ → Result (List ℕ) CidTextFault
 read_cid_text [] = Err Prefix
-read_cid_text (byte ∷ text) = if byte == 98 then digest_of (decode32 Lower text) else Err Prefix
+read_cid_text (byte ∷ text) = if byte == 98 then digest_read (decode32 Lower text) else Err Prefix
 
 -- an error is the fault of what was read, or want of memory
 abbrev pub IsFaultOf : {A : Type 0} → CidTextError → Result A CidTextFault → Type 0

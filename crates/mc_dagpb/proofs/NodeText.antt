@@ -2,35 +2,35 @@
 use Rattle.std.proofs.Common.{◌≡◌, ℕ, List, [], ◌∷◌, length, map, refl, ap, ◌∙◌, arith, Option, Some, None, Ok, inl, inr}
 use Rattle.std.proofs.lemmas.List.{append-nil}
 use Rattle.std.proofs.lemmas.List.Elements.{filter_map-append}
-use Rattle.mc_base.specs.Wire.{Field, Fields}
+use Rattle.mc_base.specs.Wire.{Field, Fields, part_of, parts_of}
 use Rattle.mc_base.specs.WireRead.{Placed, fields_in, fronts_from}
 use Rattle.mc_base.specs.Node.{AreLinks, IsNode, IsOrdered, link_field, data_field}
 use Rattle.mc_base.specs.NodeRead.{NodeFault, NodeText, node_fault, node_of, link_hashes, unless, first_of, parts_in}
 use Rattle.mc_wire.proofs.FieldFacts.{fields_are_read, fields_found}
-use Rattle.mc_dagpb.proofs.FrontFields.{field_part, field_parts, parts_of_fields}
+use Rattle.mc_dagpb.proofs.FrontFields.{parts_of_fields}
 use Rattle.mc_dagpb.proofs.LinkHash.{link_is_read}
 use Rattle.mc_dagpb.proofs.NodeLaw.{fine_fronts, is_fine}
 use Rattle.mc_dagpb.proofs.NodeOrder.{OrderedFields, ordered_fields, fine_ordered}
 use Rattle.mc_dagpb.proofs.StepFacts.{hash_of_link}
 
-link_parts : (bodies : List (List ℕ)) → field_parts 2 (map link_field bodies) ≡ bodies
+link_parts : (bodies : List (List ℕ)) → parts_of 2 (map link_field bodies) ≡ bodies
 link_parts [] = refl
 link_parts (body ∷ bodies) = ap (λ (rest : List (List ℕ)). body ∷ rest) (link_parts bodies)
 
-no_data : (bodies : List (List ℕ)) → field_parts 1 (map link_field bodies) ≡ []
+no_data : (bodies : List (List ℕ)) → parts_of 1 (map link_field bodies) ≡ []
 no_data [] = refl
 no_data (body ∷ bodies) = no_data bodies
 
 -- what ordered fields hold
-ordered_links : (fields : List Field) (bodies : List (List ℕ)) (payload : Option (List ℕ)) → IsOrdered fields (map link_field bodies) payload → field_parts 2 fields ≡ bodies
+ordered_links : (fields : List Field) (bodies : List (List ℕ)) (payload : Option (List ℕ)) → IsOrdered fields (map link_field bodies) payload → parts_of 2 fields ≡ bodies
 ordered_links fields bodies None are = rw are (link_parts bodies)
 ordered_links fields bodies (Some payload) (inl are) = rw are (link_parts bodies)
-ordered_links fields bodies (Some payload) (inr are) = rw are (filter_map-append (field_part 2) (map link_field bodies) (data_field payload ∷ []) ∙ rw append-nil (link_parts bodies))
+ordered_links fields bodies (Some payload) (inr are) = rw are (filter_map-append (part_of 2) (map link_field bodies) (data_field payload ∷ []) ∙ rw append-nil (link_parts bodies))
 
-ordered_payload : (fields : List Field) (bodies : List (List ℕ)) (payload : Option (List ℕ)) → IsOrdered fields (map link_field bodies) payload → first_of (field_parts 1 fields) ≡ payload
+ordered_payload : (fields : List Field) (bodies : List (List ℕ)) (payload : Option (List ℕ)) → IsOrdered fields (map link_field bodies) payload → first_of (parts_of 1 fields) ≡ payload
 ordered_payload fields bodies None are = rw (are, no_data bodies)
 ordered_payload fields bodies (Some payload) (inl are) = rw are
-ordered_payload fields bodies (Some payload) (inr are) = rw are (ap first_of (filter_map-append (field_part 1) (map link_field bodies) (data_field payload ∷ [])) ∙ rw (no_data bodies))
+ordered_payload fields bodies (Some payload) (inr are) = rw are (ap first_of (filter_map-append (part_of 1) (map link_field bodies) (data_field payload ∷ [])) ∙ rw (no_data bodies))
 
 -- the Hash of each link
 linked_hashes : (bodies hashes : List (List ℕ)) → AreLinks bodies hashes → link_hashes bodies ≡ hashes

@@ -48,8 +48,10 @@ pub struct NodeFault {
 /// Why a node wasn't read.
 #[derive(Clone, Copy, Debug, PartialEq, Eq, Error)]
 pub enum NodeError {
+    /// There was no memory for what the node holds.
     #[error("out of memory")]
     Memory,
+    /// The text is no node, with its first fault.
     #[error("{0}")]
     Fault(NodeFault),
 }

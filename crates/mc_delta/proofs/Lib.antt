@@ -5,6 +5,7 @@ pub mod EntryLaw
 pub mod FrontFields
 pub mod LengthFacts
 pub mod Passing
+pub mod ReadLaw
 pub mod TakeFacts
 pub mod WrittenDelta
 pub mod WrittenEntry

@@ -1,14 +1,14 @@
 -- A field that holds an element or a tombstone.
 use Rattle.std.proofs.Common.{◌≡◌, ℕ, ◌+◌, ◌-◌, ◌≤◌, List, [], ◌∷◌, ◌++◌, length, take, drop, subst, ◌∙◌, arith, None, Ok, Err, Result, OnOk, ◌⊎◌, inl, inr}
 use Rattle.std.proofs.lemmas.List.{length-take-le, length-drop, drop-take}
-use Rattle.mc_model.specs.DeltaText.{entry_fault}
+use Rattle.mc_model.specs.DeltaText.{entry_fault, element_in, tomb_in}
 use Rattle.mc_model.specs.declared.delta.Delta.{Delta}
 use Rattle.mc_model.specs.declared.delta.Element.{Element}
 use Rattle.mc_model.specs.declared.delta.Tomb.{Tomb}
 use Rattle.mc_wire.specs.Seen.{EndsAt, fronts_at, field_at}
 use Rattle.mc_wire.specs.declared.field.Content.TheVariants.{Part as PartAt}
 use Rattle.mc_wire.specs.declared.field.Field.{Field as PlacedField}
-use Rattle.mc_delta.specs.Deltas.{IsEntryFault, IsFieldFault, TakesField, field_fault, element_in, tomb_in}
+use Rattle.mc_delta.specs.Deltas.{IsEntryFault, IsFieldFault, TakesField, field_fault}
 use Rattle.mc_delta.specs.declared.fault.DeltaError.{DeltaError}
 use Rattle.mc_delta.specs.declared.fault.DeltaError.TheVariants.{Memory, Fault}
 

@@ -3,10 +3,10 @@ use Rattle.std.proofs.Common.{◌≡◌, ℕ, ◌<◌, ◌≤◌, ◌^◌, List,
 use Rattle.std.proofs.lemmas.List.{append-nil}
 use Rattle.std.specs.Str.{is_utf8}
 use Rattle.mc_base.specs.Wire.{Field, Fields, IsPiece, Part, part_field_bytes}
+use Rattle.mc_base.specs.WireRead.{fields_of}
 use Rattle.mc_model.specs.DeltaText.{some_part, entry_bytes, entry_of, last_part}
 use Rattle.mc_wire.proofs.FieldFacts.{fields_are_read}
 use Rattle.mc_wire.proofs.WrittenFacts.{part_field_is_written}
-use Rattle.mc_delta.proofs.EntryFacts.{entry_read}
 use Rattle.mc_delta.proofs.EntryLaw.{are_texts}
 use Rattle.mc_delta.proofs.LengthFacts.{part_field_len}
 
@@ -54,6 +54,10 @@ entry_texts (k ∷ key) [] [] key_text id_text = rw key_text
 entry_texts (k ∷ key) [] (v ∷ value) key_text id_text = rw key_text
 entry_texts (k ∷ key) (i ∷ id) [] key_text id_text = rw (key_text, id_text)
 entry_texts (k ∷ key) (i ∷ id) (v ∷ value) key_text id_text = rw (key_text, id_text)
+
+-- fields that are all text are an entry
+entry_read : (text : List ℕ) (fields : List Field) → fields_of text ≡ Some fields → are_texts fields ≡ true → entry_of text ≡ Some fields
+entry_read text fields read texts = rw (read, texts)
 
 -- a written entry is read as its fields
 pub entry_is_read : (key id value : List ℕ) → is_utf8 key ≡ true → is_utf8 id ≡ true → length (entry_bytes key id value) < 2 ^ 64 → entry_of (entry_bytes key id value) ≡ Some (entry_fields_of key id value)

@@ -1,7 +1,7 @@
 -- What reading a delta gives.
-use Rattle.std.specs.Prelude.{◌≡◌, ℕ, List, [], ◌∷◌, ◌++◌, ◌==◌, ◌||◌, if◌then◌else◌, Option, Some, None, ⊤, unwrap_or}
+use Rattle.std.specs.Prelude.{◌≡◌, ℕ, List, [], ◌∷◌, ◌++◌, ◌==◌, ◌||◌, if◌then◌else◌, Option, Some, None, Err, ⊤, unwrap_or}
 use Rattle.mc_base.specs.Wire.{Field}
-use Rattle.mc_model.specs.DeltaText.{DeltaFault, delta_of, delta_fault, element_of, tomb_of, entry_of, entry_fault, entry_part_fault, part_of, varint_of}
+use Rattle.mc_model.specs.DeltaText.{DeltaFault, delta_of, delta_read, element_in, tomb_in, entry_fault, entry_part_fault, part_of, varint_of}
 use Rattle.mc_model.specs.declared.delta.Delta.{Delta}
 use Rattle.mc_model.specs.declared.delta.Element.{Element}
 use Rattle.mc_model.specs.declared.delta.Tomb.{Tomb}
@@ -14,7 +14,7 @@ use Rattle.mc_delta.specs.declared.fault.DeltaError.TheVariants.{Memory, Fault}
 -- a text that is no delta, and its first fault
 abbrev pub IsFault : List ℕ → DeltaError → Type 0
 IsFault text Memory = ⊤
-IsFault text (Fault fault) = (delta_of text ≡ None) × (delta_fault text ≡ Some (fault_named fault))
+IsFault text (Fault fault) = (delta_of text ≡ None) × (delta_read text ≡ Err (fault_named fault))
 
 abbrev pub IsEntryFault : List ℕ → ℕ → DeltaError → Type 0
 IsEntryFault text from Memory = ⊤
@@ -27,13 +27,6 @@ field_fault end field = if field.number == 1 || field.number == 2 then entry_par
 abbrev pub IsFieldFault : List ℕ → PlacedField → DeltaError → Type 0
 IsFieldFault text field Memory = ⊤
 IsFieldFault text field (Fault fault) = field_fault field.next (field_at text field) ≡ Some (fault_named fault)
-
--- the element or tombstone of an entry; what can't be read has no fields
-abbrev pub element_in : List ℕ → Element
-element_in body = element_of (unwrap_or (entry_of body) [])
-
-abbrev pub tomb_in : List ℕ → Tomb
-tomb_in body = tomb_of (unwrap_or (entry_of body) [])
 
 abbrev pub with_element : Option (List ℕ) → List Element → List Element
 with_element None elements = elements

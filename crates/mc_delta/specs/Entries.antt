@@ -1,19 +1,16 @@
 -- What an entry holds.
-use Rattle.std.specs.Prelude.{◌≡◌, ℕ, List, drop, Some, None, unwrap_or}
-use Rattle.mc_base.specs.Wire.{Field}
-use Rattle.mc_model.specs.DeltaText.{entry_of, entry_fault, text_fault, part_of, last_part}
+use Rattle.std.specs.Prelude.{◌≡◌, ℕ, List, drop, None, unwrap_or}
+use Rattle.mc_model.specs.DeltaText.{entry_fault, text_fault, part_of, last_in}
 use Rattle.mc_wire.specs.Seen.{fronts_at, field_at}
 use Rattle.mc_wire.specs.declared.field.Field.{Field as PlacedField}
 use Rattle.mc_delta.specs.declared.entry.Entry.{Entry}
 
 -- the entry at an offset of a text that ends with it
 pub record EntryAt (text : List ℕ) (from : ℕ) (entry : Entry) : Type 0 where
-  pub fields : List Field
-  pub read : entry_of (drop from text) ≡ Some fields
   pub fine : entry_fault (fronts_at text from) ≡ None
-  pub key : entry.key.now ≡ last_part 1 fields
-  pub id : entry.id.now ≡ last_part 2 fields
-  pub value : entry.value.now ≡ last_part 3 fields
+  pub key : entry.key.now ≡ last_in 1 (drop from text)
+  pub id : entry.id.now ≡ last_in 2 (drop from text)
+  pub value : entry.value.now ≡ last_in 3 (drop from text)
 
 -- an entry after a field at this offset
 pub record TakesField (text : List ℕ) (at : ℕ) (field : PlacedField) (old new : Entry) : Type 0 where

@@ -13,7 +13,10 @@ use thiserror::Error;
 pub enum DeltaFaultKind {
     /// A field can't be read.
     #[error("{fault}")]
-    Wire { fault: WireFault },
+    Wire {
+        /// Why it can't.
+        fault: WireFault,
+    },
     /// A key or an id isn't UTF-8.
     #[error("a key or an id is no text")]
     TextFault,
@@ -23,15 +26,19 @@ pub enum DeltaFaultKind {
 #[derive(Clone, Copy, Debug, PartialEq, Eq, Error)]
 #[error("{kind} at {at}")]
 pub struct DeltaFault {
+    /// What is wrong.
     pub kind: DeltaFaultKind,
+    /// The offset, counted in bytes from 0.
     pub at: usize,
 }
 
 /// Why a delta wasn't read.
 #[derive(Clone, Copy, Debug, PartialEq, Eq, Error)]
 pub enum DeltaError {
+    /// Want of memory, which says nothing of the text.
     #[error("out of memory")]
     Memory,
+    /// The text is no delta, and this is its first fault.
     #[error("{0}")]
     Fault(DeltaFault),
 }

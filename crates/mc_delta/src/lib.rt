@@ -9,7 +9,7 @@ mod read;
 mod write;
 
 pub use fault::{DeltaError, DeltaFault, DeltaFaultKind};
-pub use laws::{faults_are_told, written_deltas_are_read};
+pub use laws::{deltas_are_read, written_deltas_are_read};
 pub use length::len_delta;
 pub use read::read_delta;
 pub use write::write_delta;

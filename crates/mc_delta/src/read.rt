@@ -1,8 +1,8 @@
 // Reading a delta.
-ghost use Rattle.std.specs.Prelude.{◌≡◌, ◌≤◌, ◌++◌, ◌∷◌, [], length, drop, Some, None, IfOk, IfErr, OnOk};
-ghost use Rattle.mc_model.specs.DeltaText.{delta_of, entry_fault};
+ghost use Rattle.std.specs.Prelude.{◌≡◌, ◌≤◌, ◌++◌, ◌∷◌, [], length, drop, Some, None, Ok, IfOk, IfErr, OnOk};
+ghost use Rattle.mc_model.specs.DeltaText.{delta_of, delta_read, element_in, tomb_in, entry_fault};
 ghost use Rattle.mc_wire.specs.Seen.{fronts_at, EndsAt};
-ghost use Rattle.mc_delta.specs.Deltas.{IsFault, IsEntryFault, IsFieldFault, TakesField, element_in, tomb_in};
+ghost use Rattle.mc_delta.specs.Deltas.{IsFault, IsEntryFault, IsFieldFault, TakesField};
 
 use crate::DeltaError;
 use crate::entry::{Entry, read_entry};
@@ -22,6 +22,7 @@ const PRIORITY: u64 = 3;
 /// is the answer for a text that is no delta.
 pub fn read_delta(alloc: Global, bytes: &[u8]) -> Result<Delta, DeltaError>
     ensures delta { IfOk result (λ delta. delta_of bytes.now ≡ Some delta) }
+    ensures read { IfOk result (λ delta. delta_read bytes.now ≡ Ok delta) }
     ensures fault { IfErr result (λ error. IsFault bytes.now error) }
 {
     let mut delta = Delta {

@@ -1,7 +1,7 @@
 -- Planned faults: which calls of a keeper, of its desks and of who makes keepers fail, where that is known.
-use Rattle.std.specs.Prelude.{◌≡◌, ⊤, ℕ, ◌+◌, ◌-◌, ◌^◌, ◌<◌, ◌≤◌, min, nat_eq, Bool, true, false, ◌||◌, List, [], ◌∷◌, drop, slice_get, Option, Some, None, unwrap_or, Result, Ok, Err, IfOk, if◌then◌else◌}
+use Rattle.std.specs.Prelude.{◌≡◌, ⊤, ℕ, ◌<◌, ◌≤◌, Bool, true, false, ◌||◌, List, [], ◌∷◌, drop, slice_get, Option, Some, None, unwrap_or, Result, Ok, Err, IfOk, if◌then◌else◌}
 use Rattle.std.specs.Result.{is_ok}
-use Rattle.std.specs.List.{list_any}
+pub use Rattle.mc_base.specs.Plan.{next_number, is_planned}
 use Rattle.mc_model.specs.Kept.{Kept}
 use Rattle.mc_keep.specs.declared.error.KeepError.{KeepError}
 use Rattle.mc_keep.specs.declared.error.KeepError.TheVariants.{Failed, Memory}
@@ -30,13 +30,6 @@ pub record MakeSchedule : Type 0 where
 -- nothing fails
 abbrev pub no_schedule : Schedule
 no_schedule = record { reads = []; before = []; after = []; reads_made = 0; commits_made = 0; desks = [] }
-
--- the number of the call after so many; numbers stop at their type's end
-abbrev pub next_number : ℕ → ℕ
-next_number made = min (made + 1) (2 ^ 64 - 1)
-
-abbrev pub is_planned : List ℕ → ℕ → Bool
-is_planned numbers number = list_any (nat_eq number) numbers
 
 -- whether a call failed
 abbrev pub is_fault : {T : Type 0} → Result T KeepError → Bool

@@ -1,20 +1,18 @@
 -- Deltas as Protocol Buffers messages (Protocol Buffers documentation, "Encoding"): a delta has elements (1, each an entry),
 -- tombstones (2, each an entry) and a priority (3, a varint), and an entry has a key (1), an id (2) and a value (3).
-use Rattle.std.specs.Prelude.{ℕ, ◌+◌, ◌-◌, List, [], ◌∷◌, ◌++◌, length, map, Bool, true, ◌==◌, ◌&&◌, ◌||◌, not, if◌then◌else◌, Option, Some, None}
+use Rattle.std.specs.Prelude.{ℕ, ◌+◌, ◌-◌, List, [], ◌∷◌, ◌++◌, length, map, Bool, true, ◌==◌, ◌&&◌, ◌||◌, not, if◌then◌else◌, Option, Some, None, Result, Ok, Err}
 use Rattle.std.specs.List.{list_all, filter_map, flat_map}
 use Rattle.std.specs.Option.{option_and_then, option_map, option_or}
 use Rattle.std.specs.Str.{is_utf8}
 use Rattle.mc_base.specs.Wire.{Field, Content, Varint, Part, varint_field_bytes, part_field_bytes}
+pub use Rattle.mc_base.specs.Wire.{part_of, parts_of}
 use Rattle.mc_base.specs.WireRead.{WireFault, Front, NoKey, NoContent, Whole, Placed, fields_of, fronts_from}
+use Rattle.mc_base.specs.NodeRead.{parts_in}
 use Rattle.mc_model.specs.declared.delta.Delta.{Delta}
 use Rattle.mc_model.specs.declared.delta.Element.{Element}
 use Rattle.mc_model.specs.declared.delta.Tomb.{Tomb}
 
--- what is held with the wire type of bytes, or of a varint
-abbrev pub content_part : Content → Option (List ℕ)
-content_part (Part bytes) = Some bytes
-content_part content = None
-
+-- what is held with the wire type of a varint
 abbrev pub content_varint : Content → Option ℕ
 content_varint (Varint value) = Some value
 content_varint content = None
@@ -23,15 +21,9 @@ abbrev pub is_text : Content → Bool
 is_text (Part bytes) = is_utf8 bytes
 is_text content = true
 
--- what a field of this number holds, where it has the wire type of bytes, or of a varint
-abbrev pub part_of : ℕ → Field → Option (List ℕ)
-part_of number field = if field.number == number then content_part field.content else None
-
+-- what a field of this number holds, where it has the wire type of a varint
 abbrev pub varint_of : ℕ → Field → Option ℕ
 varint_of number field = if field.number == number then content_varint field.content else None
-
-abbrev pub parts_of : ℕ → List Field → List (List ℕ)
-parts_of number fields = filter_map (part_of number) fields
 
 -- the last one, or this where there is none
 abbrev pub last_or : {A : Type 0} → A → List A → A
@@ -111,6 +103,39 @@ delta_fault_in (placed ∷ rest) = option_or (delta_front_fault placed.at placed
 
 unfoldable pub delta_fault : List ℕ → Option DeltaFault
 delta_fault text = delta_fault_in (fronts_from 0 text)
+
+-- the last bytes of this number in an entry
+abbrev pub last_in : ℕ → List ℕ → List ℕ
+last_in number entry = last_or [] (parts_in number (fronts_from 0 entry))
+
+-- the element or the tombstone of an entry
+abbrev pub element_in : List ℕ → Element
+element_in entry = record { key = last_in 1 entry; value = last_in 3 entry }
+
+abbrev pub tomb_in : List ℕ → Tomb
+tomb_in entry = record { key = last_in 1 entry; id = last_in 2 entry }
+
+-- the varint of a field of this number
+abbrev pub varint_in : ℕ → Front → Option ℕ
+varint_in number (Whole field len) = varint_of number field
+varint_in number front = None
+
+-- the varints of the fields of this number, in order
+abbrev pub varints_in : ℕ → List Placed → List ℕ
+varints_in number fronts = filter_map (λ placed. varint_in number placed.front) fronts
+
+-- what fields without a fault say
+abbrev pub delta_in : List Placed → Delta
+delta_in fronts =
+    record { elements = map element_in (parts_in 1 fronts); tombstones = map tomb_in (parts_in 2 fronts); priority = last_or 0 (varints_in 3 fronts) }
+
+abbrev pub delta_unless : Option DeltaFault → Delta → Result Delta DeltaFault
+delta_unless None delta = Ok delta
+delta_unless (Some fault) delta = Err fault
+
+-- What a text says as a delta, or its first fault: the reading of `delta_of`, which has a fault exactly where there is no delta.
+unfoldable pub delta_read : List ℕ → Result Delta DeltaFault
+delta_read text = delta_unless (delta_fault text) (delta_in (fronts_from 0 text))
 
 -- the written spellings: what is empty or 0 is left out
 abbrev pub some_part : ℕ → List ℕ → List ℕ

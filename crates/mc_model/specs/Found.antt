@@ -24,7 +24,7 @@ damage_number (TooLarge len) = 1
 damage_number (WrongDigest found) = 2
 damage_number (NotDagPb fault) = 3
 damage_number (BadLink index) = 4
-damage_number (BadDelta first) = 5
+damage_number (BadDelta fault) = 5
 
 -- what another replica offers for a block: bytes that were planted there, and its stored block
 pub record PeerOffers : Type 0 where

@@ -1,13 +1,13 @@
 -- Bytes that are offered under a content identifier: the block that they are, or the first damage.
-use Rattle.std.specs.Prelude.{ℕ, ◌+◌, List, [], ◌∷◌, length, drop, nat_le, not, Bool, if◌then◌else◌, Option, Some, None, Result, Ok, Err, unwrap_or}
+use Rattle.std.specs.Prelude.{ℕ, ◌+◌, List, [], ◌∷◌, length, nat_le, not, Bool, if◌then◌else◌, Option, Some, None, Result, Ok, Err, option_map, unwrap_or}
 use Rattle.std.specs.Result.{is_ok, result_ok}
 use Rattle.std.specs.Str.{bytes_eq}
-use Rattle.mc_base.specs.Cid.{is_cid, digest_of}
+use Rattle.mc_base.specs.Cid.{cid_digest, digest_of}
 use Rattle.mc_base.specs.NodeRead.{NodeFault, NodeText, node_of}
 use Rattle.mc_base.specs.declared.cid.Cid.{Cid}
 use Rattle.mc_model.specs.declared.block.Block.{Block}
 use Rattle.mc_model.specs.declared.delta.Delta.{Delta}
-use Rattle.mc_model.specs.DeltaText.{DeltaFault, delta_of, delta_fault}
+use Rattle.mc_model.specs.DeltaText.{DeltaFault, delta_read}
 
 -- the bytes of a block
 abbrev pub block_max : ℕ
@@ -19,11 +19,11 @@ pub data Damage : Type 0 where
   WrongDigest : (found : List ℕ) → Damage
   NotDagPb : NodeFault → Damage
   BadLink : (index : ℕ) → Damage
-  BadDelta : (first : Option DeltaFault) → Damage
+  BadDelta : DeltaFault → Damage
 
 -- the identifier with these 36 bytes
 abbrev pub cid_of_bytes : List ℕ → Option Cid
-cid_of_bytes bytes = if is_cid bytes then Some (record { 0 = drop 4 bytes }) else None
+cid_of_bytes bytes = option_map (λ digest. record { 0 = digest }) (cid_digest bytes)
 
 -- one identifier, and those of the links after it
 abbrev pub onto_links : ℕ → Option Cid → Result (List Cid) Damage → Result (List Cid) Damage
@@ -40,15 +40,15 @@ links_from index (link ∷ links) = onto_links index (cid_of_bytes link) (links_
 abbrev pub empty_delta : Delta
 empty_delta = record { elements = []; tombstones = []; priority = 0 }
 
--- a delta; where there is none the data is no delta, whatever its first fault
-abbrev pub delta_or : Option Delta → Option DeltaFault → Result Delta Damage
-delta_or (Some delta) first = Ok delta
-delta_or None first = Err (BadDelta first)
+-- a text's delta, or the damage that its first fault is
+abbrev pub delta_or_damage : Result Delta DeltaFault → Result Delta Damage
+delta_or_damage (Ok delta) = Ok delta
+delta_or_damage (Err fault) = Err (BadDelta fault)
 
 -- data as a delta: none is the empty delta
 abbrev pub data_of : Option (List ℕ) → Result Delta Damage
 data_of None = Ok empty_delta
-data_of (Some data_bytes) = delta_or (delta_of data_bytes) (delta_fault data_bytes)
+data_of (Some data_bytes) = delta_or_damage (delta_read data_bytes)
 
 -- the block of this identifier with these links and this delta
 abbrev pub block_with : Cid → Result (List Cid) Damage → Result Delta Damage → Result Block Damage

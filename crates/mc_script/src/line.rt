@@ -30,7 +30,11 @@ impl From<AllocError> for LineError {
 }
 
 /// Reads a line, which comes without its line feed. `None` is a line without a reply: it is empty, or begins with `#`.
-/// `Bad` comes exactly where the line is not UTF-8, or its words, which one space parts, are no command.
+/// Any other line is words, the name of a command and those that `Command` says, with exactly one space between two of
+/// them and none at either end. Only the space parts words: a tab, a carriage return or a NUL is part of one.
+/// `Bad` comes exactly where the line is not UTF-8, or its words are no command.
+///
+/// No limit on a line or a script is looked at here: how long they may be is the caller's.
 pub fn read_line(alloc: Global, line: &[u8]) -> Result<Option<Command>, LineError>
     ensures ok { IfOk result (λ read. line_of line.now ≡ Some read) }
     ensures bad { IsErrOf result LineError.Bad → line_of line.now ≡ None }

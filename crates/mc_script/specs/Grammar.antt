@@ -1,0 +1,89 @@
+-- The commands, one row for each: its name and the words behind it; and which lines are lines of a command.
+use Rattle.std.specs.Prelude.{◌≡◌, ℕ, ◌+◌, ◌<◌, ◌≤◌, ◌^◌, ◌==◌, ◌&&◌, ◌++◌, not, nat_lt, Bool, true, List, [], ◌∷◌, length, map, codes, ⊤}
+use Rattle.std.specs.Fmt.{decimal}
+use Rattle.std.specs.List.{AllByRecursion, join_with_byte, list_all, repeat}
+use Rattle.std.specs.Str.{IsUtf8, str_to_ascii_lowercase}
+use Rattle.hex.specs.Hex.{IsBytes}
+use Rattle.mc_script.specs.ReplyText.{hex_text}
+use Rattle.mc_script.specs.declared.command.Command.{Command}
+use Rattle.mc_script.specs.declared.command.Command.TheVariants.{Put, Del, Begin, BatchPut, BatchDel, Commit, Get, Has, Query, Heads}
+
+-- what a word behind a command's name says
+pub data Part : Type 0 where
+  Replica : ℕ → Part
+  Key : List ℕ → Part
+  Prefix : List ℕ → Part
+  Value : List ℕ → Part
+  Number : ℕ → Part
+
+-- each command's name, and the words behind it
+abbrev pub form : Command → List ℕ × List Part
+form (Put r key bytes) = (codes "put", Replica r ∷ Key key ∷ Value bytes ∷ [])
+form (Del r key) = (codes "del", Replica r ∷ Key key ∷ [])
+form (Begin r) = (codes "begin", Replica r ∷ [])
+form (BatchPut r key bytes) = (codes "bput", Replica r ∷ Key key ∷ Value bytes ∷ [])
+form (BatchDel r key) = (codes "bdel", Replica r ∷ Key key ∷ [])
+form (Commit r) = (codes "commit", Replica r ∷ [])
+form (Get r key) = (codes "get", Replica r ∷ Key key ∷ [])
+form (Has r key) = (codes "has", Replica r ∷ Key key ∷ [])
+form (Query r prefix skip take) = (codes "query", Replica r ∷ Prefix prefix ∷ Number skip ∷ Number take ∷ [])
+form (Heads r) = (codes "heads", Replica r ∷ [])
+
+-- at least one byte, and no space
+abbrev pub is_whole_word : List ℕ → Bool
+is_whole_word word = nat_lt 0 (length word) && list_all (λ byte. not (byte == 32)) word
+
+-- the word that is written: the letter of a replica, a key or a prefix as it is, a value in lower-case hexadecimal digits
+-- or as a dash, a number in decimal digits without leading zeros
+abbrev pub word_of : Part → List ℕ
+word_of (Replica r) = (97 + r) ∷ []
+word_of (Key key) = key
+word_of (Prefix prefix) = prefix
+word_of (Value bytes) = hex_text bytes
+word_of (Number number) = decimal number
+
+-- whether a part has a word
+abbrev pub HasWord : Part → Type 0
+HasWord (Replica r) = r < 8
+HasWord (Key key) = IsUtf8 key × (is_whole_word key ≡ true)
+HasWord (Prefix prefix) = IsUtf8 prefix × (is_whole_word prefix ≡ true)
+HasWord (Value bytes) = IsBytes bytes
+HasWord (Number number) = number < 2 ^ 64
+
+-- whether a word says a part: hexadecimal digits may be of either case, and zeros may lead a number of up to 20 digits
+abbrev pub Says : List ℕ → Part → Type 0
+Says word (Replica r) = (r < 8) × (word ≡ (97 + r) ∷ [])
+Says word (Key key) = (word ≡ key) × (is_whole_word key ≡ true)
+Says word (Prefix prefix) = (word ≡ prefix) × (is_whole_word prefix ≡ true)
+Says word (Value bytes) = IsBytes bytes × (str_to_ascii_lowercase word ≡ hex_text bytes)
+Says word (Number number) =
+    (number < 2 ^ 64) × (length word ≤ 20) × ((zeros : ℕ) × (word ≡ repeat zeros (48 ∷ []) ++ decimal number))
+
+abbrev pub Say : List (List ℕ) → List Part → Type 0
+Say [] [] = ⊤
+Say (word ∷ words) (part ∷ parts) = Says word part × Say words parts
+Say [] (part ∷ parts) = ⊥
+Say (word ∷ words) [] = ⊥
+
+-- the line of a command: its name and its words, with one space between two of them
+abbrev pub command_text : Command → List ℕ
+command_text command = join_with_byte 32 ((form command).0 ∷ map word_of (form command).1)
+
+-- whether the words of a command can be written
+abbrev pub IsWritable : Command → Type 0
+IsWritable command = AllByRecursion HasWord (form command).1
+
+-- a line of a command is UTF-8, and its name and words that say its parts, with one space between two of them
+pub record IsLineOf (command : Command) (line : List ℕ) : Type 0 where
+  pub words : List (List ℕ)
+  pub text : IsUtf8 line
+  pub said : Say words (form command).1
+  pub joined : line ≡ join_with_byte 32 ((form command).0 ∷ words)
+
+-- a line without a reply is UTF-8, and empty or a comment, which begins with `#`
+abbrev pub IsComment : List ℕ → Type 0
+IsComment [] = ⊤
+IsComment (first ∷ rest) = first ≡ 35
+
+abbrev pub IsSilent : List ℕ → Type 0
+IsSilent line = IsUtf8 line × IsComment line
