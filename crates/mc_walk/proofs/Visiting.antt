@@ -1,12 +1,12 @@
 -- While a walk goes on its visits are of the positions in order, and of the blocks that stood there at its beginning.
-use Rattle.std.proofs.Common.{◌≡◌, ℕ, ◌+◌, ◌-◌, ◌≤◌, ◌<◌, suc, Bool, true, false, List, [], ◌∷◌, ◌++◌, Option, Some, None, sym, refl, ap, ◌∙◌, arith, length, subst}
+use Rattle.std.proofs.Common.{◌≡◌, ℕ, ◌+◌, ◌-◌, ◌≤◌, ◌<◌, suc, true, List, [], ◌∷◌, ◌++◌, Option, Some, None, sym, refl, ap, ◌∙◌, arith, length, subst}
 use Rattle.std.specs.Prelude.{take, drop}
 use Rattle.std.specs.List.{list_all, range_with_len}
 use Rattle.std.proofs.lemmas.List.{take-append-le, drop-append-le, append_assoc, append-nil, length-drop}
 use Rattle.std.proofs.Math.Seq.{take-add, take-length}
 use Rattle.std.proofs.lemmas.Bool.{and_parts}
 use Rattle.mc_base.specs.declared.cid.Cid.{Cid}
-use Rattle.mc_model.specs.Events.{Event, Store, Process, Hear, Want, GiveBack, Missing, Bad, Requeue, WalkBegin, WalkVisit, WalkEnd, Batch, Stop, Open, IsVisiting, IsVisited, MayRun, MayCome, MayComeAll, visited, runs, happens, after}
+use Rattle.mc_model.specs.Events.{Event, Store, Process, Hear, Want, GiveBack, Missing, Bad, Requeue, WalkBegin, WalkVisit, WalkEnd, Batch, Stop, Open, IsVisiting, IsVisited, MayRun, MayCome, MayComeAll, visited, runs, after}
 use Rattle.mc_model.specs.State.{Durable, Running, State, Walk}
 use Rattle.mc_walk.specs.Visits.{position_in, position_by, positions, block_in, block_at, blocks, keeps_walking, walk_in, running, IsWalking, IsWalked, IsSoFar}
 

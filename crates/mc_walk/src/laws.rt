@@ -1,5 +1,5 @@
 // What a walk does among a replica's events.
-ghost use Rattle.std.specs.Prelude.{◌≡◌, ◌≤◌, ℕ, true, List, ◌∷◌, length, take, Some, None};
+ghost use Rattle.std.specs.Prelude.{◌≡◌, ℕ, true, List, ◌∷◌, length, Some, None};
 ghost use Rattle.std.specs.List.{range_with_len};
 ghost use Rattle.mc_model.specs.Wanted.{want_all};
 ghost use Rattle.mc_model.specs.State.{Durable, Walk, Running};
