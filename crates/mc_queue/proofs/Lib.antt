@@ -1,0 +1,2 @@
+pub mod LiveFacts
+pub mod StoreFacts

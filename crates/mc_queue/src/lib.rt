@@ -1,0 +1,7 @@
+//! The wanted set: the blocks that a replica has heard of and not processed, in four lists.
+#![tactic(auto)]
+
+mod marks;
+mod ring;
+mod store;
+mod ticket;
