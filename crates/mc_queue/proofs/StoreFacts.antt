@@ -11,7 +11,8 @@ use Rattle.mc_queue.specs.declared.ticket.Ticket.{Ticket}
 use Rattle.mc_queue.specs.declared.ring.Ring.{Ring}
 use Rattle.mc_queue.specs.declared.store.Store.{Store}
 use Rattle.mc_queue.specs.Tickets.{same_part, goes_to, is_in, is_at, is_taken, live, cids_in, bad_in, RingFits}
-use Rattle.mc_queue.specs.Fits.{IsReady, RingsFit, AreReady, RingTurned, Turned, total, shown_at, moved}
+use Rattle.mc_queue.specs.Fits.{IsReady, RingsFit, AreReady, RingTurned, Turned, IsRoomy, Fits, total, shown_at, moved}
+use Rattle.indexmap.specs.IndexMap.{get, spare}
 use Rattle.mc_queue.proofs.LiveFacts.{Sets, ring_left, ring_came, cids_left, bad_left, cids_came, bad_came, ring_number}
 
 -- the mark of a block whose ticket comes there
@@ -19,7 +20,7 @@ abbrev pub mark_to : Option Part → ℕ → Option Mark
 mark_to None stamp = None
 mark_to (Some to) stamp = Some (record { part = to; stamp = stamp })
 
-no_part : false ≡ true → ⊥
+pub no_part : false ≡ true → ⊥
 no_part h = absurd (let f : false ≡ true = h in cc)
 
 pub part_is : (a b : Part) → same_part a b ≡ true → a ≡ b
@@ -149,3 +150,28 @@ moves_total at after old new was to ticket m =
       least Flight old.flight.count (ring_number at Flight old.flight.tickets.items old.flight.count old.next m.fits.flight ticket.cid),
       least Missing old.missing.count (ring_number at Missing old.missing.tickets.items old.missing.count old.next m.fits.missing ticket.cid),
       least Bad old.bad.count (ring_number at Bad old.bad.tickets.items old.bad.count old.next m.fits.bad ticket.cid))
+
+pub out_of : (to part : Part) (before now : Option Mark) → same_part to part ≡ true → is_in to before ≡ false → now ≡ before → is_in part now ≡ false
+out_of to part before now g out e = ap (is_in part) e ∙ subst (λ (p : Part). is_in p before ≡ false) (part_is to part g) out
+
+pub none_out : (part : Part) (before now : Option Mark) → is_some before ≡ false → now ≡ before → is_in part now ≡ false
+none_out part None now a e = ap (is_in part) e
+none_out part (Some mark) now a e = absurd (let f : true ≡ false = a in cc)
+
+pub nothing_comes : (at : Cid → Option Mark) (store : Store) → AreReady at store None
+nothing_comes at store = record { waiting = λ h. absurd (no_part h); flight = λ h. absurd (no_part h); missing = λ h. absurd (no_part h); bad = λ h. absurd (no_part h) }
+
+pub settled_fits : (at : Cid → Option Mark) (old new : Store) (was : Option Mark) (to : Option Part) (ticket : Ticket) → Moves at (get same_cid new.marks) old new was to ticket → IsRoomy old
+    → cond (is_some to) 1 0 + new.room ≤ old.room + cond (is_some was) 1 0 → new.room ≤ spare new.marks → Fits new
+settled_fits at old new was to ticket moves roomy sum marks =
+    let all = moves_total at (get same_cid new.marks) old new was to ticket moves in
+    record {
+      rings = moves_fit at (get same_cid new.marks) old new was to ticket moves;
+      roomy = record {
+        marks = marks;
+        waiting = omega (arith, all, sum, roomy.waiting, moves.turned.waiting.capacity);
+        flight = omega (arith, all, sum, roomy.flight, moves.turned.flight.capacity);
+        missing = omega (arith, all, sum, roomy.missing, moves.turned.missing.capacity);
+        bad = omega (arith, all, sum, roomy.bad, moves.turned.bad.capacity);
+      };
+    }

@@ -79,8 +79,6 @@ pub record Turned (old new : Store) (was : Option Mark) (to : Option Part) (tick
   pub flight : RingTurned old.flight new.flight Flight was to ticket
   pub missing : RingTurned old.missing new.missing Missing was to ticket
   pub bad : RingTurned old.bad new.bad Bad was to ticket
-  pub marks : new.marks ≡ old.marks
-  pub room : new.room ≡ old.room
   pub later : ticket.stamp ≤ new.next
   pub last : (nat_lt ticket.stamp new.next || nat_lt (2 ^ 64 - 2) new.next) ≡ true
 

@@ -44,7 +44,7 @@ pub(crate) fn drop_mark(marks: &mut IndexMap<Cid, Mark>, cid: &Cid)
 
 pub(crate) fn reserve_marks(marks: &mut IndexMap<Cid, Mark>, rows: usize) -> Result<(), AllocError>
     ensures ok { OnOk result (rows ≤ spare marks.new) }
-    ensures entries { marks.new.entries ≡ marks.old.entries }
+    ensures marks { get same_cid marks.new ≡ get same_cid marks.old }
     ensures spare { spare marks.old ≤ spare marks.new }
 {
     marks.reserve(rows)
