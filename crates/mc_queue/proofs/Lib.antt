@@ -1,2 +1,3 @@
 pub mod LiveFacts
 pub mod StoreFacts
+pub mod MoveFacts

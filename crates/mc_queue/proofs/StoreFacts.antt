@@ -47,7 +47,7 @@ part_sum Flight = refl
 part_sum Missing = refl
 part_sum Bad = refl
 
-in_sum : (mark : Option Mark) → cond (is_in Waiting mark) 1 0 + (cond (is_in Flight mark) 1 0 + (cond (is_in Missing mark) 1 0 + cond (is_in Bad mark) 1 0)) ≡ cond (is_some mark) 1 0
+pub in_sum : (mark : Option Mark) → cond (is_in Waiting mark) 1 0 + (cond (is_in Flight mark) 1 0 + (cond (is_in Missing mark) 1 0 + cond (is_in Bad mark) 1 0)) ≡ cond (is_some mark) 1 0
 in_sum None = refl
 in_sum (Some mark) = part_sum mark.part
 

@@ -2,6 +2,7 @@
 #![tactic(auto)]
 
 mod marks;
+mod moves;
 mod ring;
 mod store;
 mod ticket;
