@@ -104,3 +104,28 @@ pub record HasPlace (store : Store) (to : Option Part) : Type 0 where
   pub flight : goes_to to Flight ≡ true → deque_len store.flight.tickets < deque_capacity store.flight.tickets
   pub missing : goes_to to Missing ≡ true → deque_len store.missing.tickets < deque_capacity store.missing.tickets
   pub bad : goes_to to Bad ≡ true → deque_len store.bad.tickets < deque_capacity store.bad.tickets
+
+-- the tickets of a part are the same, and there is no less room
+pub record RingKept (old new : Ring) : Type 0 where
+  pub items : new.tickets.items ≡ old.tickets.items
+  pub count : new.count ≡ old.count
+  pub capacity : deque_capacity old.tickets ≤ deque_capacity new.tickets
+
+-- the same of all parts and of the marks
+pub record Reserved (old new : Store) : Type 0 where
+  pub marks : get same_cid new.marks ≡ get same_cid old.marks
+  pub spare : spare old.marks ≤ spare new.marks
+  pub waiting : RingKept old.waiting new.waiting
+  pub flight : RingKept old.flight new.flight
+  pub missing : RingKept old.missing new.missing
+  pub bad : RingKept old.bad new.bad
+  pub next : new.next ≡ old.next
+  pub room : new.room ≡ old.room
+
+-- each part has room for so many tickets, and the table of marks for so many blocks more
+pub record HasRoom (store : Store) (blocks places : ℕ) : Type 0 where
+  pub marks : blocks ≤ spare store.marks
+  pub waiting : places ≤ deque_capacity store.waiting.tickets
+  pub flight : places ≤ deque_capacity store.flight.tickets
+  pub missing : places ≤ deque_capacity store.missing.tickets
+  pub bad : places ≤ deque_capacity store.bad.tickets

@@ -3,6 +3,10 @@
 
 mod marks;
 mod moves;
+mod queue;
+mod reserve;
 mod ring;
 mod store;
 mod ticket;
+
+pub use queue::{Counts, Queue};
