@@ -1,20 +1,18 @@
 -- What a change of one mark does to the tickets that count.
-use Rattle.std.proofs.Common.{◌≡◌, ℕ, suc, ◌+◌, ◌-◌, ◌^◌, ◌≤◌, Bool, true, false, not, cond, List, [], ◌∷◌, ◌++◌, ◌&&◌, ◌||◌, Option, Some, None, sym, refl, ap, ◌∙◌, subst, arith, length, map, filter}
+use Rattle.std.proofs.Common.{◌≡◌, ℕ, suc, ◌+◌, ◌-◌, ◌^◌, ◌≤◌, Bool, true, false, not, cond, List, [], ◌∷◌, ◌++◌, ◌&&◌, ◌||◌, Option, Some, None, sym, refl, ap, ◌∙◌, subst, arith, length, filter}
 use Rattle.std.specs.Prelude.{nat_eq, nat_lt}
-use Rattle.std.specs.List.{list_any, list_all}
 use Rattle.std.proofs.lemmas.Bool.{or_parts, and_parts}
 use Rattle.std.proofs.lemmas.Bool.Decides.{nat_tests}
-use Rattle.std.proofs.lemmas.List.{map-append, length-map, length-append, append-nil}
+use Rattle.std.proofs.lemmas.List.{map-append, length-map, length-append}
 use Rattle.std.proofs.lemmas.List.Elements.{filter-append}
 use Rattle.std.proofs.lemmas.List.Folds.{list_all-append}
 use Rattle.mc_base.specs.declared.cid.Cid.{Cid}
 use Rattle.mc_model.specs.Front.{same_cid}
-use Rattle.mc_model.specs.Graph.{times, has}
+use Rattle.mc_model.specs.Graph.{times}
 use Rattle.mc_model.specs.Wanted.{bad_cids, others, bad_others}
-use Rattle.mc_model.proofs.Counts.{cid_is, cid_itself, same_cid-symm, times-append, times-one}
+use Rattle.mc_model.proofs.Counts.{cid_itself, same_cid-symm, times-append, times-one}
 use Rattle.mc_model.proofs.Held.{others_times}
 use Rattle.mc_queue.specs.declared.ticket.Part.{Part}
-use Rattle.mc_queue.specs.declared.ticket.Part.TheVariants.{Waiting, Flight, Missing, Bad}
 use Rattle.mc_queue.specs.declared.ticket.Mark.{Mark}
 use Rattle.mc_queue.specs.declared.ticket.Ticket.{Ticket}
 use Rattle.mc_queue.specs.Tickets.{same_part, is_in, is_at, is_live, live, cids_in, bad_in, are_before, is_taken, RingFits}

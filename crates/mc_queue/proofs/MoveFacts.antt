@@ -1,23 +1,23 @@
 -- The moves as functions of the four lists.
-use Rattle.std.proofs.Common.{◌≡◌, ℕ, suc, ◌+◌, ◌-◌, ◌≤◌, ◌<◌, Bool, true, false, not, cond, List, [], ◌∷◌, ◌++◌, ◌&&◌, ◌||◌, Option, Some, None, sym, refl, ap, ◌∙◌, subst, arith, length, map, filter}
-use Rattle.std.specs.Prelude.{is_some}
+use Rattle.std.proofs.Common.{◌≡◌, ℕ, suc, ◌+◌, ◌≤◌, ◌<◌, Bool, true, false, not, cond, List, [], ◌∷◌, ◌++◌, ◌||◌, Option, Some, None, sym, refl, ap, ◌∙◌, subst, arith, length, filter}
+use Rattle.std.specs.Prelude.{is_some, IfSome, IfNone}
 use Rattle.std.proofs.lemmas.List.{append_assoc, append-nil}
 use Rattle.std.proofs.lemmas.Bool.{or_left}
 use Rattle.indexmap.specs.IndexMap.{get}
 use Rattle.mc_base.specs.declared.cid.Cid.{Cid}
 use Rattle.mc_model.specs.Front.{same_cid}
 use Rattle.mc_model.specs.Graph.{times, has}
-use Rattle.mc_model.specs.Wanted.{Queue, bad_cids, wanted, others, bad_others, to_waiting, start_first, give_back, to_missing, to_bad, out_of_stuck, hear, want, without, recall, requeue}
-use Rattle.mc_model.proofs.Counts.{cid_is, cid_itself, same_cid-symm, times_has, has_times, times_none, map-filter}
+use Rattle.mc_model.specs.Wanted.{Queue, bad_cids, wanted, others, bad_others, to_waiting, start_first, give_back, to_missing, to_bad, out_of_stuck, hear, want, without, requeue}
+use Rattle.mc_model.proofs.Counts.{cid_itself, same_cid-symm, times_has, has_times, map-filter}
 use Rattle.mc_model.proofs.Held.{in_parts}
 use Rattle.mc_queue.specs.declared.ticket.Part.{Part}
 use Rattle.mc_queue.specs.declared.ticket.Part.TheVariants.{Waiting, Flight, Missing, Bad}
 use Rattle.mc_queue.specs.declared.ticket.Mark.{Mark}
 use Rattle.mc_queue.specs.declared.store.Store.{Store}
 use Rattle.mc_queue.specs.Tickets.{same_part, is_in, live, first_of}
-use Rattle.mc_queue.specs.Fits.{RingsFit, Fits, total, shown_at, shown_in, moved}
+use Rattle.mc_queue.specs.Fits.{Fits, total, shown_in, moved}
 use Rattle.mc_queue.specs.Shown.{cids_of, drained}
-use Rattle.mc_queue.proofs.LiveFacts.{bad_cids_in, others_length, ring_number}
+use Rattle.mc_queue.proofs.LiveFacts.{bad_cids_in, ring_number}
 use Rattle.mc_queue.proofs.StoreFacts.{part_is, in_sum, no_part}
 
 -- the block stands once in the part of its mark, and nowhere else
@@ -289,3 +289,12 @@ drain_end Bad q e apart =
 
 pub requeue_is : (q : Queue) → drained Bad (drained Missing q) ≡ requeue q
 requeue_is q = let waiting = append_assoc q.waiting q.missing (bad_cids q.bad) in λ i. record { waiting = waiting i; flight = q.flight; missing = []; bad = [] }
+
+-- a move that is made where a test says so
+pub shift_is : (q now target : Queue) (b t : Bool) → t ≡ b → (b ≡ true → now ≡ target) → cond b now q ≡ cond t target q
+shift_is q now target b t e f =
+    elim b as (λ z. b ≡ z → cond z now q ≡ cond z target q) [ | true ↦ f | false ↦ λ _. refl ] refl ∙ ap (λ z. cond z target q) (sym e)
+
+pub next_is : (q now : Queue) (at : Cid → Option Mark) (result : Option Cid) → result ≡ first_of q.waiting → IfSome result (λ c. now ≡ moved (Some Flight) q c 0) → IfNone result (now ≡ q) → ((c : Cid) → Stands q c (at c)) → now ≡ start_first q q.waiting
+next_is q now at (Some c) e some none s = some ∙ start_is q c (at c) (s c) (sym e)
+next_is q now at None e some none s = none ∙ ap (start_first q) (sym (first_none q.waiting (sym e)))

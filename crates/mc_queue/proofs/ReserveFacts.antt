@@ -1,5 +1,5 @@
 -- What room changes nothing of.
-use Rattle.std.proofs.Common.{◌≡◌, ℕ, ◌+◌, ◌-◌, ◌≤◌, ◌<◌, List, Option, sym, refl, ap, ◌∙◌, subst, arith}
+use Rattle.std.proofs.Common.{◌≡◌, ℕ, ◌+◌, ◌-◌, ◌≤◌, ◌<◌, List, Option, sym, ap, ◌∙◌, subst, arith}
 use Rattle.std.specs.VecDeque.{deque_capacity}
 use Rattle.indexmap.specs.IndexMap.{get, spare}
 use Rattle.mc_base.specs.declared.cid.Cid.{Cid}
@@ -11,7 +11,7 @@ use Rattle.mc_queue.specs.declared.ticket.Ticket.{Ticket}
 use Rattle.mc_queue.specs.declared.ring.Ring.{Ring}
 use Rattle.mc_queue.specs.declared.store.Store.{Store}
 use Rattle.mc_queue.specs.Tickets.{RingFits, live, cids_in, bad_in}
-use Rattle.mc_queue.specs.Fits.{Fits, RingsFit, IsRoomy, Reserved, RingKept, HasRoom, total, shown_in}
+use Rattle.mc_queue.specs.Fits.{Fits, RingsFit, Reserved, RingKept, HasRoom, total, shown_in}
 
 ring_kept : (at after : Cid → Option Mark) (part : Part) (old new : Ring) (next more : ℕ) → after ≡ at → more ≡ next → RingKept old new → RingFits at part old.tickets.items old.count next → RingFits after part new.tickets.items new.count more
 ring_kept at after part old new next more e n kept fits =

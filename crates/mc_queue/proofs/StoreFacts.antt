@@ -1,16 +1,16 @@
 -- What a move of one block does to the four parts.
-use Rattle.std.proofs.Common.{◌≡◌, ℕ, suc, ◌+◌, ◌-◌, ◌^◌, ◌≤◌, ◌<◌, Bool, true, false, not, cond, List, [], ◌∷◌, ◌++◌, ◌&&◌, ◌||◌, Option, Some, None, sym, refl, ap, ◌∙◌, subst, arith, length, map, filter}
-use Rattle.std.specs.Prelude.{nat_eq, nat_lt, is_some}
+use Rattle.std.proofs.Common.{◌≡◌, ℕ, ◌+◌, ◌-◌, ◌^◌, ◌≤◌, true, false, cond, List, [], ◌∷◌, ◌++◌, ◌||◌, Option, Some, None, sym, refl, ap, ◌∙◌, subst, arith}
+use Rattle.std.specs.Prelude.{nat_lt, is_some}
 use Rattle.mc_base.specs.declared.cid.Cid.{Cid}
 use Rattle.mc_model.specs.Front.{same_cid}
-use Rattle.mc_model.specs.Wanted.{Queue, others, bad_others}
+use Rattle.mc_model.specs.Wanted.{others, bad_others}
 use Rattle.mc_queue.specs.declared.ticket.Part.{Part}
 use Rattle.mc_queue.specs.declared.ticket.Part.TheVariants.{Waiting, Flight, Missing, Bad}
 use Rattle.mc_queue.specs.declared.ticket.Mark.{Mark}
 use Rattle.mc_queue.specs.declared.ticket.Ticket.{Ticket}
 use Rattle.mc_queue.specs.declared.ring.Ring.{Ring}
 use Rattle.mc_queue.specs.declared.store.Store.{Store}
-use Rattle.mc_queue.specs.Tickets.{same_part, goes_to, is_in, is_at, is_taken, live, cids_in, bad_in, RingFits}
+use Rattle.mc_queue.specs.Tickets.{same_part, goes_to, is_in, is_taken, live, cids_in, bad_in, RingFits}
 use Rattle.mc_queue.specs.Fits.{IsReady, RingsFit, AreReady, RingTurned, Turned, IsRoomy, Fits, total, shown_at, moved}
 use Rattle.indexmap.specs.IndexMap.{get, spare}
 use Rattle.mc_queue.proofs.LiveFacts.{Sets, ring_left, ring_came, cids_left, bad_left, cids_came, bad_came, ring_number}

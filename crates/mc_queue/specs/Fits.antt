@@ -1,5 +1,5 @@
 -- The four parts fit the marks and have room, and what they show.
-use Rattle.std.specs.Prelude.{ℕ, ◌≡◌, ◌+◌, ◌-◌, ◌^◌, ◌||◌, nat_lt, ◌≤◌, ◌<◌, Bool, true, false, List, [], ◌∷◌, ◌++◌, cond, Option, Some}
+use Rattle.std.specs.Prelude.{ℕ, ◌≡◌, ◌+◌, ◌-◌, ◌^◌, ◌||◌, nat_lt, ◌≤◌, ◌<◌, true, false, [], ◌∷◌, ◌++◌, cond, Option, Some}
 use Rattle.std.specs.VecDeque.{deque_len, deque_capacity}
 use Rattle.indexmap.specs.IndexMap.{spare, get}
 use Rattle.mc_base.specs.declared.cid.Cid.{Cid}
@@ -11,7 +11,7 @@ use Rattle.mc_queue.specs.declared.ticket.Mark.{Mark}
 use Rattle.mc_queue.specs.declared.ticket.Ticket.{Ticket}
 use Rattle.mc_queue.specs.declared.ring.Ring.{Ring}
 use Rattle.mc_queue.specs.declared.store.Store.{Store}
-use Rattle.mc_queue.specs.Tickets.{same_part, goes_to, is_in, is_taken, live, cids_in, bad_in, RingFits}
+use Rattle.mc_queue.specs.Tickets.{goes_to, is_in, is_taken, live, cids_in, bad_in, RingFits}
 
 -- the part has a place for a ticket, and no ticket that would count with the next stamp
 pub record IsReady (at : Cid → Option Mark) (part : Part) (ring : Ring) (next : ℕ) : Type 0 where

@@ -1,8 +1,8 @@
 -- What a queue shows: the four lists, and how many blocks may come without memory.
-use Rattle.std.specs.Prelude.{ℕ, Bool, not, ◌||◌, List, [], ◌∷◌, ◌++◌, Option, Some, None, if◌then◌else◌}
+use Rattle.std.specs.Prelude.{Bool, not, ◌||◌, List, [], ◌++◌, if◌then◌else◌}
 use Rattle.mc_base.specs.declared.cid.Cid.{Cid}
 use Rattle.mc_model.specs.Graph.{has}
-use Rattle.mc_model.specs.Wanted.{Queue, bad_cids, wanted, recall, hear, want}
+use Rattle.mc_model.specs.Wanted.{Queue, bad_cids, wanted, hear, want}
 use Rattle.mc_queue.specs.declared.ticket.Part.{Part}
 use Rattle.mc_queue.specs.declared.ticket.Part.TheVariants.{Waiting, Flight, Missing, Bad}
 

@@ -10,3 +10,6 @@ mod store;
 mod ticket;
 
 pub use queue::{Counts, Queue};
+
+#[cfg(test)]
+mod tests;

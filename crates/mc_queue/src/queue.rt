@@ -34,7 +34,7 @@ pub struct Counts {
 /// those are linear in what they move.
 #[derive(Drop)]
 pub struct Queue {
-    store: Store,
+    pub(crate) store: Store,
     ghost fits: { Fits store },
 }
 

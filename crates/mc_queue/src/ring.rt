@@ -20,7 +20,8 @@ pub(crate) struct Ring {
     pub(crate) count: u64,
 }
 
-fn is_live(marks: &IndexMap<Cid, Mark>, part: Part, ticket: &Ticket) -> bool
+/// Whether a ticket of the part counts.
+pub(crate) fn is_live(marks: &IndexMap<Cid, Mark>, part: Part, ticket: &Ticket) -> bool
     ensures { result ≡ is_live (get same_cid marks.now) part ticket.now }
 {
     is_at(part, ticket.stamp, mark_of(marks, &ticket.cid))

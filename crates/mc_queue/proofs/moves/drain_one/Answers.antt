@@ -1,12 +1,9 @@
-use Rattle.std.proofs.Common.{◌≡◌, ◌∙◌, ap, sym, refl, arith, not, length}
+use Rattle.std.proofs.Common.{◌∙◌, ap, sym, arith, length}
 use Rattle.indexmap.specs.IndexMap.{get}
 use Rattle.mc_model.specs.Front.{same_cid}
-use Rattle.mc_model.specs.Wanted.{wanted}
 use Rattle.mc_queue.specs.Fits.{shown_in}
 use Rattle.mc_queue.specs.Shown.{cids_of, drained}
-use Rattle.mc_queue.specs.Tickets.{first_of}
-use Rattle.mc_queue.specs.declared.ticket.Part.TheVariants.{Waiting, Flight, Missing, Bad}
-use Rattle.mc_queue.proofs.MoveFacts.{stands, want_is, want_not, wanted_is, hear_missing, hear_bad, hear_other, came_stuck, came_other, apart_in, first_within, drain_step, drain_less, drain_end}
+use Rattle.mc_queue.proofs.MoveFacts.{stands, drain_step, drain_less}
 use Rattle.mc_queue.proofs.moves.drain_one.Goals as goal
 
 pub returns-in-Some-clause-shown : goal.returns-in-Some-clause-shown

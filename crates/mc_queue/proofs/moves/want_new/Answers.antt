@@ -1,12 +1,8 @@
-use Rattle.std.proofs.Common.{◌≡◌, ◌∙◌, ap, sym, refl, arith, not, length}
+use Rattle.std.proofs.Common.{◌∙◌, ap, sym, not}
 use Rattle.indexmap.specs.IndexMap.{get}
 use Rattle.mc_model.specs.Front.{same_cid}
-use Rattle.mc_model.specs.Wanted.{wanted}
 use Rattle.mc_queue.specs.Fits.{shown_in}
-use Rattle.mc_queue.specs.Shown.{cids_of, drained}
-use Rattle.mc_queue.specs.Tickets.{first_of}
-use Rattle.mc_queue.specs.declared.ticket.Part.TheVariants.{Waiting, Flight, Missing, Bad}
-use Rattle.mc_queue.proofs.MoveFacts.{stands, want_is, want_not, wanted_is, hear_missing, hear_bad, hear_other, came_stuck, came_other, apart_in, first_within, drain_step, drain_less, drain_end}
+use Rattle.mc_queue.proofs.MoveFacts.{stands, want_is, want_not, wanted_is}
 use Rattle.mc_queue.proofs.moves.want_new.Goals as goal
 
 pub returns-then-is_wanted-clause-shown : goal.returns-then-is_wanted-clause-shown

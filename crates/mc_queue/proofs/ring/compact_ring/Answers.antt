@@ -1,4 +1,4 @@
-use Rattle.std.proofs.Common.{◌≡◌, Some, arith, sym, subst}
+use Rattle.std.proofs.Common.{Some, arith}
 use Rattle.indexmap.specs.IndexMap.{get}
 use Rattle.mc_model.specs.Front.{same_cid}
 use Rattle.mc_queue.proofs.LiveFacts.{ring_compact, live_compact, free_compact}

@@ -1,5 +1,5 @@
 use Rattle.std.proofs.Common.{◌≡◌, ℕ, true, length}
-use Rattle.std.specs.VecDeque.{deque_len, deque_capacity}
+use Rattle.std.specs.VecDeque.{deque_capacity}
 use Rattle.indexmap.specs.IndexMap.{get}
 use Rattle.mc_model.specs.Front.{same_cid}
 use Rattle.mc_queue.specs.Tickets.{live, are_before}

@@ -1,11 +1,10 @@
-use Rattle.std.proofs.Common.{◌≡◌, ◌∙◌, ap, refl, arith, cond, Some, None, ℕ, Bool, false, true}
+use Rattle.std.proofs.Common.{◌∙◌, ap, refl, arith, cond, Some, ℕ, Bool}
 use Rattle.std.specs.Prelude.{is_some}
 use Rattle.indexmap.specs.IndexMap.{get, spare}
 use Rattle.mc_model.specs.Front.{same_cid}
 use Rattle.mc_queue.specs.Fits.{moved}
-use Rattle.mc_queue.specs.declared.ticket.Part.TheVariants.{Waiting}
 use Rattle.mc_queue.specs.declared.ticket.Ticket.{Ticket}
-use Rattle.mc_queue.proofs.StoreFacts.{Moves, out_of, none_out, settled_fits, moves_shown}
+use Rattle.mc_queue.proofs.StoreFacts.{Moves, out_of, settled_fits, moves_shown}
 use Rattle.mc_queue.proofs.store.place.Goals as goal
 
 pub returns-clause-fits : goal.returns-clause-fits
