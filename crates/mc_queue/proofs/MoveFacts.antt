@@ -50,7 +50,7 @@ bad_others_none (x ∷ xs) c e =
 
 has_is : (xs : List Cid) (c : Cid) (b : Bool) → times c xs ≡ cond b 1 0 → has c xs ≡ b
 has_is xs c true e = has_times c xs (omega (arith, e))
-has_is xs c false e = elim (has c xs) as (λ t. has c xs ≡ t → t ≡ false) [ | true ↦ λ h. absurd (omega (arith, e, times_has c xs h)) | false ↦ λ h. refl ] refl
+has_is xs c false e = elim (has c xs) as (λ t. has c xs ≡ t → t ≡ false) [ true ↦ λ h. absurd (omega (arith, e, times_has c xs h)) | false ↦ λ h. refl ] refl
 
 no_first : (c : Cid) → ◌≡◌ {A = Option Cid} None (Some c) → ⊥
 no_first c e = absurd (let f : false ≡ true = ap is_some e in cc)
@@ -293,7 +293,7 @@ requeue_is q = let waiting = append_assoc q.waiting q.missing (bad_cids q.bad) i
 -- a move that is made where a test says so
 pub shift_is : (q now target : Queue) (b t : Bool) → t ≡ b → (b ≡ true → now ≡ target) → cond b now q ≡ cond t target q
 shift_is q now target b t e f =
-    elim b as (λ z. b ≡ z → cond z now q ≡ cond z target q) [ | true ↦ f | false ↦ λ _. refl ] refl ∙ ap (λ z. cond z target q) (sym e)
+    elim b as (λ z. b ≡ z → cond z now q ≡ cond z target q) [ true ↦ f | false ↦ λ _. refl ] refl ∙ ap (λ z. cond z target q) (sym e)
 
 pub next_is : (q now : Queue) (at : Cid → Option Mark) (result : Option Cid) → result ≡ first_of q.waiting → IfSome result (λ c. now ≡ moved (Some Flight) q c 0) → IfNone result (now ≡ q) → ((c : Cid) → Stands q c (at c)) → now ≡ start_first q q.waiting
 next_is q now at (Some c) e some none s = some ∙ start_is q c (at c) (s c) (sym e)

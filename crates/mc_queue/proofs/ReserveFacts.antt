@@ -46,7 +46,7 @@ fits_kept old new r fits = record {
 pub shown_kept : (old new : Store) → Reserved old new → shown_in new ≡ shown_in old
 shown_kept old new r =
     let lists : (part : Part) (before after : Ring) → RingKept before after → live (get same_cid new.marks) part after.tickets.items ≡ live (get same_cid old.marks) part before.tickets.items =
-      λ part before after kept. ap (λ a. live a part after.tickets.items) r.marks ∙ ap (live (get same_cid old.marks) part) kept.items in
+    λ part before after kept. ap (λ a. live a part after.tickets.items) r.marks ∙ ap (live (get same_cid old.marks) part) kept.items in
     let waiting = lists Waiting old.waiting new.waiting r.waiting in
     let flight = lists Flight old.flight new.flight r.flight in
     let missing = lists Missing old.missing new.missing r.missing in

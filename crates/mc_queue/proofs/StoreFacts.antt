@@ -145,11 +145,19 @@ pub moves_total : (at after : Cid → Option Mark) (old new : Store) (was : Opti
     → total new + cond (is_some was) 1 0 ≡ total old + cond (is_some to) 1 0
 moves_total at after old new was to ticket m =
     let least : (part : Part) (number : ℕ) → cond (is_in part (at ticket.cid)) 1 0 ≤ number → cond (is_in part was) 1 0 ≤ number = λ part number h. subst (λ (z : Option Mark). cond (is_in part z) 1 0 ≤ number) (sym m.is) h in
-    omega (arith, in_sum was, to_sum to, m.turned.waiting.count, m.turned.flight.count, m.turned.missing.count, m.turned.bad.count,
+    omega (
+      arith,
+      in_sum was,
+      to_sum to,
+      m.turned.waiting.count,
+      m.turned.flight.count,
+      m.turned.missing.count,
+      m.turned.bad.count,
       least Waiting old.waiting.count (ring_number at Waiting old.waiting.tickets.items old.waiting.count old.next m.fits.waiting ticket.cid),
       least Flight old.flight.count (ring_number at Flight old.flight.tickets.items old.flight.count old.next m.fits.flight ticket.cid),
       least Missing old.missing.count (ring_number at Missing old.missing.tickets.items old.missing.count old.next m.fits.missing ticket.cid),
-      least Bad old.bad.count (ring_number at Bad old.bad.tickets.items old.bad.count old.next m.fits.bad ticket.cid))
+      least Bad old.bad.count (ring_number at Bad old.bad.tickets.items old.bad.count old.next m.fits.bad ticket.cid),
+    )
 
 pub out_of : (to part : Part) (before now : Option Mark) → same_part to part ≡ true → is_in to before ≡ false → now ≡ before → is_in part now ≡ false
 out_of to part before now g out e = ap (is_in part) e ∙ subst (λ (p : Part). is_in p before ≡ false) (part_is to part g) out

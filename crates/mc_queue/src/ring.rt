@@ -62,7 +62,13 @@ fn is_roomy(ring: &Ring, next: u64) -> bool
 }
 
 /// Makes the part ready for one more ticket, where that comes to it.
-pub(crate) fn make_ready(ring: &mut Ring, marks: &IndexMap<Cid, Mark>, part: Part, to: Option<Part>, next: u64)
+pub(crate) fn make_ready(
+    ring: &mut Ring,
+    marks: &IndexMap<Cid, Mark>,
+    part: Part,
+    to: Option<Part>,
+    next: u64,
+)
     requires fits { RingFits (get same_cid marks.now) part ring.old.tickets.items ring.old.count next }
     requires room { ring.old.count < deque_capacity ring.old.tickets }
     ensures fits { RingFits (get same_cid marks.now) part ring.new.tickets.items ring.new.count next }

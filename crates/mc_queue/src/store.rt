@@ -91,9 +91,25 @@ pub(crate) fn enter(store: &mut Store, cid: Cid)
     make_all_ready(store, Some(Part::Waiting));
     let was = mark_of(&store.marks, &cid);
     let stamp = store.next;
-    add_mark(&mut store.marks, cid, Mark { part: Part::Waiting, stamp });
+    add_mark(
+        &mut store.marks,
+        cid,
+        Mark {
+            part: Part::Waiting,
+            stamp,
+        },
+    );
     store.room -= 1;
-    turn_all(store, was, Some(Part::Waiting), Ticket { cid, stamp, damage: 0 });
+    turn_all(
+        store,
+        was,
+        Some(Part::Waiting),
+        Ticket {
+            cid,
+            stamp,
+            damage: 0,
+        },
+    );
 }
 
 /// A block leaves its part.
@@ -106,7 +122,16 @@ pub(crate) fn forget(store: &mut Store, cid: &Cid)
     let was = mark_of(&store.marks, cid);
     let stamp = store.next;
     drop_mark(&mut store.marks, cid);
-    turn_all(store, was, None, Ticket { cid: *cid, stamp, damage: 0 });
+    turn_all(
+        store,
+        was,
+        None,
+        Ticket {
+            cid: *cid,
+            stamp,
+            damage: 0,
+        },
+    );
 }
 
 /// The block at the front of a part.

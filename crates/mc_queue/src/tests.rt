@@ -121,7 +121,14 @@ fn places_are_used_again(rt: HostRuntime) -> Result<(), Fail> {
     assert!(rt; want(&mut queue, b'2', false)?);
     for turn in 0..100 {
         call(&mut queue, Call::Next)?;
-        call(&mut queue, if turn % 2 == 0 { Call::Back(b'1') } else { Call::Back(b'2') })?;
+        call(
+            &mut queue,
+            if turn % 2 == 0 {
+                Call::Back(b'1')
+            } else {
+                Call::Back(b'2')
+            },
+        )?;
     }
     assert!(rt; lists(alloc, &queue.store)?.as_slice() == "12||||".as_bytes());
     Ok(())

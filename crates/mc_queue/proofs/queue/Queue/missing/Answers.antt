@@ -14,4 +14,4 @@ pub returns-clause-queue : goal.returns-clause-queue
 returns-clause-queue c =
     c.shift.ensures.shown
     ∙ shift_is (shown c.args.self.now) (moved (Some Missing) (shown c.args.self.now) c.args.cid.now 0) (to_missing (shown c.args.self.now) c.args.cid.now) (is_in Flight (get same_cid c.args.self.now.store.marks c.args.cid.now)) (has c.args.cid.now (shown c.args.self.now).flight)
-      (has_in (shown c.args.self.now) c.args.cid.now (get same_cid c.args.self.now.store.marks c.args.cid.now) (stands c.args.self.now.store c.args.self.now.fits c.args.cid.now) Flight) (missing_is (shown c.args.self.now) c.args.cid.now (get same_cid c.args.self.now.store.marks c.args.cid.now) (stands c.args.self.now.store c.args.self.now.fits c.args.cid.now))
+    (has_in (shown c.args.self.now) c.args.cid.now (get same_cid c.args.self.now.store.marks c.args.cid.now) (stands c.args.self.now.store c.args.self.now.fits c.args.cid.now) Flight) (missing_is (shown c.args.self.now) c.args.cid.now (get same_cid c.args.self.now.store.marks c.args.cid.now) (stands c.args.self.now.store c.args.self.now.fits c.args.cid.now))
