@@ -29,7 +29,7 @@ fn want(queue: &mut Queue, name: u8, again: bool) -> Result<bool, Fail> {
     Ok(queue.want(cid(name), again))
 }
 
-fn call(queue: &mut Queue, call: Call) -> Result<(), Fail> {
+fn make(queue: &mut Queue, call: Call) -> Result<(), Fail> {
     match call {
         Call::Want(name) => {
             let _came = want(queue, name, false)?;
@@ -106,7 +106,7 @@ fn calls(rt: HostRuntime) -> Result<(), Fail> {
         (Call::Done(b'2'), "1||||"),
         (Call::Done(b'2'), "1||||"),
     ] {
-        call(&mut queue, step)?;
+        make(&mut queue, step)?;
         assert!(rt; lists(alloc, &queue.store)?.as_slice() == after.as_bytes());
     }
     assert_eq!(rt; queue.counts().waiting, 1);
@@ -120,8 +120,8 @@ fn places_are_used_again(rt: HostRuntime) -> Result<(), Fail> {
     assert!(rt; want(&mut queue, b'1', false)?);
     assert!(rt; want(&mut queue, b'2', false)?);
     for turn in 0..100 {
-        call(&mut queue, Call::Next)?;
-        call(
+        make(&mut queue, Call::Next)?;
+        make(
             &mut queue,
             if turn % 2 == 0 {
                 Call::Back(b'1')
