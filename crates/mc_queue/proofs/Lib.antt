@@ -1,0 +1,4 @@
+pub mod LiveFacts
+pub mod StoreFacts
+pub mod MoveFacts
+pub mod ReserveFacts

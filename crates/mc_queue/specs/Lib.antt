@@ -1,0 +1,4 @@
+pub mod Tickets
+pub mod Fits
+pub mod Shown
+pub mod Views

@@ -1,0 +1,15 @@
+//! The wanted set: the blocks that a replica has heard of and not processed, in four lists.
+#![tactic(auto)]
+
+mod marks;
+mod moves;
+mod queue;
+mod reserve;
+mod ring;
+mod store;
+mod ticket;
+
+pub use queue::{Counts, Queue};
+
+#[cfg(test)]
+mod tests;
