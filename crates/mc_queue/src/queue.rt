@@ -29,9 +29,10 @@ pub struct Counts {
     pub bad: u64,
 }
 
-/// The wanted set: the blocks that a replica has heard of and not processed, in four parts, each in the order in which they
-/// came to it. No block stands twice. Each call but `requeue` and `recall` costs the same whatever stands in the parts, and
-/// those are linear in what they move.
+/// The wanted set: the blocks that a replica has heard of and not processed, in four parts, each in the order in which
+/// they came to it. No block stands twice. Each call but `requeue` and `recall` costs the same on the average, whatever
+/// stands in the parts: places that blocks have left are passed over once, and a full part is tidied. Those two are linear
+/// in what they move.
 #[derive(Drop)]
 pub struct Queue {
     pub(crate) store: Store,
@@ -112,7 +113,8 @@ impl Queue {
 
     /// There was no offer for a block in flight: it comes to the back of missing. Nothing changes where it is not in flight.
     pub fn missing(&mut self, cid: &Cid)
-        ensures queue { shown self.new ≡ cond (has cid.now (shown self.old).flight) (to_missing (shown self.old) cid.now) (shown self.old) }
+        ensures queue { shown self.new ≡ cond (has cid.now (shown self.old).flight)
+            (to_missing (shown self.old) cid.now) (shown self.old) }
         ensures spare { spare self.old ≤ spare self.new }
     {
         shift(&mut self.store, *cid, Part::Flight, Part::Missing, 0);
@@ -121,7 +123,8 @@ impl Queue {
     /// The first offer for a block in flight was damaged: it comes to the back of bad, with the number of the damage.
     /// Nothing changes where it is not in flight.
     pub fn bad(&mut self, cid: &Cid, damage: u8)
-        ensures queue { shown self.new ≡ cond (has cid.now (shown self.old).flight) (to_bad (shown self.old) cid.now damage) (shown self.old) }
+        ensures queue { shown self.new ≡ cond (has cid.now (shown self.old).flight)
+            (to_bad (shown self.old) cid.now damage) (shown self.old) }
         ensures spare { spare self.old ≤ spare self.new }
     {
         shift(&mut self.store, *cid, Part::Flight, Part::Bad, damage);
@@ -130,7 +133,8 @@ impl Queue {
     /// The job of a block in flight ended without it: it comes to the back of waiting. Nothing changes where it is not in
     /// flight.
     pub fn back(&mut self, cid: &Cid)
-        ensures queue { shown self.new ≡ cond (has cid.now (shown self.old).flight) (give_back (shown self.old) cid.now) (shown self.old) }
+        ensures queue { shown self.new ≡ cond (has cid.now (shown self.old).flight)
+            (give_back (shown self.old) cid.now) (shown self.old) }
         ensures spare { spare self.old ≤ spare self.new }
     {
         shift(&mut self.store, *cid, Part::Flight, Part::Waiting, 0);
