@@ -26,7 +26,7 @@ good_digest cid bytes e =
       ] h
     ] e
 
-good_reading : (cid : Cid) (reading : Result Block Damage) → is_ok reading ≡ true → found_reading reading ≡ Good (unwrap_or (result_ok reading) (record { cid = cid; links = []; delta = empty_delta })).links
+pub good_reading : (cid : Cid) (reading : Result Block Damage) → is_ok reading ≡ true → found_reading reading ≡ Good (unwrap_or (result_ok reading) (record { cid = cid; links = []; delta = empty_delta })).links
 good_reading cid (Ok block) e = refl
 good_reading cid (Err damage) e = absurd (let no : false ≡ true = e in cc)
 

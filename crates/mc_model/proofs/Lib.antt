@@ -10,6 +10,10 @@ pub mod Sound
 pub mod Climb
 pub mod InOrder
 pub mod Drain
+pub mod Drains
+pub mod Takings
+pub mod Repairs
+pub mod Deliveries
 pub mod Parts
 pub mod Goes
 pub mod Prefix

@@ -103,6 +103,10 @@ abbrev pub RunHolds : Durable → Option Running → Type 0
 RunHolds durable None = durable.mark ≡ false → no_gaps durable.graph durable.order ≡ true
 RunHolds durable (Some run) = IsOnce durable.order run.queue × WholeHolds durable run.queue run.walk run.whole
 
+-- what a keeper tells has a sound mark: where it is clear there is no gap
+abbrev pub HasSoundMark : Kept → Type 0
+HasSoundMark kept = RunHolds (durable_of kept) None
+
 -- what outlives a stop is sound, and so is the rest with it
 pub record IsSound (state : State) : Type 0 where
   pub durable : DurableHolds state.durable

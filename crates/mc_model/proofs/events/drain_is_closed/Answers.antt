@@ -1,4 +1,4 @@
-use Rattle.mc_model.proofs.Drain.{drain_closure, drain_so_far}
+use Rattle.mc_model.proofs.Drains.{drain_closure, drain_so_far}
 use Rattle.mc_model.proofs.Parts.{all_fit, emptied_drained}
 use Rattle.mc_model.proofs.events.drain_is_closed.Goals as goal
 
