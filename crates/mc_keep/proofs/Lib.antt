@@ -1,3 +1,4 @@
+pub mod BurningFacts
 pub mod ElementTies
 pub mod Processed
 pub mod Fitting

@@ -1,8 +1,10 @@
+pub mod Burning
 pub mod Causes
 pub mod Calls
 pub mod Changes
 pub mod ElementOrder
 pub mod Frame
+pub mod Fused
 pub mod HeadOrder
 pub mod New
 pub mod Next

@@ -1,7 +1,8 @@
 // Who makes the keepers of a run, and takes them back.
-ghost use Rattle.std.specs.Prelude.{◌≡◌, ◌+◌, ◌-◌, ◌^◌, ℕ, Bool, true, List, None, Option, min, IfOk};
+ghost use Rattle.std.specs.Prelude.{◌≡◌, ◌+◌, ◌-◌, ◌^◌, ℕ, Bool, true, List, None, Option, min, IfOk, IfSome};
 ghost use Rattle.std.specs.List.{sum_by};
 ghost use Rattle.mc_model.specs.Kept.{Kept};
+ghost use Rattle.mc_model.specs.State.{HasSoundMark};
 ghost use Rattle.mc_keep.specs.Causes.{CountGoes};
 ghost use Rattle.mc_keep.specs.Plan.{MakeSchedule, MakesAsPlanned, is_fault};
 
@@ -70,4 +71,8 @@ pub trait Keepers: Counted {
     /// The sum of the counts of all keepers and desks that were taken back, at most `u64::MAX`.
     fn lost(&self) -> u64
         ensures { result ≡ lost self.now };
+
+    /// What a keeper stands for when it is made has a sound mark: where it is clear there is no gap.
+    ghost marked: { (keepers : Self) (plan : KeeperPlan) (index : ℕ) →
+        IfSome (starts keepers plan index) HasSoundMark };
 }

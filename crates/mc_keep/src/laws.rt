@@ -1,5 +1,5 @@
-// What a keeper's commits are as events of a replica.
-ghost use Rattle.std.specs.Prelude.{◌≡◌, ◌≢◌, Bool, false, true, List, [], map, Option, None, Some, unwrap_or, ◌++◌};
+// What a keeper's commits are as events of a replica, and when a fuse fires.
+ghost use Rattle.std.specs.Prelude.{◌≡◌, ◌≢◌, ℕ, ◌+◌, ◌<◌, ◌≤◌, Bool, false, true, List, [], map, Option, None, Some, unwrap_or, ◌++◌};
 ghost use Rattle.std.specs.List.{list_all};
 ghost use Rattle.std.specs.declared.cmp.Ordering.TheVariants.{Equal};
 ghost use Rattle.mc_model.specs.declared.block.Block.{Block};
@@ -9,6 +9,8 @@ ghost use Rattle.mc_model.specs.Graph.{no_gaps};
 ghost use Rattle.mc_model.specs.Kept.{Kept, IsKept, processed, blocks_in, is_stored};
 ghost use Rattle.mc_model.specs.State.{Running, durable_of, vertices};
 ghost use Rattle.mc_keep.specs.declared.changes.Changes.{Changes};
+ghost use Rattle.mc_keep.specs.Burning.{burnt_by};
+ghost use Rattle.mc_keep.specs.Causes.{fires};
 ghost use Rattle.mc_keep.specs.Changes.{changed, newly_processed, no_changes};
 ghost use Rattle.mc_keep.specs.declared.rows.ElementRow.{ElementRow};
 ghost use Rattle.mc_keep.specs.ElementOrder.{element_cmp};
@@ -69,4 +71,14 @@ pub fn changes_fit()
 /// Element rows that tie in their order are equal.
 pub fn ties_are_equal()
     ensures { (x y : ElementRow) → element_cmp x y ≡ Equal → x ≡ y }
+{}
+
+/// A fuse that is armed for the k-th commit from now on fires at that one, and neither before nor after it.
+pub fn fuses_fire_once()
+    ensures before { (k commits : ℕ) (after : Bool) → commits + 1 < k →
+        fires (burnt_by commits (Some (record { commit = k; after = after }))) ≡ None }
+    ensures at { (k : ℕ) (after : Bool) →
+        fires (burnt_by k (Some (record { commit = k + 1; after = after }))) ≡ Some after }
+    ensures after { (k commits : ℕ) (after : Bool) → 1 ≤ k → k ≤ commits →
+        burnt_by commits (Some (record { commit = k; after = after })) ≡ None }
 {}

@@ -4,6 +4,7 @@
 mod changes;
 mod error;
 mod fuse;
+mod fused;
 mod keeper;
 mod keepers;
 mod laws;
@@ -12,8 +13,9 @@ mod rows;
 pub use changes::{Changes, ValueChange};
 pub use error::KeepError;
 pub use fuse::Fuse;
+pub use fused::Fused;
 pub use keeper::Keeper;
 pub use keepers::{KeeperPlan, Keepers};
-pub use laws::{changes_fit, commits_are_events, ties_are_equal};
+pub use laws::{changes_fit, commits_are_events, fuses_fire_once, ties_are_equal};
 pub use mc_model::Stored;
 pub use rows::{ElementRow, HeadRow, Summary, TombRow, ValueRow};

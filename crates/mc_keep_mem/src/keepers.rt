@@ -1,5 +1,5 @@
 // Who makes the keepers in memory, and takes them back.
-ghost use Rattle.std.specs.Prelude.{◌≡◌, ℕ, ◌+◌, ◌-◌, ◌^◌, true, Some, min, fold, map, IfOk};
+ghost use Rattle.std.specs.Prelude.{◌≡◌, refl, ℕ, ◌+◌, ◌-◌, ◌^◌, true, Some, min, fold, map, IfOk};
 ghost use Rattle.std.specs.List.{list_all, sum_by};
 ghost use Rattle.mc_model.specs.Kept.{nothing_kept};
 ghost use Rattle.mc_keep.specs.declared.keepers.KeeperPlan.{KeeperPlan};
@@ -126,6 +126,8 @@ impl<S: BuildHasher + Copy + Drop> Keepers for MemKeepers<S> {
     fn lost(&self) -> u64 {
         self.lost
     }
+
+    ghost marked = { λ keepers plan index clear. refl };
 }
 
 // A count with those of the desks.
