@@ -1,5 +1,5 @@
 -- What a change of one mark does to the tickets that count.
-use Rattle.std.proofs.Common.{◌≡◌, ℕ, suc, ◌+◌, ◌-◌, ◌^◌, ◌≤◌, Bool, true, false, not, cond, List, [], ◌∷◌, ◌++◌, ◌&&◌, ◌||◌, Option, Some, None, sym, refl, ap, ◌∙◌, subst, arith, length, filter}
+use Rattle.std.proofs.Common.{◌≡◌, ℕ, suc, ◌+◌, ◌-◌, ◌^◌, ◌≤◌, Bool, true, false, not, cond, List, [], ◌∷◌, ◌++◌, ◌&&◌, ◌||◌, Option, Some, None, sym, refl, ap, ◌∙◌, subst, arith, length, filter, drop}
 use Rattle.std.specs.Prelude.{nat_eq, nat_lt}
 use Rattle.std.proofs.lemmas.Bool.{or_parts, and_parts}
 use Rattle.std.proofs.lemmas.Bool.Decides.{nat_tests}
@@ -10,12 +10,12 @@ use Rattle.mc_base.specs.declared.cid.Cid.{Cid}
 use Rattle.mc_model.specs.Front.{same_cid}
 use Rattle.mc_model.specs.Graph.{times}
 use Rattle.mc_model.specs.Wanted.{bad_cids, others, bad_others}
-use Rattle.mc_model.proofs.Counts.{cid_itself, same_cid-symm, times-append, times-one}
+use Rattle.mc_model.proofs.Counts.{cid_is, cid_itself, same_cid-symm, times-append, times-one}
 use Rattle.mc_model.proofs.Held.{others_times}
 use Rattle.mc_queue.specs.declared.ticket.Part.{Part}
 use Rattle.mc_queue.specs.declared.ticket.Mark.{Mark}
 use Rattle.mc_queue.specs.declared.ticket.Ticket.{Ticket}
-use Rattle.mc_queue.specs.Tickets.{same_part, is_in, is_at, is_live, live, cids_in, bad_in, are_before, is_taken, RingFits}
+use Rattle.mc_queue.specs.Tickets.{same_part, is_in, is_at, is_live, live, cids_in, bad_in, are_before, is_taken, front, RingFits}
 
 -- the marks are the same but for one block
 abbrev pub Sets : (Cid → Option Mark) → (Cid → Option Mark) → Cid → Option Mark → Type 0
@@ -276,3 +276,20 @@ pub ring_number : (at : Cid → Option Mark) (part : Part) (tickets : List Ticke
 ring_number at part tickets number next fits c =
     let all : length (cids_in (live at part tickets)) ≡ length (live at part tickets) = length-map (live at part tickets) (λ (ticket : Ticket). ticket.cid) in
     omega (arith, others_length c (cids_in (live at part tickets)), all, fits.once c, fits.count)
+
+-- a block that is not in the part has no ticket there that counts
+out_dead : (at : Cid → Option Mark) (part : Part) (ticket : Ticket) (c : Cid) → ticket.cid ≡ c → is_in part (at c) ≡ false → is_live at part ticket ≡ false
+out_dead at part ticket c e out = ap (λ d. is_at part ticket.stamp (at d)) e ∙ dead (at c) out
+  where
+    dead : (mark : Option Mark) → is_in part mark ≡ false → is_at part ticket.stamp mark ≡ false
+    dead None k = refl
+    dead (Some mark) k = ap (λ b. b && nat_eq mark.stamp ticket.stamp) k
+
+-- so where the first ticket is of such a block, those that count are those of the rest
+pub live_pass : (at : Cid → Option Mark) (part : Part) (tickets : List Ticket) (ticket : Ticket) (c : Cid) → front tickets ≡ Some ticket → same_cid ticket.cid c ≡ true → is_in part (at c) ≡ false
+    → live at part (drop 1 tickets) ≡ live at part tickets
+live_pass at part [] ticket c f s out = absurd (let g : None ≡ Some ticket = f in cc)
+live_pass at part (first ∷ rest) ticket c f s out =
+    let is : Some first ≡ Some ticket = f in
+    let same : first ≡ ticket = cc in
+    sym (ap (λ b. cond b (first ∷ live at part rest) (live at part rest)) (out_dead at part first c (ap (λ (t : Ticket). t.cid) same ∙ cid_is ticket.cid c s) out))

@@ -166,6 +166,10 @@ pub none_out : (part : Part) (before now : Option Mark) → is_some before ≡ f
 none_out part None now a e = ap (is_in part) e
 none_out part (Some mark) now a e = absurd (let f : true ≡ false = a in cc)
 
+pub is_none : (before now : Option Mark) → is_some before ≡ false → now ≡ before → None ≡ now
+is_none None now a e = sym e
+is_none (Some mark) now a e = absurd (let f : true ≡ false = a in cc)
+
 pub nothing_comes : (at : Cid → Option Mark) (store : Store) → AreReady at store None
 nothing_comes at store = record { waiting = λ h. absurd (no_part h); flight = λ h. absurd (no_part h); missing = λ h. absurd (no_part h); bad = λ h. absurd (no_part h) }
 

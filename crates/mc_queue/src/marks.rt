@@ -24,22 +24,30 @@ pub(crate) fn add_mark(marks: &mut IndexMap<Cid, Mark>, cid: Cid, mark: Mark)
     let _before = marks.insert(cid, mark);
 }
 
-/// Sets the mark of a block that has one.
-pub(crate) fn set_mark(marks: &mut IndexMap<Cid, Mark>, cid: &Cid, mark: Mark)
+/// Sets the mark of a block that has one, and tells the one before.
+pub(crate) fn set_mark(marks: &mut IndexMap<Cid, Mark>, cid: &Cid, mark: Mark) -> Option<Mark>
     requires there { is_some (get same_cid marks.old cid.now) ≡ true }
+    ensures was { result ≡ get same_cid marks.old cid.now }
     ensures marks { (other : Cid) → get same_cid marks.new other ≡ cond (same_cid cid.now other) (Some mark) (get same_cid marks.old other) }
     ensures spare { spare marks.old ≤ spare marks.new }
 {
-    if let Some(at) = marks.get_mut(cid) {
-        *at = mark;
+    match marks.get_mut(cid) {
+        Some(at) => {
+            let was = *at;
+            *at = mark;
+            Some(was)
+        }
+        None => None,
     }
 }
 
-pub(crate) fn drop_mark(marks: &mut IndexMap<Cid, Mark>, cid: &Cid)
+/// Drops the mark of a block, and tells it.
+pub(crate) fn drop_mark(marks: &mut IndexMap<Cid, Mark>, cid: &Cid) -> Option<Mark>
+    ensures was { result ≡ get same_cid marks.old cid.now }
     ensures marks { (other : Cid) → get same_cid marks.new other ≡ cond (same_cid cid.now other) None (get same_cid marks.old other) }
     ensures spare { spare marks.old ≤ spare marks.new }
 {
-    let _before = marks.swap_remove(cid);
+    marks.swap_remove(cid)
 }
 
 pub(crate) fn reserve_marks(marks: &mut IndexMap<Cid, Mark>, rows: usize) -> Result<(), AllocError>

@@ -10,7 +10,7 @@ ghost use Rattle.mc_queue.specs.Shown.{cids_of, drained};
 ghost use Rattle.mc_queue.specs.declared.ticket.Part.TheVariants.{Waiting};
 
 use crate::marks::mark_of;
-use crate::store::{Store, enter, first_in, is_within, place};
+use crate::store::{Store, enter, first_in, is_within, pass_first, place};
 use crate::ticket::Part;
 use mc_base::Cid;
 
@@ -20,6 +20,7 @@ fn move_from(store: &mut Store, cid: Cid, from: Part, to: Part, damage: u8)
     requires within { is_in from (get same_cid store.old.marks cid) ≡ true }
     requires apart { same_part from to ≡ false }
     ensures fits { Fits store.new }
+    ensures there { is_in to (get same_cid store.new.marks cid) ≡ true }
     ensures shown { shown_in store.new ≡ moved (Some to) (shown_in store.old) cid damage }
     ensures room { store.new.room ≡ store.old.room }
 {
@@ -55,6 +56,7 @@ pub(crate) fn move_first(store: &mut Store, from: Part, to: Part) -> Option<Cid>
     match first_in(store, from) {
         Some(cid) => {
             move_from(store, cid, from, to, 0);
+            pass_first(store, from, &cid);
             Some(cid)
         }
         None => None,

@@ -9,7 +9,7 @@ ghost use Rattle.mc_queue.specs.Fits.{Fits};
 use crate::moves::{hear_again, move_all, move_first, shift, want_new};
 use crate::reserve::reserve_blocks;
 use crate::ring::Ring;
-use crate::store::{Store, forget};
+use crate::store::{Store, forget, is_within};
 use crate::ticket::Part;
 use indexmap::IndexMap;
 use mc_base::Cid;
@@ -155,6 +155,13 @@ impl Queue {
         ensures spare { spare self.old ≤ spare self.new }
     {
         move_all(&mut self.store, Part::Flight);
+    }
+
+    /// Whether a job of the block was begun, and has not ended.
+    pub fn in_flight(&self, cid: &Cid) -> bool
+        ensures { result ≡ has cid.now (shown self.now).flight }
+    {
+        is_within(&self.store, Part::Flight, cid)
     }
 
     /// How many blocks are in each part.

@@ -130,6 +130,28 @@ pub(crate) fn first(ring: &mut Ring, marks: &IndexMap<Cid, Mark>, part: Part) ->
     None
 }
 
+fn is_of(ticket: &Ticket, cid: &Cid) -> bool
+    ensures { result ≡ same_cid ticket.now.cid cid.now }
+{
+    ticket.cid == *cid
+}
+
+/// Lets go of the ticket at the front where it is of this block, which is not in the part.
+pub(crate) fn pass(ring: &mut Ring, marks: &IndexMap<Cid, Mark>, part: Part, cid: &Cid)
+    requires out { is_in part (get same_cid marks.now cid.now) ≡ false }
+    ensures live { live (get same_cid marks.now) part ring.new.tickets.items ≡ live (get same_cid marks.now) part ring.old.tickets.items }
+    ensures before { (next : ℕ) → are_before next ring.old.tickets.items ≡ true → are_before next ring.new.tickets.items ≡ true }
+    ensures count { ring.new.count ≡ ring.old.count }
+    ensures capacity { deque_capacity ring.new.tickets ≡ deque_capacity ring.old.tickets }
+{
+    let (_marks, _part) = (marks, part);
+    if let Some(ticket) = front_of(&ring.tickets) {
+        if is_of(&ticket, cid) {
+            drop_front(&mut ring.tickets);
+        }
+    }
+}
+
 /// The stamp after one. The last stamp is its own.
 pub(crate) fn stamp_after(stamp: u64) -> u64
     ensures later { stamp ≤ result }

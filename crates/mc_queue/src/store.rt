@@ -8,7 +8,7 @@ ghost use Rattle.mc_queue.specs.declared.ticket.Part.TheVariants.{Waiting};
 ghost use Rattle.mc_queue.specs.Fits.{Fits, Keeps, AreReady, Turned, IsCounted, HasPlace, total, shown_in, moved};
 
 use crate::marks::{add_mark, drop_mark, mark_of, set_mark};
-use crate::ring::{Ring, first, make_ready, stamp_after, turn};
+use crate::ring::{Ring, first, make_ready, pass, stamp_after, turn};
 use crate::ticket::{Mark, Part, Ticket, is_in};
 use indexmap::IndexMap;
 use mc_base::Cid;
@@ -69,13 +69,13 @@ pub(crate) fn place(store: &mut Store, cid: Cid, to: Part, damage: u8)
     requires some { 0 < total store.old }
     requires out { is_in to (get same_cid store.old.marks cid) ≡ false }
     ensures fits { Fits store.new }
+    ensures there { is_in to (get same_cid store.new.marks cid) ≡ true }
     ensures shown { shown_in store.new ≡ moved (Some to) (shown_in store.old) cid damage }
     ensures room { store.new.room ≡ store.old.room }
 {
     make_all_ready(store, Some(to));
-    let was = mark_of(&store.marks, &cid);
     let stamp = store.next;
-    set_mark(&mut store.marks, &cid, Mark { part: to, stamp });
+    let was = set_mark(&mut store.marks, &cid, Mark { part: to, stamp });
     turn_all(store, was, Some(to), Ticket { cid, stamp, damage });
 }
 
@@ -89,7 +89,6 @@ pub(crate) fn enter(store: &mut Store, cid: Cid)
     ensures room { store.new.room ≡ store.old.room - 1 }
 {
     make_all_ready(store, Some(Part::Waiting));
-    let was = mark_of(&store.marks, &cid);
     let stamp = store.next;
     add_mark(
         &mut store.marks,
@@ -102,7 +101,7 @@ pub(crate) fn enter(store: &mut Store, cid: Cid)
     store.room -= 1;
     turn_all(
         store,
-        was,
+        None,
         Some(Part::Waiting),
         Ticket {
             cid,
@@ -119,9 +118,8 @@ pub(crate) fn forget(store: &mut Store, cid: &Cid)
     ensures shown { shown_in store.new ≡ moved None (shown_in store.old) cid.now 0 }
     ensures room { store.new.room ≡ store.old.room }
 {
-    let was = mark_of(&store.marks, cid);
     let stamp = store.next;
-    drop_mark(&mut store.marks, cid);
+    let was = drop_mark(&mut store.marks, cid);
     turn_all(
         store,
         was,
@@ -146,5 +144,20 @@ pub(crate) fn first_in(store: &mut Store, part: Part) -> Option<Cid>
         Part::Flight => first(&mut store.flight, &store.marks, Part::Flight),
         Part::Missing => first(&mut store.missing, &store.marks, Part::Missing),
         Part::Bad => first(&mut store.bad, &store.marks, Part::Bad),
+    }
+}
+
+/// Lets go of the ticket at the front of a part where it is of this block, which has left the part.
+pub(crate) fn pass_first(store: &mut Store, part: Part, cid: &Cid)
+    requires fits { Fits store.old }
+    requires out { is_in part (get same_cid store.old.marks cid.now) ≡ false }
+    ensures fits { Fits store.new }
+    ensures keeps { Keeps store.old store.new }
+{
+    match part {
+        Part::Waiting => pass(&mut store.waiting, &store.marks, Part::Waiting, cid),
+        Part::Flight => pass(&mut store.flight, &store.marks, Part::Flight, cid),
+        Part::Missing => pass(&mut store.missing, &store.marks, Part::Missing, cid),
+        Part::Bad => pass(&mut store.bad, &store.marks, Part::Bad, cid),
     }
 }
