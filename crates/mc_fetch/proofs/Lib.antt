@@ -1,0 +1,4 @@
+pub mod AskFacts
+pub mod FirstFacts
+pub mod PeerFacts
+pub mod PlantFacts

@@ -1,0 +1,21 @@
+use Rattle.std.proofs.Common.{subst}
+use Rattle.std.specs.Prelude.{None}
+use Rattle.mc_fetch.proofs.AskFacts.{asks_more}
+use Rattle.mc_fetch.proofs.FirstFacts.{MatchAt, first_goes_on, first_is_there}
+use Rattle.mc_fetch.proofs.first.first_match.Goals as goal
+
+pub returns-in-Ok-Some-clause-found : goal.returns-in-Ok-Some-clause-found
+returns-in-Ok-Some-clause-found g c =
+    let here = rw c.in-Ok-Some.field-0-is at c.in-Ok-Some.ensures.found in
+    first_is_there c.args.cid.now (g.F.Fetch.offers c.args.fetch.now) c.loop-place.place _ c.loop-place.invariant.so_far
+    (subst (MatchAt c.args.cid.now c.loop-place.place _) c.loop-place.invariant.asked.offers_same here)
+
+pub loop-place-preserved : goal.loop-place-preserved
+loop-place-preserved g c =
+    let here = rw c.in-Ok-None.field-0-is at c.in-Ok-None.ensures.found in
+    record {
+      asked = asks_more g.met.F.Fetch.follows_on c.loop-place.invariant.asked c.in-Ok-None.ensures.asks;
+      end = c.loop-place.invariant.end;
+      so_far = first_goes_on c.args.cid.now (g.F.Fetch.offers c.args.fetch.now) c.loop-place.place c.loop-place.invariant.so_far
+          (subst (MatchAt c.args.cid.now c.loop-place.place None) c.loop-place.invariant.asked.offers_same here);
+    }

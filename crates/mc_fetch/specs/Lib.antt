@@ -1,0 +1,9 @@
+pub mod Calls
+pub mod Causes
+pub mod Fits
+pub mod Frame
+pub mod Offers
+pub mod PeerLaws
+pub mod Peers
+pub mod Plants
+pub mod Views
