@@ -1,3 +1,4 @@
 pub mod LinkFacts
 pub mod MadeFacts
 pub mod OfferFacts
+pub mod NamedFacts
