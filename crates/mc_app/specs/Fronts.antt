@@ -9,7 +9,7 @@ use Rattle.mc_script.specs.Line.{line_of}
 use Rattle.mc_script.specs.declared.command.Command.{Command}
 use Rattle.mc_script.specs.declared.command.Command.TheVariants.{Put, Del, Begin, BatchPut, BatchDel, Commit}
 use Rattle.mc_script.specs.declared.reply.Reply.{Reply}
-use Rattle.mc_script.specs.declared.reply.Reply.TheVariants.{RefusedKey, RefusedValue, RefusedBatch, Stopped}
+use Rattle.mc_script.specs.declared.reply.Reply.TheVariants.{RefusedKey, RefusedValue, RefusedBatch, RefusedCast, Stopped}
 use Rattle.mc_app.specs.Runs.{Answer}
 use Rattle.mc_app.specs.Step.{answer_of, is_fault}
 
@@ -37,6 +37,7 @@ abbrev pub front_reply : Reply → Option Reply
 front_reply (RefusedKey number) = Some (RefusedKey number)
 front_reply RefusedValue = Some RefusedValue
 front_reply RefusedBatch = Some RefusedBatch
+front_reply RefusedCast = Some RefusedCast
 front_reply Stopped = Some Stopped
 front_reply reply = None
 

@@ -25,7 +25,7 @@ use Rattle.mc_script.specs.declared.command.Command.TheVariants.{Put, Del, Begin
 use Rattle.mc_script.specs.declared.command.Command.TheVariants.{Get, Has as HasKey, Query, Heads as HeadsOf}
 use Rattle.mc_script.specs.declared.reply.Reply.{Reply}
 use Rattle.mc_script.specs.declared.reply.Reply.TheVariants.{Done, Priority, Deleted, Value, Has, Rows, Heads, Stopped, FaultKeeper}
-use Rattle.mc_script.specs.declared.reply.Reply.TheVariants.{RefusedKey, RefusedValue, RefusedSize, RefusedPriority, RefusedClash, RefusedBatch}
+use Rattle.mc_script.specs.declared.reply.Reply.TheVariants.{RefusedKey, RefusedValue, RefusedSize, RefusedPriority, RefusedClash, RefusedBatch, RefusedCast}
 use Rattle.mc_app.specs.declared.acting.ActError.{ActError}
 use Rattle.mc_app.specs.declared.acting.ActError.TheVariants.{Memory}
 use Rattle.mc_app.specs.declared.entry.LineEntry.{LineEntry}
@@ -65,6 +65,7 @@ answer_of core.PriorityFull = Ok RefusedPriority
 answer_of (core.Clash cid) = Ok (RefusedClash cid)
 answer_of core.KeeperFault = Ok FaultKeeper
 answer_of core.Stopped = Ok Stopped
+answer_of (core.BadCast fault) = Ok RefusedCast
 answer_of core.NoBatch = Ok RefusedBatch
 answer_of core.BatchOpen = Ok RefusedBatch
 answer_of core.Memory = Err Memory

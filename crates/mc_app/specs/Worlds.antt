@@ -1,6 +1,7 @@
 -- What a world stands for.
-use Rattle.std.specs.Prelude.{◌≡◌, true, false, List, [], ◌∷◌, Option, Some, None}
+use Rattle.std.specs.Prelude.{◌≡◌, IfSome, true, false, List, [], ◌∷◌, Option, Some, None}
 use Rattle.mc_model.specs.Kept.{Kept}
+use Rattle.mc_model.specs.State.{HasSoundMark}
 use Rattle.mc_keep.specs.Calls.{Members, Reads}
 use Rattle.mc_base.specs.declared.counted.Counted as counted
 use Rattle.mc_keep.specs.declared.fuse.Fuse.{Fuse}
@@ -35,16 +36,17 @@ abbrev pub starts_of : {K Desk : Type 0} → (K → Option Kept) → List (Part 
 starts_of told [] = []
 starts_of told (part ∷ parts) = told part.keeper ∷ starts_of told parts
 
--- a part that a world may be made of: its keeper has no fuse, and it has no desks
-pub record IsFresh {K Desk : Type 0} (fuse : K → Option Fuse) (part : Part K Desk) : Type 0 where
+-- a part that a world may be made of: its keeper has a sound mark and no fuse, and it has no desks
+pub record IsFresh {K Desk : Type 0} (told : K → Option Kept) (fuse : K → Option Fuse) (part : Part K Desk) : Type 0 where
+  pub marked : IfSome (told part.keeper) HasSoundMark
   pub no_fuse : fuse part.keeper ≡ None
   pub no_desks : part.desks ≡ []
 
 -- parts for one replica
-abbrev pub AreParts : {K Desk : Type 0} → (K → Option Fuse) → List (Part K Desk) → Type 0
-AreParts fuse [] = ⊥
-AreParts fuse (part ∷ []) = IsFresh fuse part
-AreParts fuse (part ∷ next ∷ parts) = ⊥
+abbrev pub AreParts : {K Desk : Type 0} → (K → Option Kept) → (K → Option Fuse) → List (Part K Desk) → Type 0
+AreParts told fuse [] = ⊥
+AreParts told fuse (part ∷ []) = IsFresh told fuse part
+AreParts told fuse (part ∷ next ∷ parts) = ⊥
 
 module _ {K Desk : Type 0} (k : Members K Desk) where
   -- a part whose keeper failed in opening: only a read has come to it, which failed

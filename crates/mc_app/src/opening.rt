@@ -11,10 +11,10 @@ use mc_keep::Keeper;
 use std::alloc::Global;
 
 impl<K: Keeper> World<K> {
-    /// Opens the replica of the only part, which has no desks and whose keeper has no fuse. Takes no memory. A refusal
+    /// Opens the replica of the only part, which has no desks and whose keeper has a sound mark and no fuse. Takes no memory. A refusal
     /// hands the part back.
     pub fn new(alloc: Global, parts: List<Part<K>>) -> Result<World<K>, NoWorld<K>>
-        requires { AreParts K.fuse parts }
+        requires { AreParts K.told K.fuse parts }
         ensures first { IfOk result (λ world. world_state K.told K.fuse world ≡ first_state (starts_of K.told parts)) }
         ensures entries { IfOk result (λ world. world.entries ≡ []) }
         ensures desks { IfOk result (λ world. world.desks ≡ []) }
@@ -25,7 +25,7 @@ impl<K: Keeper> World<K> {
     {
         let (part, room) = Room::take(parts);
         let Part { keeper, desks } = part;
-        match Replica::open(keeper) {
+        match Replica::open(alloc, keeper) {
             Ok(replica) => Ok(World {
                 replica,
                 desks,

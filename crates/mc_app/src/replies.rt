@@ -104,6 +104,7 @@ fn answer(error: CoreError) -> Result<Reply, ActError>
         CoreError::Clash { cid } => Ok(Reply::RefusedClash { cid }),
         CoreError::KeeperFault => Ok(Reply::FaultKeeper),
         CoreError::Stopped => Ok(Reply::Stopped),
+        CoreError::BadCast { .. } => Ok(Reply::RefusedCast),
         CoreError::NoBatch => Ok(Reply::RefusedBatch),
         CoreError::BatchOpen => Ok(Reply::RefusedBatch),
         CoreError::Memory => Err(ActError::Memory),

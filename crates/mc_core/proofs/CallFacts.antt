@@ -5,15 +5,16 @@ use Rattle.mc_base.specs.Causes.{Rose}
 use Rattle.mc_base.specs.Told.{Told}
 use Rattle.mc_model.specs.Events.{Event}
 use Rattle.mc_model.specs.Kept.{Kept}
-use Rattle.mc_model.specs.State.{OpenBatch, Running, durable_of}
+use Rattle.mc_model.specs.State.{Running, durable_of, kept_of}
 use Rattle.mc_keep.specs.Causes.{Kind, Refusal as Refused, Fault, Shortage, is_fault_kind}
 use Rattle.mc_keep.specs.declared.fuse.Fuse.{Fuse}
 use Rattle.mc_core.specs.declared.error.CoreError.{CoreError}
 use Rattle.mc_core.specs.declared.error.CoreError.TheVariants.{KeeperFault, Stopped}
 use Rattle.mc_core.specs.Calls.{Faults, IsRefused, Call}
 use Rattle.mc_core.specs.Events.{ReplicaState, state_of, stopped, Part}
-use Rattle.mc_core.specs.Refusals.{ByKind, IsDue, kind_of, stops}
-use Rattle.mc_core.specs.Replica.{run_of}
+use Rattle.mc_core.specs.Reads.{OnlyReads, read_refusal}
+use Rattle.mc_core.specs.Refusals.{ByKind, Is, IsDue, kind_of, stops}
+use Rattle.mc_core.specs.Counted.{run_of}
 use Rattle.mc_core.proofs.EventFacts.{goes_nowhere, breaks_rose}
 
 -- a replica over what is told
@@ -33,36 +34,36 @@ module _ {T : Type 0} (Refusal : ReplicaState → Option CoreError → Type 0) (
   Calls rose result s new = Call (Refusal s) (Plan s) (λ left. left ≡ s) rose result s new
 
   -- a call on a replica that has stopped
-  pub stopped_call : (told : Option Kept) (fuse : Option Fuse) (stop : Bool) (batch : Option OpenBatch) (whole : Bool) (rose : Type 0) → stop ≡ true
+  pub stopped_call : (told : Option Kept) (fuse : Option Fuse) (stop : Bool) (run : Running) (rose : Type 0) → stop ≡ true
       → ((kept : Kept) → Refusal (at kept fuse None) (Some Stopped))
-      → Told (state_of told fuse (run_of stop batch whole)) (state_of told fuse (run_of stop batch whole)) (Calls rose (Err Stopped))
-  stopped_call None fuse stop batch whole rose is due = tt
-  stopped_call (Some kept) fuse stop batch whole rose is due =
-      subst (λ b. Calls rose (Err Stopped) (at kept fuse (run_of b batch whole)) (at kept fuse (run_of b batch whole))) (sym is) (due kept, refl)
+      → Told (state_of told fuse (run_of stop run)) (state_of told fuse (run_of stop run)) (Calls rose (Err Stopped))
+  stopped_call None fuse stop run rose is due = tt
+  stopped_call (Some kept) fuse stop run rose is due =
+      subst (λ b. Calls rose (Err Stopped) (at kept fuse (run_of b run)) (at kept fuse (run_of b run))) (sym is) (due kept, refl)
 
   -- what such an error leaves of a running replica
   abbrev Ends : Kind → CoreError → Type 0 → ReplicaState → ReplicaState → Type 0
   Ends kind error rose s new = ByKind (IsRefused (Refusal s) error s new) (Faults (Plan s) rose s new) (new ≡ s) kind
 
-  early : (kind : Kind) (error : CoreError) (rose : Type 0) (kept : Kept) (fuse : Option Fuse) (batch : Option OpenBatch) (whole : Bool) → (is_fault_kind kind ≡ true → rose)
-      → ByKind (Refusal (at kept fuse (run_of false batch whole)) (Some error)) ⊤ ⊤ kind
-      → Ends kind error rose (at kept fuse (run_of false batch whole)) (at kept fuse (run_of (is_fault_kind kind || false) batch whole))
-  early Refused error rose kept fuse batch whole r due = (due, refl)
-  early Fault error rose kept fuse batch whole r due = nothing_done (Plan (at kept fuse (run_of false batch whole))) rose (at kept fuse (run_of false batch whole)) (r refl)
-  early Shortage error rose kept fuse batch whole r due = refl
+  early : (kind : Kind) (error : CoreError) (rose : Type 0) (kept : Kept) (fuse : Option Fuse) (run : Running) → (is_fault_kind kind ≡ true → rose)
+      → ByKind (Refusal (at kept fuse (run_of false run)) (Some error)) ⊤ ⊤ kind
+      → Ends kind error rose (at kept fuse (run_of false run)) (at kept fuse (run_of (is_fault_kind kind || false) run))
+  early Refused error rose kept fuse run r due = (due, refl)
+  early Fault error rose kept fuse run r due = nothing_done (Plan (at kept fuse (run_of false run))) rose (at kept fuse (run_of false run)) (r refl)
+  early Shortage error rose kept fuse run r due = refl
 
   -- a call that ended before its first commit
-  pub early_call : (told told_new : Option Kept) (fuse fuse_new : Option Fuse) (stop stop_new : Bool) (batch : Option OpenBatch) (whole : Bool) (rose : Type 0) (error : CoreError)
+  pub early_call : (told told_new : Option Kept) (fuse fuse_new : Option Fuse) (stop stop_new : Bool) (run : Running) (rose : Type 0) (error : CoreError)
       → stop ≡ false → told_new ≡ told → fuse_new ≡ fuse → stop_new ≡ stops error false → (is_fault_kind (kind_of error) ≡ true → rose)
-      → IfSome told (λ kept. IsDue (Refusal (at kept fuse (run_of false batch whole))) error)
-      → Told (state_of told fuse (run_of stop batch whole)) (state_of told_new fuse_new (run_of stop_new batch whole)) (Calls rose (Err error))
-  early_call None told_new fuse fuse_new stop stop_new batch whole rose error up e f g r due = tt
-  early_call (Some kept) told_new fuse fuse_new stop stop_new batch whole rose error up e f g r due =
-      subst (λ t. Told (state_of (Some kept) fuse (run_of stop batch whole)) (state_of t fuse_new (run_of stop_new batch whole)) (Calls rose (Err error))) (sym e)
-      (subst (λ x. Calls rose (Err error) (at kept fuse (run_of stop batch whole)) (at kept x (run_of stop_new batch whole))) (sym f)
-      (subst (λ b. Calls rose (Err error) (at kept fuse (run_of stop batch whole)) (at kept fuse (run_of b batch whole))) (sym g)
-      (subst (λ b. Calls rose (Err error) (at kept fuse (run_of b batch whole)) (at kept fuse (run_of (stops error false) batch whole))) (sym up)
-      (early (kind_of error) error rose kept fuse batch whole r due))))
+      → IfSome told (λ kept. IsDue (Refusal (at kept fuse (run_of false run))) error)
+      → Told (state_of told fuse (run_of stop run)) (state_of told_new fuse_new (run_of stop_new run)) (Calls rose (Err error))
+  early_call None told_new fuse fuse_new stop stop_new run rose error up e f g r due = tt
+  early_call (Some kept) told_new fuse fuse_new stop stop_new run rose error up e f g r due =
+      subst (λ t. Told (state_of (Some kept) fuse (run_of stop run)) (state_of t fuse_new (run_of stop_new run)) (Calls rose (Err error))) (sym e)
+      (subst (λ x. Calls rose (Err error) (at kept fuse (run_of stop run)) (at kept x (run_of stop_new run))) (sym f)
+      (subst (λ b. Calls rose (Err error) (at kept fuse (run_of stop run)) (at kept fuse (run_of b run))) (sym g)
+      (subst (λ b. Calls rose (Err error) (at kept fuse (run_of b run)) (at kept fuse (run_of (stops error false) run))) (sym up)
+      (early (kind_of error) error rose kept fuse run r due))))
 
   part_is : (events : List Event) (value : T) (rose : Type 0) (result : Result T CoreError) (s new : ReplicaState) → Refusal s None → Plan s events value
       → IfOk result (λ answer. answer ≡ value) → IfErr result (λ error. error ≡ KeeperFault) → Part events rose result s new → Calls rose result s new
@@ -75,36 +76,48 @@ module _ {T : Type 0} (Refusal : ReplicaState → Option CoreError → Type 0) (
   part_rose events P Q (Err error) s new f p = breaks_rose events P Q s new f p
 
   -- a call that is this part, after reads
-  pub part_call : (told mid : Option Kept) (fuse fuse_mid : Option Fuse) (stop : Bool) (batch : Option OpenBatch) (whole : Bool) (new : Option ReplicaState) (own own_mid own_new : ℕ)
+  pub part_call : (told mid : Option Kept) (fuse fuse_mid : Option Fuse) (stop : Bool) (run : Running) (new : Option ReplicaState) (own own_mid own_new : ℕ)
       (events : List Event) (value : T) (result : Result T CoreError) → stop ≡ false → mid ≡ told → fuse_mid ≡ fuse → own ≤ own_mid
-      → IfSome told (λ kept. Refusal (at kept fuse (run_of false batch whole)) None × Plan (at kept fuse (run_of false batch whole)) events value)
+      → IfSome told (λ kept. Refusal (at kept fuse (run_of false run)) None × Plan (at kept fuse (run_of false run)) events value)
       → IfOk result (λ answer. answer ≡ value) → IfErr result (λ error. error ≡ KeeperFault)
-      → Told (state_of mid fuse_mid (run_of stop batch whole)) new (λ s after. Part events (Rose own_mid own_new) result s after)
-      → Told (state_of told fuse (run_of stop batch whole)) new (Calls (Rose own own_new) result)
-  part_call None mid fuse fuse_mid stop batch whole new own own_mid own_new events value result up e f later plan is only part = tt
-  part_call (Some kept) mid fuse fuse_mid stop batch whole new own own_mid own_new events value result up e f later plan is only part =
+      → Told (state_of mid fuse_mid (run_of stop run)) new (λ s after. Part events (Rose own_mid own_new) result s after)
+      → Told (state_of told fuse (run_of stop run)) new (Calls (Rose own own_new) result)
+  part_call None mid fuse fuse_mid stop run new own own_mid own_new events value result up e f later plan is only part = tt
+  part_call (Some kept) mid fuse fuse_mid stop run new own own_mid own_new events value result up e f later plan is only part =
       ends new (subst (λ b. Told (at_told b) new (λ s after. Part events (Rose own_mid own_new) result s after)) up
-      (subst (λ x. Told (state_of (Some kept) x (run_of stop batch whole)) new (λ s after. Part events (Rose own_mid own_new) result s after)) f
-      (subst (λ t. Told (state_of t fuse_mid (run_of stop batch whole)) new (λ s after. Part events (Rose own_mid own_new) result s after)) e part)))
+      (subst (λ x. Told (state_of (Some kept) x (run_of stop run)) new (λ s after. Part events (Rose own_mid own_new) result s after)) f
+      (subst (λ t. Told (state_of t fuse_mid (run_of stop run)) new (λ s after. Part events (Rose own_mid own_new) result s after)) e part)))
     where
       at_told : Bool → Option ReplicaState
-      at_told b = Some (at kept fuse (run_of b batch whole))
+      at_told b = Some (at kept fuse (run_of b run))
 
       ends : (new : Option ReplicaState) → Told (at_told false) new (λ s after. Part events (Rose own_mid own_new) result s after) → Told (at_told stop) new (Calls (Rose own own_new) result)
       ends None p = absurd p
       ends (Some after) p =
-          subst (λ b. Calls (Rose own own_new) result (at kept fuse (run_of b batch whole)) after) (sym up)
-          (part_is events value (Rose own own_new) result (at kept fuse (run_of false batch whole)) after plan.0 plan.1 is only
-          (part_rose events (Rose own_mid own_new) (Rose own own_new) result (at kept fuse (run_of false batch whole)) after (λ r. omega (arith, r, later)) p))
+          subst (λ b. Calls (Rose own own_new) result (at kept fuse (run_of b run)) after) (sym up)
+          (part_is events value (Rose own own_new) result (at kept fuse (run_of false run)) after plan.0 plan.1 is only
+          (part_rose events (Rose own_mid own_new) (Rose own own_new) result (at kept fuse (run_of false run)) after (λ r. omega (arith, r, later)) p))
 
   -- a call that only reads
-  pub read_call : (told told_new : Option Kept) (fuse fuse_new : Option Fuse) (stop : Bool) (batch : Option OpenBatch) (whole : Bool) (rose : Type 0) (value : T)
+  pub read_call : (told told_new : Option Kept) (fuse fuse_new : Option Fuse) (stop : Bool) (run : Running) (rose : Type 0) (value : T)
       → stop ≡ false → told_new ≡ told → fuse_new ≡ fuse
-      → IfSome told (λ kept. Refusal (at kept fuse (run_of false batch whole)) None × Plan (at kept fuse (run_of false batch whole)) [] value)
-      → Told (state_of told fuse (run_of stop batch whole)) (state_of told_new fuse_new (run_of stop batch whole)) (Calls rose (Ok value))
-  read_call None told_new fuse fuse_new stop batch whole rose value up e f plan = tt
-  read_call (Some kept) told_new fuse fuse_new stop batch whole rose value up e f plan =
-      subst (λ t. Told (state_of (Some kept) fuse (run_of stop batch whole)) (state_of t fuse_new (run_of stop batch whole)) (Calls rose (Ok value))) (sym e)
-      (subst (λ x. Calls rose (Ok value) (at kept fuse (run_of stop batch whole)) (at kept x (run_of stop batch whole))) (sym f)
-      (subst (λ b. Calls rose (Ok value) (at kept fuse (run_of b batch whole)) (at kept fuse (run_of b batch whole))) (sym up)
-      (record { allowed = plan.0; events = []; plan = plan.1; goes = goes_nowhere (at kept fuse (run_of false batch whole)) })))
+      → IfSome told (λ kept. Refusal (at kept fuse (run_of false run)) None × Plan (at kept fuse (run_of false run)) [] value)
+      → Told (state_of told fuse (run_of stop run)) (state_of told_new fuse_new (run_of stop run)) (Calls rose (Ok value))
+  read_call None told_new fuse fuse_new stop run rose value up e f plan = tt
+  read_call (Some kept) told_new fuse fuse_new stop run rose value up e f plan =
+      subst (λ t. Told (state_of (Some kept) fuse (run_of stop run)) (state_of t fuse_new (run_of stop run)) (Calls rose (Ok value))) (sym e)
+      (subst (λ x. Calls rose (Ok value) (at kept fuse (run_of stop run)) (at kept x (run_of stop run))) (sym f)
+      (subst (λ b. Calls rose (Ok value) (at kept fuse (run_of b run)) (at kept fuse (run_of b run))) (sym up)
+      (record { allowed = plan.0; events = []; plan = plan.1; goes = goes_nowhere (at kept fuse (run_of false run)) })))
+
+-- a call that only reads, whose answer is this over what is kept
+pub answers_call : {T : Type 0} (back : (kept : Kept) → kept_of (durable_of kept) ≡ kept) (P : Kept → T → Type 0) (told told_new : Option Kept) (fuse fuse_new : Option Fuse) (stop : Bool) (run : Running) (rose : Type 0) (value : T)
+    → stop ≡ false → told_new ≡ told → fuse_new ≡ fuse → IfSome told (λ kept. P kept value)
+    → Told (state_of told fuse (run_of stop run)) (state_of told_new fuse_new (run_of stop run)) (Calls (λ s. Is (read_refusal s)) (OnlyReads P) rose (Ok value))
+answers_call back P told told_new fuse fuse_new stop run rose value up e f is =
+    read_call (λ s. Is (read_refusal s)) (OnlyReads P) told told_new fuse fuse_new stop run rose value up e f (over told is)
+  where
+    over : (told : Option Kept) → IfSome told (λ kept. P kept value)
+        → IfSome told (λ kept. Is (read_refusal (at kept fuse (run_of false run))) None × OnlyReads P (at kept fuse (run_of false run)) [] value)
+    over None is = tt
+    over (Some kept) is = (refl, (refl, subst (λ k. P k value) (sym (back kept)) is))

@@ -10,7 +10,7 @@ use Rattle.mc_model.specs.Cuts.{pairs}
 use Rattle.mc_model.specs.Events.{Event, Store, Process, with_blocks, with_processed, processed_queue}
 use Rattle.mc_model.specs.Kept.{Kept, IsKept, is_stored, processed}
 use Rattle.mc_model.specs.Made.{next_priority}
-use Rattle.mc_model.specs.State.{Durable, OpenBatch, Running, durable_of, kept_of, vertex_of, vertices}
+use Rattle.mc_model.specs.State.{Durable, Running, durable_of, kept_of, vertex_of, vertices}
 use Rattle.mc_keep.specs.Causes.{CommitFails, burnt, fires}
 use Rattle.mc_keep.specs.Changes.{no_changes}
 use Rattle.mc_keep.specs.declared.fuse.Fuse.{Fuse}
@@ -22,7 +22,7 @@ use Rattle.mc_core.specs.Events.{ReplicaState, state_of, all_happen, goes_on, st
 use Rattle.mc_core.specs.Plans.{with_store}
 use Rattle.mc_core.specs.Puts.{Adds, next_links}
 use Rattle.mc_core.specs.Refusals.{kind_of}
-use Rattle.mc_core.specs.Replica.{run_of, running_with}
+use Rattle.mc_core.specs.Counted.{run_of}
 use Rattle.mc_core.proofs.DeletedFacts.{HeadsLaw}
 use Rattle.mc_core.proofs.KindFacts.{kinds, by_kind}
 use Rattle.mc_core.proofs.PlanFacts.{SoundLaw, SameLaw, StoredLaw}
@@ -213,20 +213,20 @@ module _ (back : BackLaw) (sound_law : SoundLaw) (stored_law : StoredLaw) (same_
       (λ some. adds_some kept fuse run key blocks left is
       (some.0, processed_goes kept fuse run (take some.0 blocks) left sound (next_take some.0 blocks kept (next_of kept key blocks sound is)) some.2)) takes
 
-  pub delete_made : (told mid : Option Kept) (fuse fuse_mid : Option Fuse) (stop : Bool) (batch : Option OpenBatch) (whole : Bool) (new : Option ReplicaState) (key : List ℕ) (blocks : List MadeBlock) (rose : Type 0) (result : Result Deleted CoreError)
-      → stop ≡ false → mid ≡ told → fuse_mid ≡ fuse → IfSome told IsKept → IfSome told (λ kept. IsDelete kept key blocks) → Told (state_of mid fuse_mid (run_of stop batch whole)) new (Takes blocks rose result)
-      → Told (state_of told fuse (run_of stop batch whole)) new (AddsDeleted key result)
-  delete_made told mid fuse fuse_mid stop batch whole new key blocks rose result up e f sound is takes =
-      subst (λ b. Told (state_of told fuse (run_of b batch whole)) new (AddsDeleted key result)) (sym up)
-      (over told new sound is (subst (λ b. Told (state_of told fuse (run_of b batch whole)) new (Takes blocks rose result)) up
-      (subst (λ x. Told (state_of told x (run_of stop batch whole)) new (Takes blocks rose result)) f
-      (subst (λ t. Told (state_of t fuse_mid (run_of stop batch whole)) new (Takes blocks rose result)) e takes))))
+  pub delete_made : (told mid : Option Kept) (fuse fuse_mid : Option Fuse) (stop : Bool) (run : Running) (new : Option ReplicaState) (key : List ℕ) (blocks : List MadeBlock) (rose : Type 0) (result : Result Deleted CoreError)
+      → stop ≡ false → mid ≡ told → fuse_mid ≡ fuse → IfSome told IsKept → IfSome told (λ kept. IsDelete kept key blocks) → Told (state_of mid fuse_mid (run_of stop run)) new (Takes blocks rose result)
+      → Told (state_of told fuse (run_of stop run)) new (AddsDeleted key result)
+  delete_made told mid fuse fuse_mid stop run new key blocks rose result up e f sound is takes =
+      subst (λ b. Told (state_of told fuse (run_of b run)) new (AddsDeleted key result)) (sym up)
+      (over told new sound is (subst (λ b. Told (state_of told fuse (run_of b run)) new (Takes blocks rose result)) up
+      (subst (λ x. Told (state_of told x (run_of stop run)) new (Takes blocks rose result)) f
+      (subst (λ t. Told (state_of t fuse_mid (run_of stop run)) new (Takes blocks rose result)) e takes))))
     where
       over : (told : Option Kept) (new : Option ReplicaState) → IfSome told IsKept → IfSome told (λ kept. IsDelete kept key blocks)
-          → Told (state_of told fuse (run_of false batch whole)) new (Takes blocks rose result) → Told (state_of told fuse (run_of false batch whole)) new (AddsDeleted key result)
+          → Told (state_of told fuse (run_of false run)) new (Takes blocks rose result) → Told (state_of told fuse (run_of false run)) new (AddsDeleted key result)
       over None new sound is takes = tt
       over (Some kept) None sound is takes = absurd takes
-      over (Some kept) (Some left) sound is takes = deleted_of kept fuse (running_with batch whole) key blocks rose result left sound is takes
+      over (Some kept) (Some left) sound is takes = deleted_of kept fuse run key blocks rose result left sound is takes
 
 -- a delete that made no blocks
 

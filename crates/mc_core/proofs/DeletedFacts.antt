@@ -12,7 +12,7 @@ use Rattle.mc_model.specs.Cuts.{pairs}
 use Rattle.mc_model.specs.Front.{is_among}
 use Rattle.mc_model.specs.Kept.{Kept, IsKept, processed}
 use Rattle.mc_model.specs.Made.{head_cids, next_priority}
-use Rattle.mc_model.specs.State.{Durable, OpenBatch, Running, durable_of, kept_of}
+use Rattle.mc_model.specs.State.{Durable, Running, durable_of, kept_of}
 use Rattle.mc_keep.specs.Causes.{is_fault_kind}
 use Rattle.mc_keep.specs.declared.fuse.Fuse.{Fuse}
 use Rattle.mc_core.specs.declared.deletes.Deleted.{Deleted}
@@ -23,7 +23,7 @@ use Rattle.mc_core.specs.Deletes.{chain_clash, AreMade, AreNext, IsDelete, Delet
 use Rattle.mc_core.specs.Events.{ReplicaState, state_of, Goes}
 use Rattle.mc_core.specs.Puts.{next_links}
 use Rattle.mc_core.specs.Refusals.{IsDue, key_refusal, kind_of, stops}
-use Rattle.mc_core.specs.Replica.{run_of, running_with}
+use Rattle.mc_core.specs.Counted.{run_of}
 use Rattle.mc_core.proofs.CallFacts.{at, Calls, early_call}
 use Rattle.mc_core.proofs.DeleteFacts.{clash_left}
 use Rattle.mc_core.proofs.EventFacts.{breaks_rose}
@@ -92,38 +92,38 @@ takes_rose blocks P Q (Err error) s new f takes =
     by_kind (kind_of error) (λ x. x) (λ breaks. breaks_rose (all_events (kept_of s.state.durable) blocks) P Q s new f breaks) (λ x. x) takes
 
 -- a delete whose blocks were made
-pub delete_call : (back : BackLaw) (told mid : Option Kept) (fuse fuse_mid : Option Fuse) (stop : Bool) (batch : Option OpenBatch) (whole : Bool) (new : Option ReplicaState) (key : List ℕ) (blocks : List MadeBlock)
+pub delete_call : (back : BackLaw) (told mid : Option Kept) (fuse fuse_mid : Option Fuse) (stop : Bool) (run : Running) (new : Option ReplicaState) (key : List ℕ) (blocks : List MadeBlock)
     (own own_mid own_new : ℕ) (result : Result Deleted CoreError) → stop ≡ false → mid ≡ told → fuse_mid ≡ fuse → own ≤ own_mid → key_refusal key ≡ None → IfSome told (λ kept. IsDelete kept key blocks)
-    → Told (state_of mid fuse_mid (run_of stop batch whole)) new (Takes blocks (Rose own_mid own_new) result)
-    → Told (state_of told fuse (run_of stop batch whole)) new (DeleteCall key (Rose own own_new) result)
-delete_call back told mid fuse fuse_mid stop batch whole new key blocks own own_mid own_new result up e f later good is takes =
-    subst (λ b. Told (state_of told fuse (run_of b batch whole)) new (DeleteCall key (Rose own own_new) result)) (sym up)
-    (over told new is (subst (λ b. Told (state_of told fuse (run_of b batch whole)) new (Takes blocks (Rose own_mid own_new) result)) up
-    (subst (λ x. Told (state_of told x (run_of stop batch whole)) new (Takes blocks (Rose own_mid own_new) result)) f
-    (subst (λ t. Told (state_of t fuse_mid (run_of stop batch whole)) new (Takes blocks (Rose own_mid own_new) result)) e takes))))
+    → Told (state_of mid fuse_mid (run_of stop run)) new (Takes blocks (Rose own_mid own_new) result)
+    → Told (state_of told fuse (run_of stop run)) new (DeleteCall key (Rose own own_new) result)
+delete_call back told mid fuse fuse_mid stop run new key blocks own own_mid own_new result up e f later good is takes =
+    subst (λ b. Told (state_of told fuse (run_of b run)) new (DeleteCall key (Rose own own_new) result)) (sym up)
+    (over told new is (subst (λ b. Told (state_of told fuse (run_of b run)) new (Takes blocks (Rose own_mid own_new) result)) up
+    (subst (λ x. Told (state_of told x (run_of stop run)) new (Takes blocks (Rose own_mid own_new) result)) f
+    (subst (λ t. Told (state_of t fuse_mid (run_of stop run)) new (Takes blocks (Rose own_mid own_new) result)) e takes))))
   where
     over : (told : Option Kept) (new : Option ReplicaState) → IfSome told (λ kept. IsDelete kept key blocks)
-        → Told (state_of told fuse (run_of false batch whole)) new (Takes blocks (Rose own_mid own_new) result) → Told (state_of told fuse (run_of false batch whole)) new (DeleteCall key (Rose own own_new) result)
+        → Told (state_of told fuse (run_of false run)) new (Takes blocks (Rose own_mid own_new) result) → Told (state_of told fuse (run_of false run)) new (DeleteCall key (Rose own own_new) result)
     over None new is takes = tt
     over (Some kept) None is takes = absurd takes
     over (Some kept) (Some after) is takes =
-        call_of (durable_of kept) (running_with batch whole) fuse key blocks (Rose own own_new) result after good (subst (λ k. IsDelete k key blocks) (sym (back kept)) is)
-        (takes_rose blocks (Rose own_mid own_new) (Rose own own_new) result (running (durable_of kept) (running_with batch whole) fuse) after (λ r. omega (arith, r, later)) takes)
+        call_of (durable_of kept) run fuse key blocks (Rose own own_new) result after good (subst (λ k. IsDelete k key blocks) (sym (back kept)) is)
+        (takes_rose blocks (Rose own_mid own_new) (Rose own own_new) result (running (durable_of kept) run fuse) after (λ r. omega (arith, r, later)) takes)
 
 -- a delete that made no blocks
 
 short_is : (key : List ℕ) (rose : Type 0) (error : CoreError) (s new : ReplicaState) → Calls {T = Deleted} (λ s. DeleteRefusal s key) (λ s. DeletePlan s key) rose (Err error) s new → DeleteCall key rose (Err error) s new
 short_is key rose error s new call = by_kind (kind_of error) (λ x. x) (λ x. x) (λ same. inl same) call
 
-delete_due : (back : BackLaw) (told : Option Kept) (fuse : Option Fuse) (batch : Option OpenBatch) (whole : Bool) (key : List ℕ) (error : CoreError) → IfSome told (λ kept. IsDue (DeleteKeptRefusal kept key (key_refusal key)) error)
-    → IfSome told (λ kept. IsDue (DeleteRefusal (at kept fuse (run_of false batch whole)) key) error)
-delete_due back None fuse batch whole key error due = tt
-delete_due back (Some kept) fuse batch whole key error due = subst (λ k. IsDue (DeleteKeptRefusal k key (key_refusal key)) error) (sym (back kept)) due
+delete_due : (back : BackLaw) (told : Option Kept) (fuse : Option Fuse) (run : Running) (key : List ℕ) (error : CoreError) → IfSome told (λ kept. IsDue (DeleteKeptRefusal kept key (key_refusal key)) error)
+    → IfSome told (λ kept. IsDue (DeleteRefusal (at kept fuse (run_of false run)) key) error)
+delete_due back None fuse run key error due = tt
+delete_due back (Some kept) fuse run key error due = subst (λ k. IsDue (DeleteKeptRefusal k key (key_refusal key)) error) (sym (back kept)) due
 
-pub delete_early : (back : BackLaw) (told told_new : Option Kept) (fuse fuse_new : Option Fuse) (stop stop_new : Bool) (batch : Option OpenBatch) (whole : Bool) (key : List ℕ) (rose : Type 0) (error : CoreError)
+pub delete_early : (back : BackLaw) (told told_new : Option Kept) (fuse fuse_new : Option Fuse) (stop stop_new : Bool) (run : Running) (key : List ℕ) (rose : Type 0) (error : CoreError)
     → stop ≡ false → told_new ≡ told → fuse_new ≡ fuse → stop_new ≡ stops error false → (is_fault_kind (kind_of error) ≡ true → rose)
     → IfSome told (λ kept. IsDue (DeleteKeptRefusal kept key (key_refusal key)) error)
-    → Told (state_of told fuse (run_of stop batch whole)) (state_of told_new fuse_new (run_of stop_new batch whole)) (DeleteCall key rose (Err error))
-delete_early back told told_new fuse fuse_new stop stop_new batch whole key rose error up e f g r due =
+    → Told (state_of told fuse (run_of stop run)) (state_of told_new fuse_new (run_of stop_new run)) (DeleteCall key rose (Err error))
+delete_early back told told_new fuse fuse_new stop stop_new run key rose error up e f g r due =
     told_weaker (Calls {T = Deleted} (λ s. DeleteRefusal s key) (λ s. DeletePlan s key) rose (Err error)) (DeleteCall key rose (Err error)) (short_is key rose error) _ _
-    (early_call (λ s. DeleteRefusal s key) (λ s. DeletePlan s key) told told_new fuse fuse_new stop stop_new batch whole rose error up e f g r (delete_due back told fuse batch whole key error due))
+    (early_call (λ s. DeleteRefusal s key) (λ s. DeletePlan s key) told told_new fuse fuse_new stop stop_new run rose error up e f g r (delete_due back told fuse run key error due))

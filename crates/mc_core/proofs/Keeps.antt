@@ -1,5 +1,5 @@
 -- Calls of a replica, one after another.
-use Rattle.std.proofs.Common.{◌≡◌, ◌∙◌, ap, subst, sym, refl, ℕ, Bool, true, false, ◌||◌, Option, Err}
+use Rattle.std.proofs.Common.{◌≡◌, ◌∙◌, ap, subst, sym, refl, ℕ, Bool, true, false, ◌||◌, Option, None, Err}
 use Rattle.std.specs.Prelude.{⊤}
 use Rattle.mc_model.specs.Kept.{Kept}
 use Rattle.mc_keep.specs.Plan.{Schedule}
@@ -7,20 +7,21 @@ use Rattle.mc_base.specs.declared.counted.Counted as counted
 use Rattle.mc_keep.specs.declared.fuse.Fuse.{Fuse}
 use Rattle.mc_keep.specs.declared.keeper.Keeper as keeper
 use Rattle.mc_keep.specs.Causes.{is_fault_kind}
-use Rattle.mc_keep.specs.Frame.{ReadsAt, GoesAt}
-use Rattle.mc_keep.specs.Plan.{is_fault as keeper_failed}
+use Rattle.mc_keep.specs.Causes.{fires}
+use Rattle.mc_keep.specs.Frame.{ReadsAt, CommitsAt, GoesAt}
+use Rattle.mc_keep.specs.Plan.{CommitsAsPlanned, is_fault as keeper_failed}
 use Rattle.mc_keep.specs.declared.error.KeepError.{KeepError}
 use Rattle.mc_keep.specs.declared.error.KeepError.TheVariants.{Failed, Memory}
-use Rattle.mc_keep.proofs.Frames.{goes_itself, goes_more, goes_reads, read_itself, read_well}
+use Rattle.mc_keep.proofs.Frames.{goes_commit, goes_itself, goes_more, goes_reads, read_itself, read_well}
 use Rattle.mc_core.specs.Refusals.{OfKeeper, kind_of, stops}
 use Rattle.mc_core.specs.declared.error.CoreError.{CoreError}
 use Rattle.mc_core.specs.declared.replica.Replica.{Replica}
 use Rattle.mc_core.specs.Exact.{RestSame}
 use Rattle.mc_core.specs.Words.{ContinuesAt, CommitKeepsAt}
 
--- the batch and the gaps wanted stay over two calls
+-- the walk, the batch, and whether every gap is wanted stay over two calls
 pub rest_more : {K D : Type 0} {g : keeper.Ghosts K D} {h : counted.Ghosts K} {i : counted.Ghosts D} {old mid new : Replica K D g h i} → RestSame old mid → RestSame mid new → RestSame old new
-rest_more before next = record { batch_same = next.batch_same ∙ before.batch_same; whole_same = next.whole_same ∙ before.whole_same }
+rest_more before next = record { walk_same = next.walk_same ∙ before.walk_same; batch_same = next.batch_same ∙ before.batch_same; whole_same = next.whole_same ∙ before.whole_same }
 
 module _ {K D : Type 0} {g : keeper.Ghosts K D} {h : counted.Ghosts K} {i : counted.Ghosts D} {told : K → Option Kept} {fuse : K → Option Fuse} {own faults : K → ℕ} {quiet : K → Bool} {schedule : K → Option Schedule} where
   -- the second one is the last
@@ -49,6 +50,12 @@ module _ {K D : Type 0} {g : keeper.Ghosts K D} {h : counted.Ghosts K} {i : coun
     stops = stops;
   }
 
+  -- where one commit has come to it
+  pub commits_on : {spare : K → ℕ} {rows : ℕ} {failed : Bool} {old new : Replica K D g h i} (told_before told_after whole : Option Kept) → CommitsAt told fuse spare own faults quiet rows failed old.keeper new.keeper
+      → (fires (fuse old.keeper) ≡ None → CommitsAsPlanned (schedule old.keeper) (schedule new.keeper) failed told_before told_after whole) → new.stopped ≡ (failed || old.stopped) → RestSame old new
+      → CommitKeepsAt told fuse own faults quiet schedule failed old new
+  commits_on told_before told_after whole commits planned stops rest = record { rest_same = rest; continues = record { keeper_goes = goes_commit told_before told_after whole commits planned; stops = stops } }
+
   -- commits after reads, or after nothing
 
   pub looks_first : {spare : K → ℕ} {old new : Replica K D g h i} → ReadsAt told fuse spare own faults quiet schedule false old.keeper new.keeper → new.stopped ≡ old.stopped → RestSame old new
@@ -56,7 +63,7 @@ module _ {K D : Type 0} {g : keeper.Ghosts K D} {h : counted.Ghosts K} {i : coun
   looks_first reads stops rest = record { rest_same = rest; continues = looks_on reads stops }
 
   pub commit_itself : (now : Replica K D g h i) → CommitKeepsAt told fuse own faults quiet schedule false now now
-  commit_itself now = record { rest_same = record { batch_same = refl; whole_same = refl }; continues = still_on refl refl refl }
+  commit_itself now = record { rest_same = record { walk_same = refl; batch_same = refl; whole_same = refl }; continues = still_on refl refl refl }
 
 -- a keeper's error is a fault exactly where the replica's is
 pub same_fault : (keep : KeepError) (error : CoreError) → OfKeeper keep error → keeper_failed {T = ⊤} (Err keep) ≡ is_fault_kind (kind_of error)

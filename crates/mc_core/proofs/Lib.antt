@@ -1,12 +1,17 @@
 pub mod BatchFacts
 pub mod CallFacts
 pub mod CommitFacts
+pub mod CountFacts
 pub mod CutFacts
 pub mod DeleteFacts
 pub mod DeletedFacts
+pub mod DeliverFacts
+pub mod DrainFacts
 pub mod EventFacts
 pub mod GrowthFacts
+pub mod HearFacts
 pub mod IdFacts
+pub mod JobFacts
 pub mod Keeps
 pub mod KindFacts
 pub mod KnownFacts
@@ -16,6 +21,9 @@ pub mod PartFacts
 pub mod PlanFacts
 pub mod PutFacts
 pub mod RefusalFacts
+pub mod SettledFacts
 pub mod ShortFacts
+pub mod SoundFacts
 pub mod TakenFacts
 pub mod ValueFacts
+pub mod WalkFacts

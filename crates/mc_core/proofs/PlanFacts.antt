@@ -1,5 +1,5 @@
 -- What a plan needs for its commits.
-use Rattle.std.proofs.Common.{◌≡◌, ℕ, Bool, true, false, not, cond, ◌&&◌, ◌||◌, List, [], ◌∷◌, ◌++◌, map, Option, Some, None, Ok, refl, sym, ◌∙◌, ap, subst}
+use Rattle.std.proofs.Common.{◌≡◌, ℕ, Bool, true, false, not, cond, filter, ◌&&◌, ◌||◌, List, [], ◌∷◌, ◌++◌, map, Option, Some, None, Ok, refl, sym, ◌∙◌, ap, subst}
 use Rattle.std.specs.Prelude.{IfSome, unwrap_or, is_some, find, length, ◌==◌}
 use Rattle.std.specs.List.{list_all}
 use Rattle.std.specs.Option.{option_map}
@@ -10,20 +10,21 @@ use Rattle.std.proofs.lemmas.Bool.{and_parts}
 use Rattle.mc_base.specs.declared.cid.Cid.{Cid}
 use Rattle.mc_model.specs.declared.block.Block.{Block}
 use Rattle.mc_model.specs.declared.block.Stored.{Stored}
-use Rattle.mc_model.specs.Events.{processed_mark}
+use Rattle.mc_model.specs.Events.{processed_mark, processed_queue}
 use Rattle.mc_model.specs.Front.{same_cid, is_among, gaps, links}
 use Rattle.mc_model.specs.Graph.{has, all_links}
 use Rattle.mc_model.specs.Kept.{Kept, IsKept, processed, blocks_in, block_in, block_under, bytes_at, is_stored}
 use Rattle.mc_model.specs.Offer.{offer, block_of, empty_delta}
 use Rattle.mc_model.specs.State.{durable_of}
-use Rattle.mc_model.specs.Wanted.{no_queue, want_all, want_unless}
+use Rattle.mc_model.specs.Wanted.{Queue, want_all, want_unless, without}
+use Rattle.mc_core.specs.declared.plan.After.{After}
 use Rattle.mc_keep.specs.declared.changes.Changes.{Changes}
 use Rattle.mc_keep.specs.Changes.{changed, no_changes, row_count}
 use Rattle.mc_keep.specs.New.{AreNew}
 use Rattle.mc_keep.specs.Tables.{StoreFits, MarksFit, RowsFit, FrontFits, ChangesFit}
 use Rattle.mc_front.specs.Front.{mark_over}
 use Rattle.mc_core.specs.declared.plan.Plan.{Plan}
-use Rattle.mc_core.specs.Plans.{IsNew, Processes, IsPlan, IsSomePlan, IsReady, HasLinks, IsShaped, store_change}
+use Rattle.mc_core.specs.Plans.{IsNew, Processes, IsPlan, IsSomePlan, IsReady, IsShaped, store_change, open_links, wants}
 use Rattle.mc_core.proofs.KnownFacts.{known_is}
 
 -- the laws of the crates below that are used here
@@ -69,29 +70,43 @@ module _ (fit_law : FitLaw) (sound_law : SoundLaw) (mark_law : MarkLaw) (links_l
       ∙ ap (λ b. not (length (gaps b) == 0)) (sym (map-append (block_in kept.graph) kept.order cids ∙ ap (λ b. processed kept ++ b) are))
       ∙ sym (mark_law kept cids (more_processed kept blocks sound new stored))
 
-  pub ready : (kept : Kept) (whole : Bool) (blocks : List Block) (changes : Changes) → IsKept kept → AreNew kept blocks
+  -- what is processed then
+  processed_then : (kept : Kept) (blocks : List Block) (changes : Changes) → changes.store ≡ [] → changes.marks ≡ map (λ (block : Block). block.cid) blocks
+      → blocks_in kept.graph (map (λ (block : Block). block.cid) blocks) ≡ blocks → processed (changed kept changes) ≡ processed kept ++ blocks
+  processed_then kept blocks changes only marks are =
+      ap (λ (s : List Stored). blocks_in (kept.graph ++ s) (kept.order ++ changes.marks)) only
+      ∙ ap (λ (graph : List Stored). blocks_in graph (kept.order ++ changes.marks)) (append-nil kept.graph)
+      ∙ ap (λ (cids : List Cid). blocks_in kept.graph (kept.order ++ cids)) marks
+      ∙ map-append (block_in kept.graph) kept.order (map (λ (block : Block). block.cid) blocks)
+      ∙ ap (λ b. processed kept ++ b) are
+
+  pub ready : (kept : Kept) (whole : Bool) (blocks : List Block) (changes : Changes) (after : After) → IsKept kept → AreNew kept blocks
       → list_all (is_stored kept.graph) (map (λ (block : Block). block.cid) blocks) ≡ true → blocks_in kept.graph (map (λ (block : Block). block.cid) blocks) ≡ blocks
-      → Processes kept whole blocks (map (λ (block : Block). block.cid) blocks) changes → IsReady kept whole changes
-  ready kept whole blocks changes sound new stored are p = record {
+      → Processes kept whole blocks (map (λ (block : Block). block.cid) blocks) changes → after.gaps ≡ length (gaps (processed kept ++ blocks))
+      → ((q : Queue) → processed_queue (durable_of kept) q (map (λ (block : Block). block.cid) blocks) ≡ wants (without q (map (λ (block : Block). block.cid) blocks)) after.links)
+      → IsReady kept whole changes after
+  ready kept whole blocks changes after sound new stored are p left wanted = record {
     fits = fit_law kept blocks changes p.only p.marks new stored are p.rows p.front;
     mark = mark_fits kept whole blocks changes sound new stored are p.mark ∙ ap (λ cids. processed_mark whole (durable_of kept) (kept.order ++ cids)) (sym p.marks);
+    gaps_left = left ∙ ap (λ b. length (gaps b)) (sym (processed_then kept blocks changes p.only p.marks are));
+    wanted = subst (λ cids. (q : Queue) → processed_queue (durable_of kept) q cids ≡ wants (without q cids) after.links) (sym p.marks) wanted;
   }
 
-  has_more : (c : Cid) (xs ys : List Cid) → has c xs ≡ true → has c (xs ++ ys) ≡ true
-  has_more c [] ys e = absurd (let f : false ≡ true = e in cc)
-  has_more c (x ∷ xs) ys e = elim (same_cid c x) as (λ t. (t || has c xs) ≡ true → (t || has c (xs ++ ys)) ≡ true) [ true ↦ λ h. refl | false ↦ λ h. has_more c xs ys h ] e
+  -- only the links that are not processed are wanted
+  wants_open : (order : List Cid) (q : Queue) (cids : List Cid) → want_all order q cids ≡ wants q (filter (λ c. not (has c order)) cids)
+  wants_open order q [] = refl
+  wants_open order q (c ∷ cids) =
+      elim (has c order) as (λ t. want_all order (want_unless t q c) cids ≡ wants q (cond (not t) (c ∷ filter (λ d. not (has d order)) cids) (filter (λ d. not (has d order)) cids))) [
+        | true ↦ wants_open order q cids
+        | false ↦ wants_open order (want_unless false q c) cids
+      ]
 
-  wants_none : (order more cids : List Cid) → list_all (is_among order) cids ≡ true → want_all (order ++ more) no_queue cids ≡ no_queue
-  wants_none order more [] e = refl
-  wants_none order more (c ∷ cids) e =
-      let parts = and_parts (is_among order c) (list_all (is_among order) cids) e in
-      ap (λ t. want_all (order ++ more) (want_unless t no_queue c) cids) (has_more c order more parts.0) ∙ wants_none order more cids parts.1
-
-  pub one_has_links : (kept : Kept) (block : Block) → list_all (is_stored kept.graph) (block.cid ∷ []) ≡ true → blocks_in kept.graph (block.cid ∷ []) ≡ block ∷ []
-      → list_all (is_among kept.order) block.links ≡ true → HasLinks kept (block.cid ∷ [])
-  one_has_links kept block stored are linked =
-      ap (λ cids. want_all (kept.order ++ block.cid ∷ []) no_queue cids) (links_law kept (block.cid ∷ []) stored ∙ ap links are ∙ append-nil block.links)
-      ∙ wants_none kept.order (block.cid ∷ []) block.links linked
+  pub one_wants : (kept : Kept) (block : Block) (links_left : List Cid) → list_all (is_stored kept.graph) (block.cid ∷ []) ≡ true → blocks_in kept.graph (block.cid ∷ []) ≡ block ∷ []
+      → links_left ≡ open_links kept block → (q : Queue) → processed_queue (durable_of kept) q (block.cid ∷ []) ≡ wants (without q (block.cid ∷ [])) links_left
+  one_wants kept block links_left stored are linked q =
+      ap (λ cids. want_all (kept.order ++ block.cid ∷ []) (without q (block.cid ∷ [])) cids) (links_law kept (block.cid ∷ []) stored ∙ ap links are ∙ append-nil block.links)
+      ∙ wants_open (kept.order ++ block.cid ∷ []) (without q (block.cid ∷ [])) block.links
+      ∙ ap (wants (without q (block.cid ∷ []))) (sym linked)
 
 -- a stored block is the one that its bytes are
 
@@ -129,8 +144,8 @@ SameLaw = (kept : Kept) (stored : List Stored) → IsKept kept → processed (ch
 abbrev storing : Cid → List ℕ → Changes
 storing cid bytes = record no_changes { store = record { cid = cid; bytes = bytes } ∷ [] }
 
-abbrev pub Both : Bool → Changes → Kept → Type 0
-Both whole process kept = IsReady kept whole process × HasLinks kept process.marks
+abbrev pub Both : Bool → Changes → After → Kept → Type 0
+Both whole process after kept = IsReady kept whole process after
 
 process_of : (old new : Kept) (whole : Bool) (blocks : List Block) (cids : List Cid) (changes : Changes) → new.mark ≡ old.mark → processed new ≡ processed old
     → Processes old whole blocks cids changes → Processes new whole blocks cids changes
@@ -147,43 +162,43 @@ some_is x y e = ap (λ o. unwrap_or o no_changes) e
 
 module _ (fit_law : FitLaw) (sound_law : SoundLaw) (mark_law : MarkLaw) (links_law : LinksLaw) (storing_law : StoringLaw) (stored_law : StoredLaw) (same_law : SameLaw) where
   -- a stored block that is to be processed
-  both_stored : (kept : Kept) (whole : Bool) (block : Block) (bytes : List ℕ) (process : Changes) → IsKept kept → offer block.cid bytes ≡ Ok block → is_among kept.order block.cid ≡ false
-      → list_all (is_among kept.order) block.links ≡ true → bytes_at kept.graph block.cid ≡ Some bytes → Processes kept whole (block ∷ []) (block.cid ∷ []) process → Both whole process kept
-  both_stored kept whole block bytes process sound good new linked at p =
+  both_stored : (kept : Kept) (whole : Bool) (block : Block) (bytes : List ℕ) (process : Changes) (after : After) → IsKept kept → offer block.cid bytes ≡ Ok block → is_among kept.order block.cid ≡ false
+      → after.links ≡ open_links kept block → after.gaps ≡ length (gaps (processed kept ++ block ∷ [])) → bytes_at kept.graph block.cid ≡ Some bytes → Processes kept whole (block ∷ []) (block.cid ∷ []) process
+      → Both whole process after kept
+  both_stored kept whole block bytes process after sound good new linked left at p =
       let stored = one_stored kept.graph block bytes at in
-      let are = one_block kept.graph block bytes at good in (
-        ready fit_law sound_law mark_law links_law kept whole (block ∷ []) process sound (one_new kept block new) stored are p,
-        subst (λ cids. HasLinks kept cids) (sym p.marks) (one_has_links fit_law sound_law mark_law links_law kept block stored are linked),
-      )
+      let are = one_block kept.graph block bytes at good in
+      ready fit_law sound_law mark_law links_law kept whole (block ∷ []) process after sound (one_new kept block new) stored are p left
+      (one_wants fit_law sound_law mark_law links_law kept block after.links stored are linked)
 
-  store_ready : (kept : Kept) (whole : Bool) (block : Block) (bytes : List ℕ) (process : Changes) → IsKept kept → IsNew kept block bytes → is_stored kept.graph block.cid ≡ false
-      → Processes kept whole (block ∷ []) (block.cid ∷ []) process
-      → ChangesFit kept (storing block.cid bytes) × Both whole process (changed kept (storing block.cid bytes))
-  store_ready kept whole block bytes process sound n unstored p =
+  store_ready : (kept : Kept) (whole : Bool) (block : Block) (bytes : List ℕ) (process : Changes) (after : After) → IsKept kept → IsNew kept block bytes after.links → is_stored kept.graph block.cid ≡ false
+      → Processes kept whole (block ∷ []) (block.cid ∷ []) process → after.gaps ≡ length (gaps (processed kept ++ block ∷ []))
+      → ChangesFit kept (storing block.cid bytes) × Both whole process after (changed kept (storing block.cid bytes))
+  store_ready kept whole block bytes process after sound n unstored p left =
       let s : List Stored = record { cid = block.cid; bytes = bytes } ∷ [] in
-      let after : Kept = record { graph = kept.graph ++ s; order = kept.order; mark = kept.mark } in
+      let then : Kept = record { graph = kept.graph ++ s; order = kept.order; mark = kept.mark } in
       let store : StoreFits kept (record no_changes { store = s }) = record { good = ap (λ r. is_ok r && true) n.good; new = ap (λ b. b || false) unstored; once = refl } in
-      let sound_after : IsKept after = subst IsKept (stored_law kept s) (sound_law kept (record no_changes { store = s }) sound store (record { stored = refl; new = refl; once = refl })) in
-      let same : processed after ≡ processed kept = ap processed (sym (stored_law kept s)) ∙ same_law kept s sound in (
+      let sound_then : IsKept then = subst IsKept (stored_law kept s) (sound_law kept (record no_changes { store = s }) sound store (record { stored = refl; new = refl; once = refl })) in
+      let same : processed then ≡ processed kept = ap processed (sym (stored_law kept s)) ∙ same_law kept s sound in (
         storing_law kept s store,
-        subst (Both whole process) (sym (stored_law kept s))
-            (both_stored after whole block bytes process sound_after n.good n.new n.linked (stored_now kept.graph block.cid bytes unstored)
-            (process_of kept after whole (block ∷ []) (block.cid ∷ []) process refl same p)),
+        subst (Both whole process after) (sym (stored_law kept s))
+            (both_stored then whole block bytes process after sound_then n.good n.new n.linked (left ∙ ap (λ b. length (gaps (b ++ block ∷ []))) (sym same)) (stored_now kept.graph block.cid bytes unstored)
+            (process_of kept then whole (block ∷ []) (block.cid ∷ []) process refl same p)),
       )
 
-  pub plan_stores : (kept : Kept) (whole : Bool) (store process : Changes) → IsKept kept → IsSomePlan kept whole (record { store = Some store; process = process })
-      → ChangesFit kept store × Both whole process (changed kept store)
-  plan_stores kept whole store process sound plan =
-      elim (is_stored kept.graph plan.block.cid) as (λ t. is_stored kept.graph plan.block.cid ≡ t → Some store ≡ cond t None (Some (storing plan.block.cid plan.bytes)) → ChangesFit kept store × Both whole process (changed kept store)) [
+  pub plan_stores : (kept : Kept) (whole : Bool) (store process : Changes) (after : After) → IsKept kept → IsSomePlan kept whole (record { store = Some store; process = process; after = after })
+      → ChangesFit kept store × Both whole process after (changed kept store)
+  plan_stores kept whole store process after sound plan =
+      elim (is_stored kept.graph plan.block.cid) as (λ t. is_stored kept.graph plan.block.cid ≡ t → Some store ≡ cond t None (Some (storing plan.block.cid plan.bytes)) → ChangesFit kept store × Both whole process after (changed kept store)) [
         | true ↦ λ e is. absurd (let f : true ≡ false = ap is_some is in cc)
-        | false ↦ λ e is. subst (λ x. ChangesFit kept x × Both whole process (changed kept x)) (sym (some_is store (storing plan.block.cid plan.bytes) is))
-            (store_ready kept whole plan.block plan.bytes process sound plan.plans.block_is_new e plan.plans.process)
+        | false ↦ λ e is. subst (λ x. ChangesFit kept x × Both whole process after (changed kept x)) (sym (some_is store (storing plan.block.cid plan.bytes) is))
+            (store_ready kept whole plan.block plan.bytes process after sound plan.plans.block_is_new e plan.plans.process plan.plans.gaps_left)
       ] refl plan.plans.store
 
-  pub plan_has_stored : (kept : Kept) (whole : Bool) (process : Changes) → IsKept kept → IsSomePlan kept whole (record { store = None; process = process }) → Both whole process kept
-  plan_has_stored kept whole process sound plan =
-      elim (is_stored kept.graph plan.block.cid) as (λ t. is_stored kept.graph plan.block.cid ≡ t → None ≡ cond t None (Some (storing plan.block.cid plan.bytes)) → Both whole process kept) [
-        | true ↦ λ e is. both_stored kept whole plan.block plan.bytes process sound plan.plans.block_is_new.good plan.plans.block_is_new.new plan.plans.block_is_new.linked
+  pub plan_has_stored : (kept : Kept) (whole : Bool) (process : Changes) (after : After) → IsKept kept → IsSomePlan kept whole (record { store = None; process = process; after = after }) → Both whole process after kept
+  plan_has_stored kept whole process after sound plan =
+      elim (is_stored kept.graph plan.block.cid) as (λ t. is_stored kept.graph plan.block.cid ≡ t → None ≡ cond t None (Some (storing plan.block.cid plan.bytes)) → Both whole process after kept) [
+        | true ↦ λ e is. both_stored kept whole plan.block plan.bytes process after sound plan.plans.block_is_new.good plan.plans.block_is_new.new plan.plans.block_is_new.linked plan.plans.gaps_left
             (known_is (bytes_at kept.graph plan.block.cid) plan.bytes e plan.plans.block_is_new.known) plan.plans.process
         | false ↦ λ e is. absurd (let f : false ≡ true = ap is_some is in cc)
       ] refl plan.plans.store
@@ -197,20 +212,20 @@ module _ (fit_law : FitLaw) (sound_law : SoundLaw) (mark_law : MarkLaw) (links_l
   pub told_fits : (told : Option Kept) (whole : Bool) (plan : Plan) (store : Changes) → plan.store ≡ Some store → IfSome told IsKept → IfSome told (λ kept. IsSomePlan kept whole plan) → IfSome told (λ kept. ChangesFit kept store)
   told_fits None whole plan store is sound p = tt
   told_fits (Some kept) whole plan store is sound p =
-      (plan_stores fit_law sound_law mark_law links_law storing_law stored_law same_law kept whole store plan.process sound
-      (subst (λ s. IsSomePlan kept whole (record { store = s; process = plan.process })) is p)).0
+      (plan_stores fit_law sound_law mark_law links_law storing_law stored_law same_law kept whole store plan.process plan.after sound
+      (subst (λ s. IsSomePlan kept whole (record { store = s; process = plan.process; after = plan.after })) is p)).0
 
-  pub told_stores : (told : Option Kept) (whole : Bool) (plan : Plan) (store : Changes) → plan.store ≡ Some store → IfSome told IsKept → IfSome told (λ kept. IsSomePlan kept whole plan) → IfSome told (λ kept. Both whole plan.process (changed kept store))
+  pub told_stores : (told : Option Kept) (whole : Bool) (plan : Plan) (store : Changes) → plan.store ≡ Some store → IfSome told IsKept → IfSome told (λ kept. IsSomePlan kept whole plan) → IfSome told (λ kept. Both whole plan.process plan.after (changed kept store))
   told_stores None whole plan store is sound p = tt
   told_stores (Some kept) whole plan store is sound p =
-      (plan_stores fit_law sound_law mark_law links_law storing_law stored_law same_law kept whole store plan.process sound
-      (subst (λ s. IsSomePlan kept whole (record { store = s; process = plan.process })) is p)).1
+      (plan_stores fit_law sound_law mark_law links_law storing_law stored_law same_law kept whole store plan.process plan.after sound
+      (subst (λ s. IsSomePlan kept whole (record { store = s; process = plan.process; after = plan.after })) is p)).1
 
-  pub told_known : (told : Option Kept) (whole : Bool) (plan : Plan) → plan.store ≡ None → IfSome told IsKept → IfSome told (λ kept. IsSomePlan kept whole plan) → IfSome told (Both whole plan.process)
+  pub told_known : (told : Option Kept) (whole : Bool) (plan : Plan) → plan.store ≡ None → IfSome told IsKept → IfSome told (λ kept. IsSomePlan kept whole plan) → IfSome told (Both whole plan.process plan.after)
   told_known None whole plan is sound p = tt
   told_known (Some kept) whole plan is sound p =
-      plan_has_stored fit_law sound_law mark_law links_law storing_law stored_law same_law kept whole plan.process sound
-      (subst (λ s. IsSomePlan kept whole (record { store = s; process = plan.process })) is p)
+      plan_has_stored fit_law sound_law mark_law links_law storing_law stored_law same_law kept whole plan.process plan.after sound
+      (subst (λ s. IsSomePlan kept whole (record { store = s; process = plan.process; after = plan.after })) is p)
 
 -- a plan is made
 
@@ -219,26 +234,25 @@ store_is : (graph : List Stored) (cid : Cid) (bytes : List ℕ) (known : Bool) (
 store_is graph cid bytes true store e p q = p refl ∙ ap (λ t. cond t None (Some (storing_pub cid bytes))) e
 store_is graph cid bytes false store e p q = q refl ∙ ap (λ t. cond t None (Some (storing_pub cid bytes))) e
 
-pub plan_is : (told : Option Kept) (whole : Bool) (block : Block) (bytes : List ℕ) (known : Bool) (store : Option Changes) (process : Changes) → IfSome told (λ kept. IsNew kept block bytes)
+pub plan_is : (told : Option Kept) (whole : Bool) (block : Block) (bytes : List ℕ) (known : Bool) (store : Option Changes) (process : Changes) (after : After) → IfSome told (λ kept. IsNew kept block bytes after.links)
     → IfSome told (λ kept. known ≡ is_stored kept.graph block.cid) → (known ≡ true → store ≡ None) → (known ≡ false → store ≡ Some (storing_pub block.cid bytes))
-    → IfSome told (λ kept. Processes kept whole (block ∷ []) (block.cid ∷ []) process) → IfSome told (λ kept. IsPlan kept whole block bytes (record { store = store; process = process }))
-plan_is None whole block bytes known store process new e p q processes = tt
-plan_is (Some kept) whole block bytes known store process new e p q processes =
-    record { block_is_new = new; store = store_is kept.graph block.cid bytes known store e p q; process = processes }
-
-abbrev is_nil : List Cid → Bool
-is_nil [] = true
-is_nil (c ∷ cids) = false
+    → IfSome told (λ kept. Processes kept whole (block ∷ []) (block.cid ∷ []) process) → IfSome told (λ kept. after.gaps ≡ length (gaps (processed kept ++ block ∷ [])))
+    → IfSome told (λ kept. IsPlan kept whole block bytes (record { store = store; process = process; after = after }))
+plan_is None whole block bytes known store process after new e p q processes left = tt
+plan_is (Some kept) whole block bytes known store process after new e p q processes left =
+    record { block_is_new = new; store = store_is kept.graph block.cid bytes known store e p q; process = processes; gaps_left = left }
 
 shape_store : (known : Bool) (cid : Cid) (bytes : List ℕ) (store : Option Changes) → (known ≡ true → store ≡ None) → (known ≡ false → store ≡ Some (storing_pub cid bytes))
     → IfSome store (λ s. (s.marks ≡ []) × (s.mark ≡ None) × (row_count s ≡ 1))
 shape_store true cid bytes store p q = subst (λ o. IfSome o (λ s. (s.marks ≡ []) × (s.mark ≡ None) × (row_count s ≡ 1))) (sym (p refl)) tt
 shape_store false cid bytes store p q = subst (λ o. IfSome o (λ s. (s.marks ≡ []) × (s.mark ≡ None) × (row_count s ≡ 1))) (sym (q refl)) (refl, refl, refl)
 
-pub plan_shape : (known : Bool) (cid : Cid) (bytes : List ℕ) (store : Option Changes) (process : Changes) → (known ≡ true → store ≡ None) → (known ≡ false → store ≡ Some (storing_pub cid bytes))
-    → process.store ≡ [] → process.marks ≡ cid ∷ [] → IsShaped (record { store = store; process = process })
-plan_shape known cid bytes store process p q only marks = record {
-  store = shape_store known cid bytes store p q;
-  only = only;
-  marks = λ e. absurd (let f : false ≡ true = ap is_nil (sym marks ∙ e) in cc);
-}
+pub plan_shape : (known : Bool) (cid : Cid) (bytes : List ℕ) (store : Option Changes) (process : Changes) (links : List Cid) (left : ℕ) → (known ≡ true → store ≡ None) → (known ≡ false → store ≡ Some (storing_pub cid bytes))
+    → process.store ≡ [] → process.marks ≡ cid ∷ [] → IsShaped (record { store = store; process = process; after = record { cid = cid; links = links; gaps = left } })
+plan_shape known cid bytes store process links left p q only marks = record { store = shape_store known cid bytes store p q; only = only; marks = marks }
+
+-- what only stores leaves what is processed
+pub stores_only : ((kept : Kept) (stored : List Stored) → IsKept kept → processed (changed kept (record no_changes { store = stored })) ≡ processed kept) → (told : Option Kept) (store : Changes) → IfSome told IsKept → store.marks ≡ []
+    → (kept : Kept) → told ≡ Some kept → processed (changed kept store) ≡ processed kept
+stores_only same told store sound none kept e =
+    ap (λ (cids : List Cid). blocks_in (kept.graph ++ store.store) (kept.order ++ cids)) none ∙ same kept store.store (subst (λ t. IfSome t IsKept) e sound)

@@ -6,14 +6,14 @@ use Rattle.mc_model.specs.declared.delta.Delta.{Delta}
 use Rattle.mc_model.specs.Events.{Process}
 use Rattle.mc_model.specs.Kept.{Kept}
 use Rattle.mc_model.specs.Made.{made_bytes, made_cid}
-use Rattle.mc_model.specs.State.{OpenBatch, durable_of, kept_of}
+use Rattle.mc_model.specs.State.{Running, durable_of, kept_of}
 use Rattle.mc_keep.specs.declared.fuse.Fuse.{Fuse}
 use Rattle.mc_core.specs.declared.error.CoreError.{CoreError}
 use Rattle.mc_core.specs.declared.made.Planned.{Planned}
 use Rattle.mc_core.specs.Plans.{IsSomePlan, plan_events, with_store, store_change}
 use Rattle.mc_core.specs.Puts.{IsPlanned, MadePlan, PutPlan, made_events, next_links, delta_of_put, put_kept_refusal, put_refusal}
 use Rattle.mc_core.specs.Refusals.{Is, IsDue}
-use Rattle.mc_core.specs.Replica.{run_of}
+use Rattle.mc_core.specs.Counted.{run_of}
 use Rattle.mc_core.proofs.CallFacts.{at}
 
 -- what is told, as a state and back
@@ -34,23 +34,23 @@ some_plan (Some kept) whole links delta planned p = record { block = _; bytes = 
 made_plan : (kept : Kept) (whole : Bool) (delta : Delta) (planned : Planned) → IsPlanned kept whole (next_links kept) delta planned → MadePlan kept delta (plan_events planned.plan) planned.written
 made_plan kept whole delta planned p = (plan_is_made kept whole (next_links kept) delta planned p, p.written)
 
-module _ (back : BackLaw) (told : Option Kept) (fuse : Option Fuse) (batch : Option OpenBatch) (whole : Bool) (key value : List ℕ) where
+module _ (back : BackLaw) (told : Option Kept) (fuse : Option Fuse) (run : Running) (key value : List ℕ) where
   pub put_due : (error : CoreError) → IfSome told (λ kept. IsDue (Is (put_kept_refusal kept key value)) error)
-      → IfSome told (λ kept. IsDue (Is (put_refusal (at kept fuse (run_of false batch whole)) key value)) error)
+      → IfSome told (λ kept. IsDue (Is (put_refusal (at kept fuse (run_of false run)) key value)) error)
   put_due error due = over told due
     where
       over : (told : Option Kept) → IfSome told (λ kept. IsDue (Is (put_kept_refusal kept key value)) error)
-          → IfSome told (λ kept. IsDue (Is (put_refusal (at kept fuse (run_of false batch whole)) key value)) error)
+          → IfSome told (λ kept. IsDue (Is (put_refusal (at kept fuse (run_of false run)) key value)) error)
       over None due = tt
       over (Some kept) due = subst (λ k. IsDue (Is (put_kept_refusal k key value)) error) (sym (back kept)) due
 
-  pub put_plan : (planned : Planned) → IfSome told (λ kept. put_kept_refusal kept key value ≡ None) → IfSome told (λ kept. IsPlanned kept whole (next_links kept) (delta_of_put kept key value) planned)
-      → IfSome told (λ kept. Is (put_refusal (at kept fuse (run_of false batch whole)) key value) None × PutPlan (at kept fuse (run_of false batch whole)) key value (plan_events planned.plan) planned.written)
+  pub put_plan : (planned : Planned) → IfSome told (λ kept. put_kept_refusal kept key value ≡ None) → IfSome told (λ kept. IsPlanned kept run.whole (next_links kept) (delta_of_put kept key value) planned)
+      → IfSome told (λ kept. Is (put_refusal (at kept fuse (run_of false run)) key value) None × PutPlan (at kept fuse (run_of false run)) key value (plan_events planned.plan) planned.written)
   put_plan planned allowed plan = over told allowed plan
     where
-      over : (told : Option Kept) → IfSome told (λ kept. put_kept_refusal kept key value ≡ None) → IfSome told (λ kept. IsPlanned kept whole (next_links kept) (delta_of_put kept key value) planned)
-          → IfSome told (λ kept. Is (put_refusal (at kept fuse (run_of false batch whole)) key value) None × PutPlan (at kept fuse (run_of false batch whole)) key value (plan_events planned.plan) planned.written)
+      over : (told : Option Kept) → IfSome told (λ kept. put_kept_refusal kept key value ≡ None) → IfSome told (λ kept. IsPlanned kept run.whole (next_links kept) (delta_of_put kept key value) planned)
+          → IfSome told (λ kept. Is (put_refusal (at kept fuse (run_of false run)) key value) None × PutPlan (at kept fuse (run_of false run)) key value (plan_events planned.plan) planned.written)
       over None allowed plan = tt
       over (Some kept) allowed plan =
           subst (λ k. Is (put_kept_refusal k key value) None × MadePlan k (delta_of_put k key value) (plan_events planned.plan) planned.written) (sym (back kept))
-          (sym allowed, made_plan kept whole (delta_of_put kept key value) planned plan)
+          (sym allowed, made_plan kept run.whole (delta_of_put kept key value) planned plan)

@@ -14,7 +14,7 @@ use Rattle.mc_model.specs.Front.{same_cid, is_among}
 use Rattle.mc_model.specs.Kept.{Kept, IsKept, block_in, blocks_in, bytes_at, is_stored, processed}
 use Rattle.mc_model.specs.Live.{value}
 use Rattle.mc_model.specs.Made.{next_priority}
-use Rattle.mc_model.specs.State.{OpenBatch, Running, durable_of, kept_of, stored_of}
+use Rattle.mc_model.specs.State.{Running, durable_of, kept_of, stored_of}
 use Rattle.mc_model.proofs.Blocks.{block_in_cid}
 use Rattle.mc_model.proofs.Counts.{cid_itself}
 use Rattle.mc_keep.specs.Changes.{no_changes}
@@ -28,7 +28,7 @@ use Rattle.mc_core.specs.Events.{ReplicaState, state_of, Goes}
 use Rattle.mc_core.specs.Plans.{IsNew}
 use Rattle.mc_core.specs.Puts.{next_links}
 use Rattle.mc_core.specs.Refusals.{kind_of}
-use Rattle.mc_core.specs.Replica.{run_of, running_with}
+use Rattle.mc_core.specs.Counted.{run_of}
 use Rattle.mc_core.proofs.DeletedFacts.{HeadsLaw}
 use Rattle.mc_core.proofs.IdFacts.{AreApart, are_apart}
 use Rattle.mc_core.proofs.KindFacts.{kinds, by_kind}
@@ -46,7 +46,7 @@ new_of block bytes = record { cid = block.cid; bytes = bytes } ∷ []
 abbrev graph_with : Kept → Block → List ℕ → Bool → List Stored
 graph_with kept block bytes known = cond known kept.graph (kept.graph ++ new_of block bytes)
 
-bytes_now : (kept : Kept) (block : Block) (bytes : List ℕ) → IsNew kept block bytes → bytes_at (with_made kept block.cid bytes).graph block.cid ≡ Some bytes
+bytes_now : (kept : Kept) (block : Block) (bytes : List ℕ) → IsNew kept block bytes [] → bytes_at (with_made kept block.cid bytes).graph block.cid ≡ Some bytes
 bytes_now kept block bytes new =
     elim (is_stored kept.graph block.cid) as (λ t. is_stored kept.graph block.cid ≡ t → bytes_at (graph_with kept block bytes t) block.cid ≡ Some bytes) [
       | true ↦ λ e. known_is (bytes_at kept.graph block.cid) bytes e new.known
@@ -61,13 +61,13 @@ module _ (sound_law : SoundLaw) (stored_law : StoredLaw) (same_law : SameLaw) wh
         | false ↦ ap processed (sym (stored_law kept (new_of block bytes))) ∙ same_law kept (new_of block bytes) sound
       ]
 
-  pub after_one : (kept : Kept) (block : Block) (bytes : List ℕ) → IsKept kept → IsNew kept block bytes → processed (with_made kept block.cid bytes) ≡ processed kept ++ block ∷ []
+  pub after_one : (kept : Kept) (block : Block) (bytes : List ℕ) → IsKept kept → IsNew kept block bytes [] → processed (with_made kept block.cid bytes) ≡ processed kept ++ block ∷ []
   after_one kept block bytes sound new =
       let graph : List Stored = (with_made kept block.cid bytes).graph in
       map-append (block_in graph) kept.order (block.cid ∷ []) ∙ ap (λ l. l ++ blocks_in graph (block.cid ∷ [])) (old_now kept block bytes sound)
       ∙ ap (λ l. processed kept ++ l) (one_block graph block bytes (bytes_now kept block bytes new) new.good)
 
-  pub kept_one : (kept : Kept) (block : Block) (bytes : List ℕ) → IsKept kept → IsNew kept block bytes → IsKept (with_made kept block.cid bytes)
+  pub kept_one : (kept : Kept) (block : Block) (bytes : List ℕ) → IsKept kept → IsNew kept block bytes [] → IsKept (with_made kept block.cid bytes)
   kept_one kept block bytes sound new =
       let cids : List Cid = block.cid ∷ [] in
       let after : List Stored → Kept = λ graph. record { graph = graph; order = kept.order ++ cids; mark = kept.mark } in
@@ -149,20 +149,20 @@ module _ (back : BackLaw) (sound_law : SoundLaw) (stored_law : StoredLaw) (same_
       (value_left kept fuse run key blocks some.0 left sound is some.1 (subst (λ k. Goes (all_events k (take some.0 blocks)) (running (durable_of kept) run fuse) left) (back kept) some.2))) takes
 
   -- a delete whose blocks were made
-  pub short_call : (told mid : Option Kept) (fuse fuse_mid : Option Fuse) (stop : Bool) (batch : Option OpenBatch) (whole : Bool) (new : Option ReplicaState) (key : List ℕ) (blocks : List MadeBlock) (rose : Type 0) (result : Result Deleted CoreError)
-      → stop ≡ false → mid ≡ told → fuse_mid ≡ fuse → IfSome told IsKept → IfSome told (λ kept. IsDelete kept key blocks) → Told (state_of mid fuse_mid (run_of stop batch whole)) new (Takes blocks rose result)
-      → Told (state_of told fuse (run_of stop batch whole)) new (ShortKeeps key result)
-  short_call told mid fuse fuse_mid stop batch whole new key blocks rose result up e f sound is takes =
-      subst (λ b. Told (state_of told fuse (run_of b batch whole)) new (ShortKeeps key result)) (sym up)
-      (over told new sound is (subst (λ b. Told (state_of told fuse (run_of b batch whole)) new (Takes blocks rose result)) up
-      (subst (λ x. Told (state_of told x (run_of stop batch whole)) new (Takes blocks rose result)) f
-      (subst (λ t. Told (state_of t fuse_mid (run_of stop batch whole)) new (Takes blocks rose result)) e takes))))
+  pub short_call : (told mid : Option Kept) (fuse fuse_mid : Option Fuse) (stop : Bool) (run : Running) (new : Option ReplicaState) (key : List ℕ) (blocks : List MadeBlock) (rose : Type 0) (result : Result Deleted CoreError)
+      → stop ≡ false → mid ≡ told → fuse_mid ≡ fuse → IfSome told IsKept → IfSome told (λ kept. IsDelete kept key blocks) → Told (state_of mid fuse_mid (run_of stop run)) new (Takes blocks rose result)
+      → Told (state_of told fuse (run_of stop run)) new (ShortKeeps key result)
+  short_call told mid fuse fuse_mid stop run new key blocks rose result up e f sound is takes =
+      subst (λ b. Told (state_of told fuse (run_of b run)) new (ShortKeeps key result)) (sym up)
+      (over told new sound is (subst (λ b. Told (state_of told fuse (run_of b run)) new (Takes blocks rose result)) up
+      (subst (λ x. Told (state_of told x (run_of stop run)) new (Takes blocks rose result)) f
+      (subst (λ t. Told (state_of t fuse_mid (run_of stop run)) new (Takes blocks rose result)) e takes))))
     where
       over : (told : Option Kept) (new : Option ReplicaState) → IfSome told IsKept → IfSome told (λ kept. IsDelete kept key blocks)
-          → Told (state_of told fuse (run_of false batch whole)) new (Takes blocks rose result) → Told (state_of told fuse (run_of false batch whole)) new (ShortKeeps key result)
+          → Told (state_of told fuse (run_of false run)) new (Takes blocks rose result) → Told (state_of told fuse (run_of false run)) new (ShortKeeps key result)
       over None new sound is takes = tt
       over (Some kept) None sound is takes = absurd takes
-      over (Some kept) (Some left) sound is takes = short_of kept fuse (running_with batch whole) key blocks rose result left sound is takes
+      over (Some kept) (Some left) sound is takes = short_of kept fuse run key blocks rose result left sound is takes
 
 -- a delete that made no blocks
 

@@ -1,9 +1,10 @@
 -- Made blocks, taken up one after another.
-use Rattle.std.proofs.Common.{◌≡◌, ◌≤◌, ◌<◌, ◌+◌, ℕ, Bool, true, false, cond, ◌&&◌, List, [], ◌∷◌, ◌++◌, length, map, take, suc, zero, Option, Some, None, Ok, Err, refl, sym, ◌∙◌, ap, subst, arith}
-use Rattle.std.specs.Prelude.{IfSome, is_some}
+use Rattle.std.proofs.Common.{◌≡◌, ◌≤◌, ◌<◌, ◌+◌, ℕ, Bool, true, false, not, cond, filter, ◌&&◌, List, [], ◌∷◌, ◌++◌, length, map, take, suc, zero, Option, Some, None, Ok, Err, refl, sym, ◌∙◌, ap, subst, arith}
+use Rattle.std.specs.Prelude.{IfSome, ◌-◌, ◌^◌, is_some, min, nat_lt}
 use Rattle.std.specs.List.{list_all}
 use Rattle.std.specs.Str.{bytes_eq}
 use Rattle.std.proofs.lemmas.List.{append-nil, append_assoc, length-append, map-append, take_at}
+use Rattle.std.proofs.lemmas.Bool.Decides.{nat_tests}
 use Rattle.std.proofs.lemmas.Slice.Eq.{bytes_eq-Decides}
 use Rattle.mc_base.specs.Causes.{Rose}
 use Rattle.mc_base.specs.Told.{Told}
@@ -14,10 +15,11 @@ use Rattle.mc_model.specs.declared.delta.Delta.{Delta}
 use Rattle.mc_model.specs.Cuts.{Pair, IsCuts}
 use Rattle.mc_model.specs.Events.{Event, Process, with_blocks, with_processed, processed_queue}
 use Rattle.mc_model.specs.Front.{is_among}
+use Rattle.mc_model.specs.Graph.{has}
 use Rattle.mc_model.specs.Kept.{Kept, bytes_at, is_stored}
 use Rattle.mc_model.specs.Made.{made_bytes, made_cid}
-use Rattle.mc_model.specs.Offer.{block_max}
-use Rattle.mc_model.specs.State.{Durable, OpenBatch, Running, durable_of, kept_of, stored_of, vertex_of, vertices}
+use Rattle.mc_model.specs.Offer.{block_max, offer}
+use Rattle.mc_model.specs.State.{Durable, Running, durable_of, kept_of, stored_of, vertex_of, vertices}
 use Rattle.mc_model.proofs.Counts.{cid_itself}
 use Rattle.mc_keep.specs.Causes.{burnt}
 use Rattle.mc_keep.specs.Changes.{no_changes}
@@ -26,15 +28,16 @@ use Rattle.mc_core.specs.declared.deletes.Deleted.{Deleted}
 use Rattle.mc_core.specs.declared.deletes.MadeBlock.{MadeBlock}
 use Rattle.mc_core.specs.declared.error.CoreError.{CoreError}
 use Rattle.mc_core.specs.declared.plan.Plan.{Plan}
-use Rattle.mc_core.specs.declared.error.CoreError.TheVariants.{Clash, KeeperFault}
+use Rattle.mc_core.specs.declared.error.CoreError.TheVariants.{BlockTooLarge, Clash, KeeperFault}
 use Rattle.mc_core.specs.Deletes.{with_made, with_block, with_all, chain_events, IsMade, AreMade, AreNext, block_events, all_events, OutsideIs, EndsOne, Takes}
 use Rattle.mc_core.specs.Events.{ReplicaState, state_of, all_happen, Goes, Breaks}
 use Rattle.mc_core.specs.Plans.{IsNew, IsNoOther, IsPlan, plan_events, store_change, with_store}
-use Rattle.mc_core.specs.Refusals.{kind_of, clash_refusal, other_refusal}
-use Rattle.mc_core.specs.Replica.{run_of, running_with}
+use Rattle.mc_core.specs.Refusals.{kind_of, clash_refusal, other_refusal, size_refusal}
+use Rattle.mc_core.specs.Counted.{run_of}
 use Rattle.mc_core.proofs.DeleteFacts.{is_cid, among_here}
 use Rattle.mc_core.proofs.EventFacts.{goes_then, goes_nowhere, breaks_after, breaks_more, breaks_rose}
 use Rattle.mc_core.proofs.KindFacts.{by_kind}
+use Rattle.mc_core.proofs.KnownFacts.{none_open}
 use Rattle.mc_core.proofs.PutFacts.{BackLaw}
 
 -- a made block may be taken up where it doesn't clash
@@ -55,15 +58,32 @@ no_clash kept cid bytes e =
     ] e
 
 made_is_new : (kept : Kept) (links : List Cid) (delta : Delta) (made : MadeBlock) → IsMade kept links delta made → length (made_bytes links delta) ≤ block_max
-    → list_all (is_among kept.order) links ≡ true → IsNew kept made.block made.bytes
+    → list_all (is_among kept.order) links ≡ true → IsNew kept made.block made.bytes []
 made_is_new kept links delta made is fits linked =
     let none = no_clash kept made.block.cid made.bytes is.allowed in
     record {
       good = is.good (subst (λ bytes. length bytes ≤ block_max) (sym is.is_bytes) fits);
       new = none.0;
       known = none.1;
-      linked = ap (λ (block : Block). list_all (is_among kept.order) block.links) is.is_block ∙ linked;
+      linked = none_open kept.order (made.block.cid ∷ []) made.block.links (ap (λ (block : Block). list_all (is_among kept.order) block.links) is.is_block ∙ linked);
     }
+
+-- the same of one block that was made, where it is told
+
+fits_block : (bytes : List ℕ) → size_refusal bytes ≡ None → length bytes ≤ block_max
+fits_block bytes e =
+    elim (nat_lt block_max (length bytes)) as (λ t. nat_lt block_max (length bytes) ≡ t → cond t (Some (BlockTooLarge (min (length bytes) (2 ^ 64 - 1)))) None ≡ None → length bytes ≤ block_max) [
+      | true ↦ λ above h. absurd (let f : true ≡ false = ap is_some h in cc)
+      | false ↦ λ above h. grind (arith, nat_tests)
+    ] refl e
+
+pub made_new : (told : Option Kept) (links : List Cid) (delta : Delta) (cid : Cid) (bytes : List ℕ) → IfSome told (λ kept. list_all (is_among kept.order) links ≡ true)
+    → (length bytes ≤ block_max → offer cid bytes ≡ Ok (record { cid = cid; links = links; delta = delta })) → size_refusal bytes ≡ None → IfSome told (λ kept. clash_refusal kept cid bytes ≡ None)
+    → IfSome told (λ kept. IsNew kept (record { cid = cid; links = links; delta = delta }) bytes [])
+made_new None links delta cid bytes linked good size allowed = tt
+made_new (Some kept) links delta cid bytes linked good size allowed =
+    let none = no_clash kept cid bytes allowed in
+    record { good = good (fits_block bytes size); new = none.0; known = none.1; linked = none_open kept.order (cid ∷ []) links linked }
 
 pub next_all : (deltas : List Delta) (blocks : List MadeBlock) (kept : Kept) (links : List Cid) (priority : ℕ) (key : List ℕ) (pairs : List Pair) → IsCuts links priority key pairs deltas
     → AreMade kept links deltas blocks → list_all (is_among kept.order) links ≡ true → AreNext kept blocks
@@ -128,16 +148,16 @@ follows (made ∷ blocks) kept durable run fuse e f =
           (ap (λ graph. graph ++ vertices new) e ∙ sym (map-append vertex_of kept.graph new)) (ap (λ l. l ++ cids) f)
     ]
 
-new_moves : (old kept : Kept) (block : Block) (bytes : List ℕ) → kept.graph ≡ old.graph → kept.order ≡ old.order → IsNew old block bytes → IsNew kept block bytes
+new_moves : (old kept : Kept) (block : Block) (bytes : List ℕ) → kept.graph ≡ old.graph → kept.order ≡ old.order → IsNew old block bytes [] → IsNew kept block bytes []
 new_moves old kept block bytes e f new = record {
   good = new.good;
   new = ap (λ order. is_among order block.cid) f ∙ new.new;
   known = subst (λ graph. IsNoOther (bytes_at graph block.cid) bytes) (sym e) new.known;
-  linked = ap (λ order. list_all (is_among order) block.links) f ∙ new.linked;
+  linked = new.linked ∙ ap (λ (order : List Cid). filter (λ c. not (has c (order ++ block.cid ∷ []))) block.links) (sym f);
 }
 
 next_at : (blocks : List MadeBlock) (made : MadeBlock) (rest : List MadeBlock) (kept : Kept) → AreNext kept (blocks ++ made ∷ rest)
-    → IsNew (with_all kept blocks) made.block made.bytes × (made.known ≡ is_stored (with_all kept blocks).graph made.block.cid)
+    → IsNew (with_all kept blocks) made.block made.bytes [] × (made.known ≡ is_stored (with_all kept blocks).graph made.block.cid)
 next_at [] made rest kept next = (next.0, next.1)
 next_at (first ∷ blocks) made rest kept next = next_at blocks made rest (with_block kept first) next.2
 
@@ -171,7 +191,7 @@ module _ (back : BackLaw) where
   -- the next block may be taken up
   next_now : (kept now : Kept) (fuse fuse_now : Option Fuse) (run : Running) (run_now : Option Running) (blocks : List MadeBlock) (made : MadeBlock) (rest : List MadeBlock) → AreNext kept (blocks ++ made ∷ rest)
       → Goes (all_events kept blocks) (running (durable_of kept) run fuse) (record { state = record { durable = durable_of now; run = run_now }; fuse = fuse_now })
-      → IsNew now made.block made.bytes × (made.known ≡ is_stored now.graph made.block.cid)
+      → IsNew now made.block made.bytes [] × (made.known ≡ is_stored now.graph made.block.cid)
   next_now kept now fuse fuse_now run run_now blocks made rest next goes =
       let f = goes_follow kept fuse run blocks _ goes in
       let at = next_at blocks made rest kept next in
@@ -181,20 +201,20 @@ module _ (back : BackLaw) where
   from_kept : (kept : Kept) (fuse : Option Fuse) (run : Running) (blocks : List MadeBlock) (now : ReplicaState) → Taken blocks (running (durable_of kept) run fuse) now → Goes (all_events kept blocks) (running (durable_of kept) run fuse) now
   from_kept kept fuse run blocks now goes = subst (λ k. Goes (all_events k blocks) (running (durable_of kept) run fuse) now) (back kept) goes
 
-  pub next_told : (told now : Option Kept) (fuse fuse_now : Option Fuse) (stop stop_now : Bool) (batch batch_now : Option OpenBatch) (whole whole_now : Bool) (blocks : List MadeBlock) (made : MadeBlock) (rest all : List MadeBlock)
+  pub next_told : (told now : Option Kept) (fuse fuse_now : Option Fuse) (stop stop_now : Bool) (run run_now : Running) (blocks : List MadeBlock) (made : MadeBlock) (rest all : List MadeBlock)
       → stop ≡ false → all ≡ blocks ++ made ∷ rest → (told ≡ None → now ≡ None) → IfSome told (λ kept. AreNext kept all)
-      → Told (state_of told fuse (run_of stop batch whole)) (state_of now fuse_now (run_of stop_now batch_now whole_now)) (Taken blocks)
-      → IfSome now (λ kept. IsNew kept made.block made.bytes × (made.known ≡ is_stored kept.graph made.block.cid))
-  next_told told now fuse fuse_now stop stop_now batch batch_now whole whole_now blocks made rest all up split silent next taken =
-      over told now silent next (subst (λ b. Told (state_of told fuse (run_of b batch whole)) (state_of now fuse_now (run_of stop_now batch_now whole_now)) (Taken blocks)) up taken)
+      → Told (state_of told fuse (run_of stop run)) (state_of now fuse_now (run_of stop_now run_now)) (Taken blocks)
+      → IfSome now (λ kept. IsNew kept made.block made.bytes [] × (made.known ≡ is_stored kept.graph made.block.cid))
+  next_told told now fuse fuse_now stop stop_now run run_now blocks made rest all up split silent next taken =
+      over told now silent next (subst (λ b. Told (state_of told fuse (run_of b run)) (state_of now fuse_now (run_of stop_now run_now)) (Taken blocks)) up taken)
     where
       over : (told now : Option Kept) → (told ≡ None → now ≡ None) → IfSome told (λ kept. AreNext kept all)
-          → Told (state_of told fuse (run_of false batch whole)) (state_of now fuse_now (run_of stop_now batch_now whole_now)) (Taken blocks)
-          → IfSome now (λ kept. IsNew kept made.block made.bytes × (made.known ≡ is_stored kept.graph made.block.cid))
-      over None now silent next taken = subst (λ t. IfSome t (λ kept. IsNew kept made.block made.bytes × (made.known ≡ is_stored kept.graph made.block.cid))) (sym (silent refl)) tt
+          → Told (state_of told fuse (run_of false run)) (state_of now fuse_now (run_of stop_now run_now)) (Taken blocks)
+          → IfSome now (λ kept. IsNew kept made.block made.bytes [] × (made.known ≡ is_stored kept.graph made.block.cid))
+      over None now silent next taken = subst (λ t. IfSome t (λ kept. IsNew kept made.block made.bytes [] × (made.known ≡ is_stored kept.graph made.block.cid))) (sym (silent refl)) tt
       over (Some kept) None silent next taken = absurd taken
       over (Some kept) (Some new) silent next taken =
-          next_now kept new fuse fuse_now (running_with batch whole) (run_of stop_now batch_now whole_now) blocks made rest (subst (AreNext kept) split next) (from_kept kept fuse (running_with batch whole) blocks _ taken)
+          next_now kept new fuse fuse_now run (run_of stop_now run_now) blocks made rest (subst (AreNext kept) split next) (from_kept kept fuse run blocks _ taken)
 
   -- after one more block
 
@@ -214,20 +234,20 @@ module _ (back : BackLaw) where
   to_kept : (kept : Kept) (fuse : Option Fuse) (run : Running) (blocks : List MadeBlock) (now : ReplicaState) → Goes (all_events kept blocks) (running (durable_of kept) run fuse) now → Taken blocks (running (durable_of kept) run fuse) now
   to_kept kept fuse run blocks now goes = subst (λ k. Goes (all_events k blocks) (running (durable_of kept) run fuse) now) (sym (back kept)) goes
 
-  pub taken_goes_on : (told : Option Kept) (fuse : Option Fuse) (stop : Bool) (batch : Option OpenBatch) (whole : Bool) (now new : Option ReplicaState) (blocks : List MadeBlock) (made : MadeBlock)
-      → stop ≡ false → Told (state_of told fuse (run_of stop batch whole)) now (Taken blocks) → Told now new (DoesOne made)
-      → Told (state_of told fuse (run_of stop batch whole)) new (Taken (blocks ++ made ∷ []))
-  taken_goes_on told fuse stop batch whole now new blocks made up taken more =
-      subst (λ b. Told (state_of told fuse (run_of b batch whole)) new (Taken (blocks ++ made ∷ []))) (sym up)
-      (over told now new (subst (λ b. Told (state_of told fuse (run_of b batch whole)) now (Taken blocks)) up taken) more)
+  pub taken_goes_on : (told : Option Kept) (fuse : Option Fuse) (stop : Bool) (run : Running) (now new : Option ReplicaState) (blocks : List MadeBlock) (made : MadeBlock)
+      → stop ≡ false → Told (state_of told fuse (run_of stop run)) now (Taken blocks) → Told now new (DoesOne made)
+      → Told (state_of told fuse (run_of stop run)) new (Taken (blocks ++ made ∷ []))
+  taken_goes_on told fuse stop run now new blocks made up taken more =
+      subst (λ b. Told (state_of told fuse (run_of b run)) new (Taken (blocks ++ made ∷ []))) (sym up)
+      (over told now new (subst (λ b. Told (state_of told fuse (run_of b run)) now (Taken blocks)) up taken) more)
     where
-      over : (told : Option Kept) (now new : Option ReplicaState) → Told (state_of told fuse (run_of false batch whole)) now (Taken blocks) → Told now new (DoesOne made)
-          → Told (state_of told fuse (run_of false batch whole)) new (Taken (blocks ++ made ∷ []))
+      over : (told : Option Kept) (now new : Option ReplicaState) → Told (state_of told fuse (run_of false run)) now (Taken blocks) → Told now new (DoesOne made)
+          → Told (state_of told fuse (run_of false run)) new (Taken (blocks ++ made ∷ []))
       over None now new taken more = tt
       over (Some kept) None new taken more = absurd taken
       over (Some kept) (Some s) None taken more = absurd more
       over (Some kept) (Some s) (Some t) taken more =
-          to_kept kept fuse (running_with batch whole) (blocks ++ made ∷ []) t (one_more kept fuse (running_with batch whole) blocks made s t (from_kept kept fuse (running_with batch whole) blocks s taken) more)
+          to_kept kept fuse run (blocks ++ made ∷ []) t (one_more kept fuse run blocks made s t (from_kept kept fuse run blocks s taken) more)
 
   -- where one block ends the call
 
@@ -258,19 +278,19 @@ module _ (back : BackLaw) where
             (subst (λ s. Taken blocks (running (durable_of kept) run fuse) s) (sym same) p),
       )) q
 
-  pub taken_ends : (told : Option Kept) (fuse : Option Fuse) (stop : Bool) (batch : Option OpenBatch) (whole : Bool) (now new : Option ReplicaState) (blocks : List MadeBlock) (made : MadeBlock) (rest all : List MadeBlock)
-      (own own_mid own_new : ℕ) (error : CoreError) → stop ≡ false → own ≤ own_mid → all ≡ blocks ++ made ∷ rest → Told (state_of told fuse (run_of stop batch whole)) now (Taken blocks)
-      → Told now new (EndsOne made (Rose own_mid own_new) error) → Told (state_of told fuse (run_of stop batch whole)) new (Takes all (Rose own own_new) (Err error))
-  taken_ends told fuse stop batch whole now new blocks made rest all own own_mid own_new error up later split taken more =
-      subst (λ b. Told (state_of told fuse (run_of b batch whole)) new (Takes all (Rose own own_new) (Err error))) (sym up)
-      (over told now new (subst (λ b. Told (state_of told fuse (run_of b batch whole)) now (Taken blocks)) up taken) more)
+  pub taken_ends : (told : Option Kept) (fuse : Option Fuse) (stop : Bool) (run : Running) (now new : Option ReplicaState) (blocks : List MadeBlock) (made : MadeBlock) (rest all : List MadeBlock)
+      (own own_mid own_new : ℕ) (error : CoreError) → stop ≡ false → own ≤ own_mid → all ≡ blocks ++ made ∷ rest → Told (state_of told fuse (run_of stop run)) now (Taken blocks)
+      → Told now new (EndsOne made (Rose own_mid own_new) error) → Told (state_of told fuse (run_of stop run)) new (Takes all (Rose own own_new) (Err error))
+  taken_ends told fuse stop run now new blocks made rest all own own_mid own_new error up later split taken more =
+      subst (λ b. Told (state_of told fuse (run_of b run)) new (Takes all (Rose own own_new) (Err error))) (sym up)
+      (over told now new (subst (λ b. Told (state_of told fuse (run_of b run)) now (Taken blocks)) up taken) more)
     where
-      over : (told : Option Kept) (now new : Option ReplicaState) → Told (state_of told fuse (run_of false batch whole)) now (Taken blocks) → Told now new (EndsOne made (Rose own_mid own_new) error)
-          → Told (state_of told fuse (run_of false batch whole)) new (Takes all (Rose own own_new) (Err error))
+      over : (told : Option Kept) (now new : Option ReplicaState) → Told (state_of told fuse (run_of false run)) now (Taken blocks) → Told now new (EndsOne made (Rose own_mid own_new) error)
+          → Told (state_of told fuse (run_of false run)) new (Takes all (Rose own own_new) (Err error))
       over None now new taken more = tt
       over (Some kept) None new taken more = absurd taken
       over (Some kept) (Some s) None taken more = absurd more
-      over (Some kept) (Some s) (Some t) taken more = one_ends kept fuse (running_with batch whole) blocks made rest all own own_mid own_new s t error later split taken more
+      over (Some kept) (Some s) (Some t) taken more = one_ends kept fuse run blocks made rest all own own_mid own_new s t error later split taken more
 
 pub taken_all : (old new : Option ReplicaState) (blocks all : List MadeBlock) (rose : Type 0) (deleted : Deleted) → blocks ≡ all → deleted.blocks ≡ length all
     → Told old new (Taken blocks) → Told old new (Takes all rose (Ok deleted))
@@ -307,6 +327,16 @@ one_failed back told mid fuse fuse_mid run whole new made plan own own_mid own_n
     over (Some kept) (Some after) is breaks =
         subst (λ events. Breaks events (Rose own own_new) (record { state = record { durable = durable_of kept; run = run }; fuse = fuse }) after) (one_events back kept whole made plan is)
         (breaks_rose (plan_events plan) (Rose own_mid own_new) (Rose own own_new) (record { state = record { durable = durable_of kept; run = run }; fuse = fuse }) after (λ r. omega (arith, r, later)) breaks)
+
+pub one_done : (back : BackLaw) (told mid : Option Kept) (fuse fuse_mid : Option Fuse) (run : Option Running) (whole : Bool) (new : Option ReplicaState) (made : MadeBlock) (plan : Plan)
+    → mid ≡ told → fuse_mid ≡ fuse → IfSome told (λ kept. IsPlan kept whole made.block made.bytes plan) → Told (state_of mid fuse_mid run) new (Goes (plan_events plan)) → Told (state_of told fuse run) new (DoesOne made)
+one_done back told mid fuse fuse_mid run whole new made plan e f is goes =
+    over told new is (subst (λ x. Told (state_of told x run) new (Goes (plan_events plan))) f (subst (λ t. Told (state_of t fuse_mid run) new (Goes (plan_events plan))) e goes))
+  where
+    over : (told : Option Kept) (new : Option ReplicaState) → IfSome told (λ kept. IsPlan kept whole made.block made.bytes plan) → Told (state_of told fuse run) new (Goes (plan_events plan)) → Told (state_of told fuse run) new (DoesOne made)
+    over None new is goes = tt
+    over (Some kept) None is goes = absurd goes
+    over (Some kept) (Some after) is goes = subst (λ events. Goes events (record { state = record { durable = durable_of kept; run = run }; fuse = fuse }) after) (one_events back kept whole made plan is) goes
 
 -- both parts of what is told
 

@@ -162,7 +162,7 @@ pub record IsDelete (kept : Kept) (key : List ℕ) (blocks : List MadeBlock) : T
 -- each may be taken up after those before it
 abbrev pub AreNext : Kept → List MadeBlock → Type 0
 AreNext kept [] = ⊤
-AreNext kept (made ∷ blocks) = IsNew kept made.block made.bytes × (made.known ≡ is_stored kept.graph made.block.cid) × AreNext (with_block kept made) blocks
+AreNext kept (made ∷ blocks) = IsNew kept made.block made.bytes [] × (made.known ≡ is_stored kept.graph made.block.cid) × AreNext (with_block kept made) blocks
 
 -- the events by which they are
 abbrev pub block_events : Kept → MadeBlock → List Event

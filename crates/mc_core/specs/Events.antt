@@ -1,5 +1,5 @@
 -- A replica over a keeper with a fuse, and what lists of events make of it.
-use Rattle.std.specs.Prelude.{◌≡◌, ⊤, ◌⊎◌, Bool, true, false, List, [], ◌∷◌, ◌++◌, fold, Option, None, Result, Ok, Err}
+use Rattle.std.specs.Prelude.{◌≡◌, ⊤, ◌⊎◌, Bool, true, false, List, [], ◌∷◌, ◌++◌, fold, Option, Some, None, Result, Ok, Err}
 use Rattle.std.specs.Option.{option_map}
 use Rattle.mc_model.specs.Events.{Event, MayCome, happens, is_commit}
 use Rattle.mc_model.specs.Kept.{Kept}
@@ -46,6 +46,11 @@ MayHappen s (event ∷ events) = MayCome s.state.durable s.state.run event × (f
 pub record Goes (events : List Event) (s new : ReplicaState) : Type 0 where
   pub may : MayHappen s events
   pub ends : new ≡ all_happen s events
+
+-- so they have where the replica runs, and else nothing has
+abbrev pub HappensIn : Option Running → (Running → List Event) → ReplicaState → ReplicaState → Type 0
+HappensIn None events s new = new ≡ s
+HappensIn (Some run) events s new = Goes (events run) s new
 
 -- the replica that has stopped, and keeps what is durable
 abbrev pub stopped_with : Durable → Option Fuse → ReplicaState

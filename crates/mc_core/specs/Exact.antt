@@ -7,7 +7,7 @@ use Rattle.mc_keep.specs.declared.fuse.Fuse.{Fuse}
 use Rattle.mc_keep.specs.declared.keeper.Keeper as keeper
 use Rattle.mc_core.specs.declared.error.CoreError.{CoreError}
 use Rattle.mc_core.specs.declared.error.CoreError.TheVariants.{BadKey, ValueTooLong, BlockTooLarge, PriorityFull, Clash}
-use Rattle.mc_core.specs.declared.error.CoreError.TheVariants.{KeeperFault, Stopped, NoBatch, BatchOpen, Memory}
+use Rattle.mc_core.specs.declared.error.CoreError.TheVariants.{KeeperFault, Stopped, BadCast, NoBatch, BatchOpen, Memory}
 use Rattle.mc_core.specs.declared.replica.Replica.{Replica}
 use Rattle.mc_core.specs.Refusals.{ByKind, kind_of, key_refusal, value_refusal}
 
@@ -20,6 +20,7 @@ seen_of PriorityFull = None
 seen_of (Clash cid) = None
 seen_of KeeperFault = None
 seen_of Stopped = Some Stopped
+seen_of (BadCast fault) = Some (BadCast fault)
 seen_of NoBatch = Some NoBatch
 seen_of BatchOpen = Some BatchOpen
 seen_of Memory = None
@@ -42,17 +43,25 @@ put_front key value = option_or (key_refusal key) (value_refusal value)
 abbrev pub NoMemory : {T : Type 0} → Result T CoreError → Type 0
 NoMemory result = IfErr result (λ error. error ≢ Memory)
 
--- the batch and the gaps wanted are as before
+-- the walk, the batch, and whether every gap is wanted are as before
 pub record RestSame {K D : Type 0} {g : keeper.Ghosts K D} {h : counted.Ghosts K} {i : counted.Ghosts D}
     (old new : Replica K D g h i) : Type 0 where
+  pub walk_same : new.walk ≡ old.walk
   pub batch_same : new.batch ≡ old.batch
   pub whole_same : new.whole ≡ old.whole
 
 -- what the keeper tells and its fuse are as before
+pub record StillTellsAt {K D : Type 0} {g : keeper.Ghosts K D} {h : counted.Ghosts K} {i : counted.Ghosts D}
+    (told : K → Option Kept) (fuse : K → Option Fuse) (old new : Replica K D g h i) : Type 0 where
+  pub told_same : told new.keeper ≡ told old.keeper
+  pub fuse_same : fuse new.keeper ≡ fuse old.keeper
+
+-- and so is what is wanted
 pub record TellsSameAt {K D : Type 0} {g : keeper.Ghosts K D} {h : counted.Ghosts K} {i : counted.Ghosts D}
     (told : K → Option Kept) (fuse : K → Option Fuse) (old new : Replica K D g h i) : Type 0 where
   pub told_same : told new.keeper ≡ told old.keeper
   pub fuse_same : fuse new.keeper ≡ fuse old.keeper
+  pub queue_same : new.queue ≡ old.queue
 
 -- what holds of every answer but an Ok and a fault, and of every refusal
 abbrev pub IfRefusedOrShort : {T : Type 0} → Result T CoreError → Type 0 → Type 0

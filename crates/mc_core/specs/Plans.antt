@@ -1,19 +1,20 @@
 -- The commits that take up a block.
-use Rattle.std.specs.Prelude.{◌≡◌, ◌≢◌, IfSome, ⊤, ℕ, ◌+◌, Bool, true, false, List, [], ◌∷◌, ◌++◌, Option, Some, None, unwrap_or, Ok, if◌then◌else◌}
-use Rattle.std.specs.List.{list_all}
+use Rattle.std.specs.Prelude.{◌≡◌, IfSome, ⊤, ℕ, ◌+◌, Bool, true, false, not, List, [], ◌∷◌, ◌++◌, filter, fold, length, Option, Some, None, unwrap_or, Ok, if◌then◌else◌}
 use Rattle.mc_base.specs.declared.cid.Cid.{Cid}
 use Rattle.mc_model.specs.declared.block.Block.{Block}
 use Rattle.mc_model.specs.declared.block.Stored.{Stored}
 use Rattle.mc_model.specs.Events.{Event, Store, Process, processed_mark, processed_queue}
-use Rattle.mc_model.specs.Front.{is_among}
+use Rattle.mc_model.specs.Graph.{has}
+use Rattle.mc_model.specs.Front.{is_among, gaps}
 use Rattle.mc_model.specs.Kept.{Kept, processed, bytes_at, is_stored}
 use Rattle.mc_model.specs.Offer.{offer}
 use Rattle.mc_model.specs.State.{durable_of, vertices}
-use Rattle.mc_model.specs.Wanted.{no_queue}
+use Rattle.mc_model.specs.Wanted.{Queue, want, without}
 use Rattle.mc_keep.specs.declared.changes.Changes.{Changes}
-use Rattle.mc_keep.specs.Changes.{no_changes, row_count}
+use Rattle.mc_keep.specs.Changes.{no_changes, row_count, changed}
 use Rattle.mc_keep.specs.Tables.{RowsFit, FrontFits, ChangesFit}
 use Rattle.mc_front.specs.Front.{mark_over}
+use Rattle.mc_core.specs.declared.plan.After.{After}
 use Rattle.mc_core.specs.declared.plan.Plan.{Plan}
 
 -- nothing, or just these bytes
@@ -21,12 +22,17 @@ abbrev pub IsNoOther : Option (List ℕ) → List ℕ → Type 0
 IsNoOther None bytes = ⊤
 IsNoOther (Some other) bytes = other ≡ bytes
 
--- the block is good and not processed, no other bytes are stored under its identifier, and all its links are processed
-pub record IsNew (kept : Kept) (block : Block) (bytes : List ℕ) : Type 0 where
+-- the links of a block that are not processed once it is
+abbrev pub open_links : Kept → Block → List Cid
+open_links kept block = filter (λ c. not (has c (kept.order ++ block.cid ∷ []))) block.links
+
+-- the block is good and not processed, no other bytes are stored under its identifier, and these of its links are not
+-- processed
+pub record IsNew (kept : Kept) (block : Block) (bytes : List ℕ) (links : List Cid) : Type 0 where
   pub good : offer block.cid bytes ≡ Ok block
   pub new : is_among kept.order block.cid ≡ false
   pub known : IsNoOther (bytes_at kept.graph block.cid) bytes
-  pub linked : list_all (is_among kept.order) block.links ≡ true
+  pub linked : links ≡ open_links kept block
 
 -- the changes that store these bytes, unless they are stored
 abbrev pub store_change : List Stored → Cid → List ℕ → Option Changes
@@ -42,9 +48,10 @@ pub record Processes (kept : Kept) (whole : Bool) (blocks : List Block) (cids : 
 
 -- the plan stores the block, unless it is stored, and processes it
 pub record IsPlan (kept : Kept) (whole : Bool) (block : Block) (bytes : List ℕ) (plan : Plan) : Type 0 where
-  pub block_is_new : IsNew kept block bytes
+  pub block_is_new : IsNew kept block bytes plan.after.links
   pub store : plan.store ≡ store_change kept.graph block.cid bytes
   pub process : Processes kept whole (block ∷ []) (block.cid ∷ []) plan.process
+  pub gaps_left : plan.after.gaps ≡ length (gaps (processed kept ++ block ∷ []))
 
 -- a plan for some block
 pub record IsSomePlan (kept : Kept) (whole : Bool) (plan : Plan) : Type 0 where
@@ -56,16 +63,18 @@ pub record IsSomePlan (kept : Kept) (whole : Bool) (plan : Plan) : Type 0 where
 pub record IsShaped (plan : Plan) : Type 0 where
   pub store : IfSome plan.store (λ store. (store.marks ≡ []) × (store.mark ≡ None) × (row_count store ≡ 1))
   pub only : plan.process.store ≡ []
-  pub marks : plan.process.marks ≢ []
+  pub marks : plan.process.marks ≡ plan.after.cid ∷ []
 
--- the changes may be committed, and leave the mark that the definitions give
-pub record IsReady (kept : Kept) (whole : Bool) (changes : Changes) : Type 0 where
+-- these blocks are wanted, each unless it is
+abbrev pub wants : Queue → List Cid → Queue
+wants q cids = fold (want []) q cids
+
+-- the changes may be committed, and leave the mark, the gaps and the wanted set that the definitions give
+pub record IsReady (kept : Kept) (whole : Bool) (changes : Changes) (after : After) : Type 0 where
   pub fits : ChangesFit kept changes
   pub mark : unwrap_or changes.mark kept.mark ≡ processed_mark whole (durable_of kept) (kept.order ++ changes.marks)
-
--- all links of these blocks are processed
-abbrev pub HasLinks : Kept → List Cid → Type 0
-HasLinks kept cids = processed_queue (durable_of kept) no_queue cids ≡ no_queue
+  pub gaps_left : after.gaps ≡ length (gaps (processed (changed kept changes)))
+  pub wanted : (q : Queue) → processed_queue (durable_of kept) q changes.marks ≡ wants (without q changes.marks) after.links
 
 -- the rows of a plan
 abbrev pub plan_rows : Plan → ℕ

@@ -32,6 +32,7 @@ pub record IsPlanned (kept : Kept) (whole : Bool) (links : List Cid) (delta : De
   pub allowed : made_refusal kept links delta ≡ None
   pub plan : IsPlan kept whole (made_block links delta) (made_bytes links delta) planned.plan
   pub written : planned.written ≡ written_of kept links delta
+  pub no_links : planned.plan.after.links ≡ []
 
 -- the links and the priority of the next block
 abbrev pub next_links : Kept → List Cid

@@ -17,7 +17,7 @@ use Rattle.mc_model.specs.State.{OpenBatch, Running}
 use Rattle.mc_write.specs.declared.error.WriteError.{WriteError}
 use Rattle.mc_write.specs.declared.error.WriteError.TheVariants as write
 use Rattle.mc_core.specs.declared.error.CoreError.{CoreError}
-use Rattle.mc_core.specs.declared.error.CoreError.TheVariants.{BadKey, ValueTooLong, BlockTooLarge, PriorityFull, Clash, KeeperFault, Stopped, NoBatch, BatchOpen, Memory}
+use Rattle.mc_core.specs.declared.error.CoreError.TheVariants.{BadKey, ValueTooLong, BlockTooLarge, PriorityFull, Clash, KeeperFault, Stopped, BadCast, NoBatch, BatchOpen, Memory}
 
 -- what an error means: the one table of them
 abbrev pub kind_of : CoreError → Kind
@@ -28,6 +28,7 @@ kind_of PriorityFull = Refusal
 kind_of (Clash cid) = Refusal
 kind_of KeeperFault = Fault
 kind_of Stopped = Refusal
+kind_of (BadCast fault) = Refusal
 kind_of NoBatch = Refusal
 kind_of BatchOpen = Refusal
 kind_of Memory = Shortage

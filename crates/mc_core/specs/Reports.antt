@@ -1,15 +1,18 @@
 -- The numbers that a replica keeps beside its keeper, and its report.
-use Rattle.std.specs.Prelude.{◌≡◌, ◌+◌, Bool, length, unwrap_or}
+use Rattle.std.specs.Prelude.{◌≡◌, ◌+◌, ℕ, Bool, length, unwrap_or}
 use Rattle.mc_model.specs.Kept.{Kept}
+use Rattle.mc_model.specs.Wanted.{Queue}
+use Rattle.mc_queue.specs.declared.queue.Counts.{Counts}
 use Rattle.mc_keep.specs.declared.changes.Changes.{Changes}
 use Rattle.mc_core.specs.declared.report.Numbers.{Numbers}
 use Rattle.mc_core.specs.declared.report.Report.{Report}
 use Rattle.mc_core.specs.Counted.{capped}
 
--- the numbers after these changes
-pub record IsAfter (numbers : Numbers) (changes : Changes) (new : Numbers) : Type 0 where
+-- the numbers after these changes, which leave so many gaps
+pub record IsAfter (numbers : Numbers) (changes : Changes) (gaps : ℕ) (new : Numbers) : Type 0 where
   pub processed : new.processed ≡ capped (numbers.processed + length changes.marks)
   pub stored : new.stored ≡ capped (numbers.stored + length changes.store)
+  pub gaps_left : new.gaps ≡ gaps
   pub mark : new.mark ≡ unwrap_or changes.mark numbers.mark
 
 -- the report is that of what is told, and says whether every gap is wanted
@@ -18,3 +21,10 @@ pub record IsReport (kept : Kept) (whole : Bool) (report : Report) : Type 0 wher
   pub stored : report.stored ≡ capped (length kept.graph)
   pub mark : report.mark ≡ kept.mark
   pub is_whole : report.whole ≡ whole
+
+-- the counts are those of the parts of what is wanted
+pub record AreCounts (q : Queue) (counts : Counts) : Type 0 where
+  pub waiting : counts.waiting ≡ length q.waiting
+  pub flight : counts.flight ≡ length q.flight
+  pub missing : counts.missing ≡ length q.missing
+  pub bad : counts.bad ≡ length q.bad

@@ -5,19 +5,22 @@ use Rattle.mc_base.specs.Told.{Told}
 use Rattle.mc_base.specs.declared.counted.Counted as counted
 use Rattle.mc_model.specs.Events.{Event}
 use Rattle.mc_model.specs.Kept.{Kept}
+use Rattle.mc_model.specs.State.{Running}
 use Rattle.mc_keep.specs.Calls.{Members}
 use Rattle.mc_keep.specs.Frame.{GoesAt}
-use Rattle.mc_keep.specs.Plan.{Schedule}
+use Rattle.mc_keep.specs.Plan.{Schedule, without_desks}
 use Rattle.mc_keep.specs.declared.fuse.Fuse.{Fuse}
 use Rattle.mc_keep.specs.declared.keeper.Keeper as keeper
 use Rattle.mc_core.specs.declared.error.CoreError.{CoreError}
 use Rattle.mc_core.specs.declared.replica.Replica.{Replica}
 use Rattle.mc_core.specs.Calls.{Call, Stays}
-use Rattle.mc_core.specs.Events.{ReplicaState}
-use Rattle.mc_core.specs.Exact.{RestSame, TellsSameAt}
+use Rattle.mc_core.specs.Events.{ReplicaState, HappensIn}
+use Rattle.mc_core.specs.Exact.{RestSame, StillTellsAt, TellsSameAt}
 use Rattle.mc_core.specs.Reads.{OnlyReads, read_refusal}
 use Rattle.mc_core.specs.Refusals.{Is}
 use Rattle.mc_core.specs.Replica.{replica_state}
+use Rattle.mc_core.specs.Walks.{StepsAt}
+use Rattle.mc_core.specs.declared.walks.WalkStep.{WalkStep}
 
 -- What every call leaves of a replica: only the last call of its keeper may have failed, and then the replica has
 -- stopped, as one has that had stopped before.
@@ -27,7 +30,7 @@ pub record ContinuesAt {K D : Type 0} {g : keeper.Ghosts K D} {h : counted.Ghost
   pub keeper_goes : GoesAt told fuse own faults quiet schedule failed old.keeper new.keeper
   pub stops : new.stopped ≡ (failed || old.stopped)
 
--- what commits leave besides: the batch and the gaps wanted are the same
+-- what commits leave besides: the walk, the batch, and whether every gap is wanted
 pub record CommitKeepsAt {K D : Type 0} {g : keeper.Ghosts K D} {h : counted.Ghosts K} {i : counted.Ghosts D}
     (told : K → Option Kept) (fuse : K → Option Fuse) (own faults : K → ℕ)
     (quiet : K → Bool) (schedule : K → Option Schedule) (failed : Bool) (old new : Replica K D g h i) : Type 0 where
@@ -38,16 +41,30 @@ module _ {K D : Type 0} {g : keeper.Ghosts K D} {h : counted.Ghosts K} {i : coun
   abbrev pub Continues : Bool → Replica K D g h i → Replica K D g h i → Type 0
   Continues = ContinuesAt k.told k.fuse k.own k.faults k.quiet k.schedule
 
+  -- the same of a call that makes a desk, apart from the plans of desks
+  abbrev pub ContinuesApart : Bool → Replica K D g h i → Replica K D g h i → Type 0
+  ContinuesApart = ContinuesAt k.told k.fuse k.own k.faults k.quiet (λ keeper. without_desks (k.schedule keeper))
+
   abbrev pub CommitKeeps : Bool → Replica K D g h i → Replica K D g h i → Type 0
   CommitKeeps = CommitKeepsAt k.told k.fuse k.own k.faults k.quiet k.schedule
 
+  abbrev pub StillTells : Replica K D g h i → Replica K D g h i → Type 0
+  StillTells = StillTellsAt k.told k.fuse
+
   abbrev pub TellsSame : Replica K D g h i → Replica K D g h i → Type 0
   TellsSame = TellsSameAt k.told k.fuse
+
+  abbrev pub StepsOn : WalkStep → Replica K D g h i → Replica K D g h i → Type 0
+  StepsOn = StepsAt k.told k.fuse
 
   -- what becomes of a replica, where its keeper tells, by whether the own count rose
   abbrev pub Becomes : (Type 0 → ReplicaState → ReplicaState → Type 0) → Replica K D g h i → Replica K D g h i → Type 0
   Becomes P old new = Told (replica_state k.told k.fuse old) (replica_state k.told k.fuse new) (λ s after.
       P (Rose (k.own old.keeper) (k.own new.keeper)) s after)
+
+  -- these events happen to a replica that runs, and nothing to one that has stopped
+  abbrev pub HappensTo : (Running → List Event) → Replica K D g h i → Replica K D g h i → Type 0
+  HappensTo events old new = Becomes (λ rose s after. HappensIn s.state.run events s after) old new
 
   -- what a call does
   abbrev pub Acts : {T : Type 0} → (ReplicaState → Option CoreError → Type 0) → (ReplicaState → List Event → T → Type 0)

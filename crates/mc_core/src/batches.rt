@@ -34,7 +34,8 @@ impl<K: Keeper> Replica<K> {
         ensures keeps { Continues K.Keeper (is_fault result) self.old self.new }
         ensures front { front_of result ≡ stop_front self.old.stopped (open_batch_refusal self.old.batch) }
         ensures no_memory { NoMemory result }
-        ensures untouched { (self.new.keeper ≡ self.old.keeper) × (self.new.whole ≡ self.old.whole) }
+        ensures untouched { (self.new.keeper ≡ self.old.keeper) × (self.new.queue ≡ self.old.queue)
+            × (self.new.walk ≡ self.old.walk) × (self.new.whole ≡ self.old.whole) }
         ensures begun { self.new.batch ≡ batch_once result (Some empty_batch) self.old.batch }
     {
         if self.stopped {
@@ -55,7 +56,8 @@ impl<K: Keeper> Replica<K> {
         ensures keeps { Continues K.Keeper (is_fault result) self.old self.new }
         ensures front { front_of result ≡ stop_front self.old.stopped
             (no_batch_refusal self.old.batch (λ batch. put_front key.now value.now)) }
-        ensures untouched { (self.new.keeper ≡ self.old.keeper) × (self.new.whole ≡ self.old.whole) }
+        ensures untouched { (self.new.keeper ≡ self.old.keeper) × (self.new.queue ≡ self.old.queue)
+            × (self.new.walk ≡ self.old.walk) × (self.new.whole ≡ self.old.whole) }
         ensures added { self.new.batch
             ≡ batch_once result (option_map (batch_put key.now value.now) self.old.batch) self.old.batch }
     {
@@ -84,7 +86,7 @@ impl<K: Keeper> Replica<K> {
         ensures same { TellsSame K.Keeper self.old self.new }
         ensures added { IfErr result (λ error. self.new.batch ≡ self.old.batch) }
         ensures still_open { is_some self.new.batch ≡ is_some self.old.batch }
-        ensures whole_same { self.new.whole ≡ self.old.whole }
+        ensures whole_same { (self.new.walk ≡ self.old.walk) × (self.new.whole ≡ self.old.whole) }
     {
         kept_is_durable();
         if self.stopped {
@@ -115,7 +117,7 @@ impl<K: Keeper> Replica<K> {
             (no_batch_refusal self.old.batch (λ batch. None)) }
         ensures refused { IfRefusedOrShort result (TellsSame K.Keeper self.old self.new) }
         ensures closed { self.new.batch ≡ batch_once result None self.old.batch }
-        ensures whole_same { self.new.whole ≡ self.old.whole }
+        ensures whole_same { (self.new.walk ≡ self.old.walk) × (self.new.whole ≡ self.old.whole) }
         ensures made { IfOk result (λ written. Becomes K.Keeper (λ rose. AddsBatch written) self.old self.new) }
     {
         kept_is_durable();
@@ -146,13 +148,15 @@ impl<K: Keeper> Replica<K> {
         requires up { self.old.stopped ≡ false }
         requires room { plan_rows planned.plan ≤ K.spare self.old.keeper }
         requires shape { IsShaped planned.plan }
+        requires links { planned.plan.after.links ≡ [] }
+        requires same { planned.plan.after.cid ≡ planned.written.cid }
         requires plan { IfSome (K.told self.old.keeper) (λ kept. IsSomePlan kept self.old.whole planned.plan) }
         ensures part { Becomes K.Keeper (λ rose.
             Part (plan_events planned.plan ++ Closed None ∷ []) rose result) self.old self.new }
         ensures answer { IfOk result (λ written. written ≡ Some planned.written) }
         ensures only { IfErr result (λ error. error ≡ Refused.KeeperFault) }
         ensures closed { self.new.batch ≡ batch_once result None self.old.batch }
-        ensures whole_same { self.new.whole ≡ self.old.whole }
+        ensures whole_same { (self.new.walk ≡ self.old.walk) × (self.new.whole ≡ self.old.whole) }
         ensures keeps { Continues K.Keeper (is_fault result) self.old self.new }
     {
         match self.take_up(planned) {
@@ -179,6 +183,8 @@ fn plan_batch<K: Keeper>(
     ensures refused { IfSome (K.told keeper.old) (λ kept.
         IfErr result (IsDue (Is (batch_made_refusal kept batch.now)))) }
     ensures shape { IfOk result (λ planned. IsShaped planned.plan) }
+    ensures links { IfOk result (λ planned. planned.plan.after.links ≡ []) }
+    ensures same { IfOk result (λ planned. planned.plan.after.cid ≡ planned.written.cid) }
     ensures room { IfOk result (λ planned. plan_rows planned.plan ≤ K.spare keeper.new) }
     ensures reads { Reads K.Keeper (is_fault result) keeper.old keeper.new }
 {

@@ -1,5 +1,5 @@
 // The commits of a replica: each is one event, or it breaks and the replica stops.
-ghost use Rattle.std.specs.Prelude.{◌≡◌, ◌≢◌, ◌≤◌, ◌+◌, false, [], ◌∷◌, None, IfSome, OnOk};
+ghost use Rattle.std.specs.Prelude.{◌≡◌, ◌≤◌, ◌+◌, false, [], ◌∷◌, None, length, IfSome, OnOk};
 ghost use Rattle.std.specs.Result.{is_err};
 ghost use Rattle.mc_base.specs.Told.{Told};
 ghost use Rattle.mc_model.specs.Events.{Store, Process};
@@ -8,12 +8,15 @@ ghost use Rattle.mc_model.specs.State.{vertices};
 ghost use Rattle.mc_keep.specs.Changes.{changed, row_count};
 ghost use Rattle.mc_keep.specs.Tables.{ChangesFit};
 ghost use Rattle.mc_core.specs.Events.{Part};
-ghost use Rattle.mc_core.specs.Plans.{IsReady, HasLinks, IsShaped, IsSomePlan, plan_rows, plan_events};
+ghost use Rattle.mc_model.specs.Wanted.{without};
+ghost use Rattle.mc_queue.specs.Views.{shown, spare};
+ghost use Rattle.mc_core.specs.Plans.{IsReady, IsShaped, IsSomePlan, plan_rows, plan_events, wants};
 ghost use Rattle.mc_core.specs.Words.{Becomes, CommitKeeps};
 
-use crate::plan::Plan;
+use crate::plan::{After, Plan};
 use crate::replica::Replica;
 use crate::report::numbers_after;
+use crate::wanting::want_links;
 use mc_base::Failed;
 use mc_keep::{Changes, Keeper, changes_fit, commits_are_events};
 use mc_model::{kept_changes_are_events, kept_is_durable};
@@ -32,10 +35,12 @@ impl<K: Keeper> Replica<K> {
         ensures up { OnOk result (self.new.stopped ≡ false) }
         ensures keeps { CommitKeeps K.Keeper (is_err result) self.old self.new }
         ensures spare { K.spare self.old.keeper ≤ K.spare self.new.keeper + row_count store }
+        ensures queue_same { self.new.queue ≡ self.old.queue }
     {
         commits_are_events();
+        changes_fit();
         is_sound(&self.keeper);
-        let numbers = numbers_after(self.numbers, &store);
+        let numbers = numbers_after(self.numbers, &store, self.numbers.gaps);
         match self.keeper.commit(store) {
             Ok(()) => {
                 self.numbers = numbers;
@@ -48,23 +53,27 @@ impl<K: Keeper> Replica<K> {
         }
     }
 
-    // Processes stored blocks, whose links are all processed.
-    pub(crate) fn commit_process(&mut self, process: Changes) -> Result<(), Failed>
+    // Processes a stored block.
+    pub(crate) fn commit_process(&mut self, process: Changes, after: After) -> Result<(), Failed>
         requires up { self.old.stopped ≡ false }
         requires room { row_count process ≤ K.spare self.old.keeper }
-        requires only { (process.store ≡ []) × (process.marks ≢ []) }
-        requires ready { IfSome (K.told self.old.keeper) (λ kept.
-            IsReady kept self.old.whole process × HasLinks kept process.marks) }
+        requires links { length after.links ≤ spare self.old.queue }
+        requires only { (process.store ≡ []) × (process.marks ≡ after.cid ∷ []) }
+        requires ready { IfSome (K.told self.old.keeper) (λ kept. IsReady kept self.old.whole process after) }
         ensures part { Becomes K.Keeper (λ rose. Part (Process process.marks ∷ []) rose result) self.old self.new }
+        ensures queue { OnOk result (shown self.new.queue
+            ≡ wants (without (shown self.old.queue) (after.cid ∷ [])) after.links) }
         ensures up { OnOk result (self.new.stopped ≡ false) }
         ensures keeps { CommitKeeps K.Keeper (is_err result) self.old self.new }
     {
         commits_are_events();
         is_sound(&self.keeper);
-        let numbers = numbers_after(self.numbers, &process);
+        let numbers = numbers_after(self.numbers, &process, after.gaps);
         match self.keeper.commit(process) {
             Ok(()) => {
                 self.numbers = numbers;
+                self.queue.done(&after.cid);
+                want_links(&mut self.queue, after.links.as_slice());
                 Ok(())
             }
             Err(Failed) => {
@@ -74,22 +83,25 @@ impl<K: Keeper> Replica<K> {
         }
     }
 
-    // Stores blocks, and then processes them.
-    fn commit_both(&mut self, store: Changes, process: Changes) -> Result<(), Failed>
+    // Stores blocks, and then processes one.
+    fn commit_both(&mut self, store: Changes, process: Changes, after: After) -> Result<(), Failed>
         requires up { self.old.stopped ≡ false }
         requires room { row_count store + row_count process ≤ K.spare self.old.keeper }
         requires only_store { (store.marks ≡ []) × (store.mark ≡ None) }
-        requires only_process { (process.store ≡ []) × (process.marks ≢ []) }
+        requires links { length after.links ≤ spare self.old.queue }
+        requires only_process { (process.store ≡ []) × (process.marks ≡ after.cid ∷ []) }
         requires fits { IfSome (K.told self.old.keeper) (λ kept. ChangesFit kept store) }
         requires ready { IfSome (K.told self.old.keeper) (λ kept.
-            IsReady (changed kept store) self.old.whole process × HasLinks (changed kept store) process.marks) }
+            IsReady (changed kept store) self.old.whole process after) }
         ensures part { Becomes K.Keeper (λ rose.
             Part (Store (vertices store.store) ∷ Process process.marks ∷ []) rose result) self.old self.new }
+        ensures queue { OnOk result (shown self.new.queue
+            ≡ wants (without (shown self.old.queue) (after.cid ∷ [])) after.links) }
         ensures up { OnOk result (self.new.stopped ≡ false) }
         ensures keeps { CommitKeeps K.Keeper (is_err result) self.old self.new }
     {
         match self.commit_store(store) {
-            Ok(()) => self.commit_process(process),
+            Ok(()) => self.commit_process(process, after),
             Err(Failed) => Err(Failed),
         }
     }
@@ -98,9 +110,12 @@ impl<K: Keeper> Replica<K> {
     pub(crate) fn carry_out(&mut self, plan: Plan) -> Result<(), Failed>
         requires up { self.old.stopped ≡ false }
         requires room { plan_rows plan ≤ K.spare self.old.keeper }
+        requires links { length plan.after.links ≤ spare self.old.queue }
         requires shape { IsShaped plan }
         requires plan { IfSome (K.told self.old.keeper) (λ kept. IsSomePlan kept self.old.whole plan) }
         ensures part { Becomes K.Keeper (λ rose. Part (plan_events plan) rose result) self.old self.new }
+        ensures queue { OnOk result (shown self.new.queue
+            ≡ wants (without (shown self.old.queue) (plan.after.cid ∷ [])) plan.after.links) }
         ensures up { OnOk result (self.new.stopped ≡ false) }
         ensures keeps { CommitKeeps K.Keeper (is_err result) self.old self.new }
     {
@@ -109,10 +124,14 @@ impl<K: Keeper> Replica<K> {
         kept_is_durable();
         kept_changes_are_events();
         is_sound(&self.keeper);
-        let Plan { store, process } = plan;
+        let Plan {
+            store,
+            process,
+            after,
+        } = plan;
         match store {
-            Some(store) => self.commit_both(store, process),
-            None => self.commit_process(process),
+            Some(store) => self.commit_both(store, process, after),
+            None => self.commit_process(process, after),
         }
     }
 }

@@ -98,7 +98,7 @@ impl<K: Keeper> Replica<K> {
     // Takes up one made block.
     fn take_up_one(&mut self, alloc: Global, made: MadeBlock) -> Result<(), CoreError>
         requires up { self.old.stopped ≡ false }
-        requires new { IfSome (K.told self.old.keeper) (λ kept. IsNew kept made.block made.bytes) }
+        requires new { IfSome (K.told self.old.keeper) (λ kept. IsNew kept made.block made.bytes []) }
         requires stored { IfSome (K.told self.old.keeper) (λ kept. made.known ≡ is_stored kept.graph made.block.cid) }
         ensures takes { Becomes K.Keeper (λ rose. TakesOne made rose result) self.old self.new }
         ensures only { IfErr result IsOutside }
@@ -126,11 +126,12 @@ fn plan_one<K: Keeper>(
     made: MadeBlock,
     whole: bool,
 ) -> Result<Plan, CoreError>
-    requires new { IfSome (K.told keeper.old) (λ kept. IsNew kept made.block made.bytes) }
+    requires new { IfSome (K.told keeper.old) (λ kept. IsNew kept made.block made.bytes []) }
     requires stored { IfSome (K.told keeper.old) (λ kept. made.known ≡ is_stored kept.graph made.block.cid) }
     ensures plan { IfTold (K.told keeper.old) result (λ kept plan. IsPlan kept whole made.block made.bytes plan) }
     ensures only { IfErr result IsOutside }
     ensures shape { IfOk result IsShaped }
+    ensures links { IfOk result (λ plan. plan.after.links ≡ []) }
     ensures room { IfOk result (λ plan. plan_rows plan ≤ K.spare keeper.new) }
     ensures reads { Reads K.Keeper (is_fault result) keeper.old keeper.new }
 {
@@ -139,7 +140,7 @@ fn plan_one<K: Keeper>(
         bytes,
         known,
     } = made;
-    let plan = plan_block(keeper, alloc, &block, bytes, known, whole)?;
+    let plan = plan_block(keeper, alloc, &block, bytes, known, List::new(alloc), whole)?;
     Ok(plan)
 }
 

@@ -3,6 +3,7 @@ ghost use Rattle.std.specs.Prelude.{◌≡◌, false};
 ghost use Rattle.mc_core.specs.Refusals.{stops};
 
 use mc_base::{Cid, Failed};
+use mc_cast::CastFault;
 use mc_keep::KeepError;
 use mc_key::KeyFault;
 use mc_write::WriteError;
@@ -43,6 +44,12 @@ pub enum CoreError {
     /// An earlier call answered `KeeperFault`.
     #[error("the replica has stopped")]
     Stopped,
+    /// The message is no broadcast.
+    #[error("{fault}")]
+    BadCast {
+        /// Its first wire fault, and else the first head that names no identifier.
+        fault: CastFault,
+    },
     /// No batch is open.
     #[error("no batch is open")]
     NoBatch,

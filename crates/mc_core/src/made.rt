@@ -1,6 +1,6 @@
 // Blocks that a replica makes.
 ghost use Rattle.mc_keep.specs.Calls.{Reads};
-ghost use Rattle.std.specs.Prelude.{◌≡◌, ◌≤◌, None, Some, true, false, IfOk, IfSome, IfErr, OnOk};
+ghost use Rattle.std.specs.Prelude.{◌≡◌, ◌≤◌, [], None, Some, true, false, IfOk, IfSome, IfErr, OnOk};
 ghost use Rattle.std.specs.List.{list_all};
 ghost use Rattle.std.specs.Result.{is_err};
 ghost use Rattle.mc_model.specs.Front.{is_among};
@@ -90,7 +90,7 @@ fn check_size(bytes: &[u8]) -> Result<(), CoreError>
     Ok(())
 }
 
-fn is_processed<K: Keeper>(keeper: &mut K, cid: &Cid) -> Result<bool, Failed>
+pub(crate) fn is_processed<K: Keeper>(keeper: &mut K, cid: &Cid) -> Result<bool, Failed>
     ensures found { IfTold (K.told keeper.old) result (λ kept found. found ≡ is_among kept.order cid.now) }
     ensures reads { Reads K.Keeper (is_err result) keeper.old keeper.new }
 {
@@ -148,6 +148,8 @@ pub(crate) fn plan_made<K: Keeper>(
     ensures front { front_of result ≡ None }
     ensures refused { IfSome (K.told keeper.old) (λ kept. IfErr result (IsDue (Is (made_refusal kept links delta)))) }
     ensures shape { IfOk result (λ planned. IsShaped planned.plan) }
+    ensures links { IfOk result (λ planned. planned.plan.after.links ≡ []) }
+    ensures same { IfOk result (λ planned. planned.plan.after.cid ≡ planned.written.cid) }
     ensures room { IfOk result (λ planned. plan_rows planned.plan ≤ K.spare keeper.new) }
     ensures reads { Reads K.Keeper (is_fault result) keeper.old keeper.new }
 {
@@ -168,6 +170,14 @@ pub(crate) fn plan_made<K: Keeper>(
         links,
         delta,
     };
-    let plan = plan_block(keeper, alloc, &block, made.bytes, known, whole)?;
+    let plan = plan_block(
+        keeper,
+        alloc,
+        &block,
+        made.bytes,
+        known,
+        List::new(alloc),
+        whole,
+    )?;
     Ok(Planned { plan, written })
 }

@@ -1,6 +1,6 @@
 // Puts, up to their commits.
 ghost use Rattle.mc_keep.specs.Calls.{Reads};
-ghost use Rattle.std.specs.Prelude.{◌≡◌, ◌≤◌, None, Some, false, IfOk, IfSome, IfErr, OnOk};
+ghost use Rattle.std.specs.Prelude.{◌≡◌, ◌≤◌, [], None, Some, false, IfOk, IfSome, IfErr, OnOk};
 ghost use Rattle.mc_keep.specs.Causes.{IfTold};
 ghost use Rattle.mc_core.specs.Exact.{front_of, put_front};
 ghost use Rattle.mc_core.specs.Plans.{IsShaped, plan_rows};
@@ -60,6 +60,8 @@ fn plan_made_put<K: Keeper>(
     ensures refused { IfSome (K.told keeper.old) (λ kept.
         IfErr result (IsDue (Is (put_made_refusal kept key.now value.now)))) }
     ensures shape { IfOk result (λ planned. IsShaped planned.plan) }
+    ensures links { IfOk result (λ planned. planned.plan.after.links ≡ []) }
+    ensures same { IfOk result (λ planned. planned.plan.after.cid ≡ planned.written.cid) }
     ensures room { IfOk result (λ planned. plan_rows planned.plan ≤ K.spare keeper.new) }
     ensures reads { Reads K.Keeper (is_fault result) keeper.old keeper.new }
 {
@@ -86,6 +88,8 @@ pub(crate) fn plan_put<K: Keeper>(
     ensures refused { IfSome (K.told keeper.old) (λ kept.
         IfErr result (IsDue (Is (put_kept_refusal kept key.now value.now)))) }
     ensures shape { IfOk result (λ planned. IsShaped planned.plan) }
+    ensures links { IfOk result (λ planned. planned.plan.after.links ≡ []) }
+    ensures same { IfOk result (λ planned. planned.plan.after.cid ≡ planned.written.cid) }
     ensures room { IfOk result (λ planned. plan_rows planned.plan ≤ K.spare keeper.new) }
     ensures reads { Reads K.Keeper (is_fault result) keeper.old keeper.new }
 {

@@ -1,5 +1,7 @@
 // The calls of a replica that make one block.
-ghost use Rattle.std.specs.Prelude.{◌≡◌, ◌≤◌, false, None, IfOk, IfErr, IfSome};
+ghost use Rattle.std.specs.Prelude.{◌≡◌, ◌≤◌, ◌∷◌, [], false, None, IfOk, IfErr, IfSome};
+ghost use Rattle.mc_model.specs.Wanted.{without};
+ghost use Rattle.mc_queue.specs.Views.{shown};
 ghost use Rattle.mc_core.specs.declared.error.CoreError.{CoreError as Refused};
 ghost use Rattle.mc_core.specs.Calls.{Stays};
 ghost use Rattle.mc_core.specs.Events.{Part};
@@ -30,6 +32,8 @@ impl<K: Keeper> Replica<K> {
         ensures front { front_of result ≡ stop_front self.old.stopped (put_front key.now value.now) }
         ensures rest { RestSame self.old self.new }
         ensures refused { IfRefusedOrShort result (TellsSame K.Keeper self.old self.new) }
+        ensures wants { IfOk result (λ written.
+            shown self.new.queue ≡ without (shown self.old.queue) (written.cid ∷ [])) }
         ensures made { IfOk result (λ written. Becomes K.Keeper (λ rose.
             AddsPut key.now value.now) self.old self.new) }
     {
@@ -54,11 +58,15 @@ impl<K: Keeper> Replica<K> {
         requires up { self.old.stopped ≡ false }
         requires room { plan_rows planned.plan ≤ K.spare self.old.keeper }
         requires shape { IsShaped planned.plan }
+        requires links { planned.plan.after.links ≡ [] }
+        requires same { planned.plan.after.cid ≡ planned.written.cid }
         requires plan { IfSome (K.told self.old.keeper) (λ kept. IsSomePlan kept self.old.whole planned.plan) }
         ensures part { Becomes K.Keeper (λ rose. Part (plan_events planned.plan) rose result) self.old self.new }
         ensures answer { IfOk result (λ written. written ≡ planned.written) }
         ensures only { IfErr result (λ error. error ≡ Refused.KeeperFault) }
         ensures up { IfOk result (λ written. self.new.stopped ≡ false) }
+        ensures queue { IfOk result (λ written.
+            shown self.new.queue ≡ without (shown self.old.queue) (written.cid ∷ [])) }
         ensures keeps { CommitKeeps K.Keeper (is_fault result) self.old self.new }
     {
         let Planned { plan, written } = planned;

@@ -25,7 +25,7 @@ use Rattle.mc_script.specs.Replies.{IsDigest, IsTyped, IsWide}
 use Rattle.mc_script.specs.ReplyText.{head_text, hex_text, number_line, pair_line, reply_text, row_text}
 use Rattle.mc_script.specs.Words.{bytes_of_hex, words_of}
 use Rattle.mc_script.specs.declared.reply.Reply.{Reply}
-use Rattle.mc_script.specs.declared.reply.Reply.TheVariants.{Done, Priority, Deleted, Value, Has, Rows, Heads, Stopped, FaultKeeper, RefusedKey, RefusedValue, RefusedSize, RefusedPriority, RefusedClash, RefusedBatch}
+use Rattle.mc_script.specs.declared.reply.Reply.TheVariants.{Done, Priority, Deleted, Value, Has, Rows, Heads, Stopped, FaultKeeper, RefusedKey, RefusedValue, RefusedSize, RefusedPriority, RefusedClash, RefusedBatch, RefusedCast}
 use Rattle.mc_script.proofs.GrammarFacts.{joined_is_split}
 use Rattle.mc_script.proofs.PartFacts.{written_hex}
 
@@ -331,7 +331,8 @@ of_words (word ∷ second ∷ []) rest =
     else (if bytes_eq second (codes "keeper") then (FaultKeeper, rest)
     else (if bytes_eq second (codes "value") then (RefusedValue, rest)
     else (if bytes_eq second (codes "priority") then (RefusedPriority, rest)
-    else (RefusedBatch, rest)))))))
+    else (if bytes_eq second (codes "cast") then (RefusedCast, rest)
+    else (RefusedBatch, rest))))))))
 of_words (word ∷ second ∷ third ∷ words) rest =
     if bytes_eq second (codes "key") then (RefusedKey (digits_value 10 third), rest)
     else (if bytes_eq second (codes "size") then (RefusedSize (digits_value 10 third), rest)
@@ -391,6 +392,7 @@ told_reply RefusedPriority rest again typed = refl
 told_reply (RefusedClash cid) rest again typed =
     told_refused (codes "clash") (cid_text cid.0) rest refl refl (graphic_cid cid typed) ∙ ap (λ (c : Cid). (RefusedClash c, rest)) (cid_is_read again cid typed)
 told_reply RefusedBatch rest again typed = refl
+told_reply RefusedCast rest again typed = refl
 
 pub told_apart : (reply other : Reply) (after behind : List ℕ) → IsReadAgain → IsTyped reply → IsTyped other → reply_text reply ++ after ≡ reply_text other ++ behind → (reply ≡ other) × (after ≡ behind)
 told_apart reply other after behind again typed also same =
@@ -421,6 +423,7 @@ has_bytes (RefusedSize len) rest h = cc h
 has_bytes RefusedPriority rest h = cc h
 has_bytes (RefusedClash cid) rest h = cc h
 has_bytes RefusedBatch rest h = cc h
+has_bytes RefusedCast rest h = cc h
 
 pub all_told_apart : (replies others : List Reply) → IsReadAgain → AllByRecursion IsTyped replies → AllByRecursion IsTyped others → flat_map reply_text replies ≡ flat_map reply_text others → replies ≡ others
 all_told_apart [] [] again typed also same = refl

@@ -155,7 +155,7 @@ fn written(alloc: Global, reply: &Reply) -> Result<Bytes, AllocError> {
 fn replies_of_one_line(rt: HostRuntime) -> Result<(), Fail> {
     let alloc = rt.alloc();
     let cid = Cid::of(b"");
-    let rows: [(Reply, &[u8]); 17] = [
+    let rows: [(Reply, &[u8]); 18] = [
         (Reply::Done, b"\nok\n"),
         (Reply::Priority { priority: 12 }, b"\nok 12\n"),
         (Reply::Priority { priority: 0 }, b"\nok 0\n"),
@@ -180,6 +180,7 @@ fn replies_of_one_line(rt: HostRuntime) -> Result<(), Fail> {
             b"\nrefused clash bafybeihdwdcefgh4dqkjv67uzcmw7ojee6xedzdetojuzjevtenxquvyku\n",
         ),
         (Reply::RefusedBatch, b"\nrefused batch\n"),
+        (Reply::RefusedCast, b"\nrefused cast\n"),
         (value_of(Bytes::new(alloc)), b"\n-\n"),
         (
             value_of(Bytes::from_slice(alloc, b"\x0a\xff")?),

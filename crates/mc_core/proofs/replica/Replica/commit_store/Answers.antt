@@ -1,12 +1,42 @@
+use Rattle.std.proofs.Common.{[], ◌∷◌, ◌++◌, ◌∙◌, ap, sym, refl}
+use Rattle.mc_base.specs.Causes.{Rose}
+use Rattle.mc_model.specs.Events.{Store}
+use Rattle.mc_model.specs.Kept.{blocks_in}
+use Rattle.mc_model.specs.State.{vertices}
 use Rattle.mc_core.proofs.CommitFacts.{store_done, store_failed}
+use Rattle.mc_core.proofs.CountFacts.{counted_after, gaps_stay}
+use Rattle.mc_core.proofs.Keeps.{commits_on}
+use Rattle.mc_core.proofs.PlanFacts.{stores_only}
+use Rattle.mc_core.proofs.SoundFacts.{breaks_told, goes_told}
+use Rattle.mc_core.specs.Replica.{running_of}
 use Rattle.mc_core.proofs.replica.Replica.commit_store.Goals as goal
 
 pub returns-in-Ok-clause-part : goal.returns-in-Ok-clause-part
 returns-in-Ok-clause-part g c =
-    store_done c.commits_are_events.ensures.store _ _ _ _ _ _ _ _ c.requires.up c.in-Ok.ensures.lasts c.in-Ok.ensures.commits.fuse_burnt c.is_sound.ensures c.requires.fits
+    store_done c.commits_are_events.ensures.store _ _ _ _ _ _ _ c.requires.up c.in-Ok.ensures.lasts c.in-Ok.ensures.commits.fuse_burnt c.is_sound.ensures c.requires.fits
     c.requires.only.0 c.requires.only.1 c.in-Ok.ensures.done
 
 pub returns-in-Err-clause-part : goal.returns-in-Err-clause-part
 returns-in-Err-clause-part g c =
-    store_failed c.commits_are_events.ensures.store _ _ _ _ _ _ _ _ _ c.requires.up c.in-Err.ensures.commits.fuse_burnt c.is_sound.ensures c.requires.fits
+    store_failed c.commits_are_events.ensures.store _ _ _ _ _ _ _ _ c.requires.up c.in-Err.ensures.commits.fuse_burnt c.is_sound.ensures c.requires.fits
     c.requires.only.0 c.requires.only.1 c.in-Err.ensures.failed
+
+pub returns-in-Ok-clause-keeps : goal.returns-in-Ok-clause-keeps
+returns-in-Ok-clause-keeps g c = commits_on _ _ _ c.in-Ok.ensures.commits c.in-Ok.ensures.planned refl (record { walk_same = refl; batch_same = refl; whole_same = refl })
+
+pub invariant_of-self-clause-counted : goal.invariant_of-self-clause-counted
+invariant_of-self-clause-counted g c =
+    counted_after _ _ _ c.args.store _ _ _ c.requires.up c.args.self.now.counted c.in-Ok.ensures.commits.silent c.in-Ok.ensures.done c.numbers_after-numbers.ensures
+    (gaps_stay _ c.args.store c.args.self.now.numbers (stores_only c.changes_fit.ensures.same _ c.args.store c.is_sound.ensures c.requires.only.0))
+
+pub invariant_of-self-clause-sound : goal.invariant_of-self-clause-sound
+invariant_of-self-clause-sound g c =
+    goes_told (Store (vertices c.args.store.store) ∷ []) _ _ (g.K.Keeper.fuse c.args.self.now.keeper) _ _ _ (running_of c.args.self.now) _ c.in-Ok.ensures.commits.silent
+    (store_done c.commits_are_events.ensures.store _ _ (g.K.Keeper.fuse c.args.self.now.keeper) _ _ (running_of c.args.self.now) c.args.store c.requires.up c.in-Ok.ensures.lasts c.in-Ok.ensures.commits.fuse_burnt c.is_sound.ensures c.requires.fits
+    c.requires.only.0 c.requires.only.1 c.in-Ok.ensures.done) c.args.self.now.sound
+
+pub invariant_of-self-in-Err-clause-sound : goal.invariant_of-self-in-Err-clause-sound
+invariant_of-self-in-Err-clause-sound g c =
+    breaks_told (Store (vertices c.args.store.store) ∷ []) (Rose (g.K.Keeper.own c.args.self.now.keeper) (g.K.Keeper.own c.commit.new.self)) _ _ (g.K.Keeper.fuse c.args.self.now.keeper) _ _ _ (running_of c.args.self.now) _ c.in-Err.ensures.commits.silent
+    (store_failed c.commits_are_events.ensures.store _ _ (g.K.Keeper.fuse c.args.self.now.keeper) _ _ (running_of c.args.self.now) c.args.store (Rose (g.K.Keeper.own c.args.self.now.keeper) (g.K.Keeper.own c.commit.new.self)) c.requires.up c.in-Err.ensures.commits.fuse_burnt c.is_sound.ensures c.requires.fits
+    c.requires.only.0 c.requires.only.1 c.in-Err.ensures.failed) c.args.self.now.sound

@@ -1,6 +1,19 @@
-use Rattle.std.proofs.Common.{refl}
+use Rattle.std.proofs.Common.{◌≡◌, refl, List}
+use Rattle.std.proofs.Common.{map}
+use Rattle.mc_key.specs.Prefix.{is_under}
+use Rattle.mc_model.specs.Answers as answers
+use Rattle.mc_query.specs.declared.pair.Pair.{Pair}
+use Rattle.mc_model.specs.Kept.{Kept, processed}
+use Rattle.mc_query.specs.Places.{pair_of}
+use Rattle.std.specs.Prelude.{⊤}
+use Rattle.mc_core.proofs.CallFacts.{answers_call}
+use Rattle.mc_core.specs.Replica.{running_of}
 use Rattle.mc_core.proofs.Keeps.{still_on}
 use Rattle.mc_core.proofs.replica.Replica.query.Goals as goal
 
 pub returns-then-self-clause-keeps : goal.returns-then-self-clause-keeps
 returns-then-self-clause-keeps g c = still_on refl refl refl
+
+pub returns-in-Ok-clause-call : goal.returns-in-Ok-clause-call
+returns-in-Ok-clause-call g c =
+    answers_call c.kept_is_durable.ensures.back (λ (kept : Kept) (pairs : List Pair). map pair_of pairs ≡ answers.query (processed kept) (is_under c.args.prefix.now) c.args.skip c.args.count) _ _ _ _ _ (running_of c.args.self.now) ⊤ _ c.if-self.false c.in-Ok.ensures.reads.told_same c.in-Ok.ensures.reads.fuse_same c.in-Ok.ensures.rows

@@ -12,7 +12,7 @@ take_up_one-requires-clause-new g c =
     let turn = YieldsList-turn road c.loop-made.yielded c.loop-made.made-iterator c.loop-made.yielded_by c.next.result c.next.new.self c.in-Some.made c.in-Some.is c.next.ensures.steps in
     let so_far = YieldsList-so_far road c.loop-made.yielded c.loop-made.made-iterator c.loop-made.yielded_by in
     let rest = rest_of c.loop-made.yielded c.into_vec-made-items.result.items c.in-Some.made so_far turn.0 turn.1 in
-    first_told _ _ _ (next_told c.kept_is_durable.ensures.back _ _ _ _ _ _ _ _ _ _ _ c.in-Some.made rest.0 c.args.blocks c.requires.up (sym c.into_vec-made-items.ensures ∙ rest.1) c.loop-made.invariant.keeps.continues.keeper_goes.silent c.requires.next c.loop-made.invariant.taken)
+    first_told _ _ _ (next_told c.kept_is_durable.ensures.back _ _ _ _ _ _ _ _ _ c.in-Some.made rest.0 c.args.blocks c.requires.up (sym c.into_vec-made-items.ensures ∙ rest.1) c.loop-made.invariant.keeps.continues.keeper_goes.silent c.requires.next c.loop-made.invariant.taken)
 
 pub take_up_one-requires-clause-stored : goal.take_up_one-requires-clause-stored
 take_up_one-requires-clause-stored g c =
@@ -20,14 +20,14 @@ take_up_one-requires-clause-stored g c =
     let turn = YieldsList-turn road c.loop-made.yielded c.loop-made.made-iterator c.loop-made.yielded_by c.next.result c.next.new.self c.in-Some.made c.in-Some.is c.next.ensures.steps in
     let so_far = YieldsList-so_far road c.loop-made.yielded c.loop-made.made-iterator c.loop-made.yielded_by in
     let rest = rest_of c.loop-made.yielded c.into_vec-made-items.result.items c.in-Some.made so_far turn.0 turn.1 in
-    second_told _ _ _ (next_told c.kept_is_durable.ensures.back _ _ _ _ _ _ _ _ _ _ _ c.in-Some.made rest.0 c.args.blocks c.requires.up (sym c.into_vec-made-items.ensures ∙ rest.1) c.loop-made.invariant.keeps.continues.keeper_goes.silent c.requires.next c.loop-made.invariant.taken)
+    second_told _ _ _ (next_told c.kept_is_durable.ensures.back _ _ _ _ _ _ _ _ _ c.in-Some.made rest.0 c.args.blocks c.requires.up (sym c.into_vec-made-items.ensures ∙ rest.1) c.loop-made.invariant.keeps.continues.keeper_goes.silent c.requires.next c.loop-made.invariant.taken)
 
 pub loop-made-init : goal.loop-made-init
 loop-made-init g c = record { taken = taken_none _ _ _; up = c.requires.up; keeps = commit_itself c.args.self.now }
 
 pub loop-made-preserved : goal.loop-made-preserved
 loop-made-preserved g c = record {
-  taken = taken_goes_on c.kept_is_durable.ensures.back _ _ _ _ _ _ _ _ c.in-Some.made c.requires.up c.loop-made.invariant.taken c.in-Ok.ensures.takes;
+  taken = taken_goes_on c.kept_is_durable.ensures.back _ _ _ _ _ _ _ c.in-Some.made c.requires.up c.loop-made.invariant.taken c.in-Ok.ensures.takes;
   up = c.in-Ok.ensures.up;
   keeps = commit_more c.loop-made.invariant.keeps c.in-Ok.ensures.keeps;
 }
@@ -38,7 +38,7 @@ returns-in-Err-clause-takes g c =
     let turn = YieldsList-turn road c.loop-made.yielded c.loop-made.made-iterator c.loop-made.yielded_by c.next.result c.next.new.self c.in-Some.made c.in-Some.is c.next.ensures.steps in
     let so_far = YieldsList-so_far road c.loop-made.yielded c.loop-made.made-iterator c.loop-made.yielded_by in
     let rest = rest_of c.loop-made.yielded c.into_vec-made-items.result.items c.in-Some.made so_far turn.0 turn.1 in
-    taken_ends c.kept_is_durable.ensures.back _ _ _ _ _ _ _ _ c.in-Some.made rest.0 c.args.blocks _ _ _ c.in-Err.error c.requires.up c.loop-made.invariant.keeps.continues.keeper_goes.own_later (sym c.into_vec-made-items.ensures ∙ rest.1) c.loop-made.invariant.taken c.in-Err.ensures.takes
+    taken_ends c.kept_is_durable.ensures.back _ _ _ _ _ _ _ c.in-Some.made rest.0 c.args.blocks _ _ _ c.in-Err.error c.requires.up c.loop-made.invariant.keeps.continues.keeper_goes.own_later (sym c.into_vec-made-items.ensures ∙ rest.1) c.loop-made.invariant.taken c.in-Err.ensures.takes
 
 pub returns-in-Err-clause-keeps : goal.returns-in-Err-clause-keeps
 returns-in-Err-clause-keeps g c = commit_more c.loop-made.invariant.keeps c.in-Err.ensures.keeps

@@ -1,0 +1,11 @@
+use Rattle.mc_core.proofs.JobFacts.{recall_told, happens_sound}
+use Rattle.mc_core.specs.Replica.{running_of}
+use Rattle.mc_core.proofs.replica.Replica.recall.Goals as goal
+
+pub returns-clause-goes : goal.returns-clause-goes
+returns-clause-goes g c = recall_told c.recall_gives_back.ensures.may c.recall_gives_back.ensures.is _ _ _ (running_of c.args.self.now) _ c.args.self.now.sound c.recall.ensures.queue
+
+pub invariant_of-self-clause-sound : goal.invariant_of-self-clause-sound
+invariant_of-self-clause-sound g c =
+    happens_sound _ _ (g.K.Keeper.fuse c.args.self.now.keeper) _ (running_of c.args.self.now) _
+    (recall_told c.recall_gives_back.ensures.may c.recall_gives_back.ensures.is _ _ _ (running_of c.args.self.now) _ c.args.self.now.sound c.recall.ensures.queue) c.args.self.now.sound

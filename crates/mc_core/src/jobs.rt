@@ -1,0 +1,134 @@
+// The jobs of a replica: the wanted blocks that are to be fetched.
+ghost use Rattle.std.specs.Prelude.{◌≡◌, ◌∷◌, [], None, IfOk, IfSome, option_map, cond};
+ghost use Rattle.mc_keep.specs.Calls.{Reads};
+ghost use Rattle.mc_keep.specs.Causes.{IfTold};
+ghost use Rattle.mc_keep.specs.Plan.{is_fault as keeper_failed};
+ghost use Rattle.mc_fetch.specs.Offers.{HasDigest};
+ghost use Rattle.mc_fetch.specs.declared.job.Job.{Job as Begun};
+ghost use Rattle.mc_model.specs.Draining.{all_given_back};
+ghost use Rattle.mc_model.specs.Events.{GiveBack, Requeue};
+ghost use Rattle.mc_model.specs.Graph.{has};
+ghost use Rattle.mc_model.specs.Kept.{bytes_at};
+ghost use Rattle.mc_model.specs.Wanted.{give_back, requeue, recall};
+ghost use Rattle.mc_queue.specs.Tickets.{first_of};
+ghost use Rattle.mc_queue.specs.Views.{shown};
+ghost use Rattle.mc_core.specs.Exact.{RestSame, front_of, stop_front};
+ghost use Rattle.mc_core.specs.Jobs.{NextPlan, NextShort, NextWants};
+ghost use Rattle.mc_core.specs.Reads.{read_refusal};
+ghost use Rattle.mc_core.specs.Refusals.{Is, is_fault};
+ghost use Rattle.mc_core.specs.Words.{Acts, Continues, HappensTo, StillTells};
+
+use crate::commits::is_sound;
+use crate::{CoreError, Replica};
+use mc_base::{Bytes, Cid};
+use mc_fetch::Job;
+use mc_keep::{KeepError, Keeper};
+use mc_model::{kept_is_durable, recall_gives_back};
+use std::alloc::Global;
+
+impl<K: Keeper> Replica<K> {
+    /// Begins a job for the first block that waits, which is in flight then: the block, and the bytes that the replica
+    /// has stored under it, where their SHA-256 is its digest. `None` exactly where no block waits. Refusals: `Stopped`;
+    /// after `Memory` the block is at the back of those that wait.
+    pub fn next_job(&mut self, alloc: Global) -> Result<Option<Job>, CoreError>
+        ensures call { Acts K.Keeper (λ s. Is (read_refusal s)) NextPlan NextShort result self.old self.new }
+        ensures keeps { Continues K.Keeper (is_fault result) self.old self.new }
+        ensures front { front_of result ≡ stop_front self.old.stopped None }
+        ensures rest { RestSame self.old self.new }
+        ensures tells { StillTells K.Keeper self.old self.new }
+        ensures first { IfOk result (λ job.
+            option_map (λ (job : Begun). job.cid) job ≡ first_of (shown self.old.queue).waiting) }
+        ensures digest { IfOk result (λ job. IfSome job (λ (job : Begun). IfSome job.own (HasDigest job.cid))) }
+        ensures wants { NextWants result (shown self.old.queue) (shown self.new.queue) }
+    {
+        kept_is_durable();
+        if self.stopped {
+            return Err(CoreError::Stopped);
+        }
+        let Some(cid) = self.queue.next() else {
+            return Ok(None);
+        };
+        let own = match own_bytes(&mut self.keeper, alloc, &cid) {
+            Ok(own) => own,
+            Err(KeepError::Failed) => {
+                self.stopped = true;
+                return Err(CoreError::KeeperFault);
+            }
+            Err(KeepError::Memory) => {
+                self.queue.back(&cid);
+                return Err(CoreError::Memory);
+            }
+        };
+        Ok(Some(Job { cid, own }))
+    }
+
+    /// Gives a job back: its block comes to the back of those that wait, where it is still in flight. It takes no memory
+    /// and can't fail.
+    pub fn give_back(&mut self, job: Job)
+        ensures goes { HappensTo K.Keeper (λ run.
+            cond (has job.cid run.queue.flight) (GiveBack job.cid ∷ []) []) self.old self.new }
+        ensures keeper { self.new.keeper ≡ self.old.keeper }
+        ensures stops { self.new.stopped ≡ self.old.stopped }
+        ensures rest { RestSame self.old self.new }
+        ensures wants { shown self.new.queue ≡ cond (has job.cid (shown self.old.queue).flight)
+            (give_back (shown self.old.queue) job.cid) (shown self.old.queue) }
+    {
+        self.queue.back(&job.cid);
+    }
+
+    /// What is missing, and then what is bad, comes to the back of what waits. It takes no memory and can't fail.
+    pub fn requeue(&mut self)
+        ensures goes { HappensTo K.Keeper (λ run. Requeue ∷ []) self.old self.new }
+        ensures keeper { self.new.keeper ≡ self.old.keeper }
+        ensures stops { self.new.stopped ≡ self.old.stopped }
+        ensures rest { RestSame self.old self.new }
+        ensures wants { shown self.new.queue ≡ requeue (shown self.old.queue) }
+    {
+        self.queue.requeue();
+    }
+
+    /// Gives back all jobs: their blocks come to the back of what waits, in their order. It takes no memory and can't
+    /// fail.
+    pub fn recall(&mut self)
+        ensures goes { HappensTo K.Keeper (λ run. all_given_back run.queue.flight) self.old self.new }
+        ensures keeper { self.new.keeper ≡ self.old.keeper }
+        ensures stops { self.new.stopped ≡ self.old.stopped }
+        ensures rest { RestSame self.old self.new }
+        ensures wants { shown self.new.queue ≡ recall (shown self.old.queue) }
+    {
+        recall_gives_back();
+        self.queue.recall();
+    }
+}
+
+// The stored bytes of a block, where they have its digest.
+fn own_bytes<K: Keeper>(
+    keeper: &mut K,
+    alloc: Global,
+    cid: &Cid,
+) -> Result<Option<Bytes>, KeepError>
+    ensures own { IfTold (K.told keeper.old) result (λ kept own. own ≡ bytes_at kept.graph cid.now) }
+    ensures digest { IfOk result (λ own. IfSome own (HasDigest cid.now)) }
+    ensures reads { Reads K.Keeper (keeper_failed result) keeper.old keeper.new }
+{
+    is_sound(keeper);
+    let stored = keeper.block(alloc, cid)?;
+    Ok(with_digest(stored, cid))
+}
+
+// Bytes that have the digest of the block, or none.
+fn with_digest(stored: Option<Bytes>, cid: &Cid) -> Option<Bytes>
+    ensures kept { IfSome stored (HasDigest cid.now) → result ≡ stored }
+    ensures digest { IfSome result (HasDigest cid.now) }
+{
+    match stored {
+        Some(bytes) => {
+            if Cid::of(bytes.as_slice()) == *cid {
+                Some(bytes)
+            } else {
+                None
+            }
+        }
+        None => None,
+    }
+}
