@@ -16,7 +16,7 @@ use Rattle.mc_keep.specs.Changes.{no_changes}
 use Rattle.mc_keep.specs.New.{AreNew}
 use Rattle.mc_keep.specs.Tables.{ChangesFit}
 use Rattle.mc_core.specs.Plans.{Processes}
-use Rattle.mc_core.proofs.PlanFacts.{StoringLaw, FitLaw, SoundLaw, MarkLaw, LinksLaw, ready}
+use Rattle.mc_core.proofs.PlanFacts.{StoringLaw, FitLaw}
 
 -- bytes that are a block may be stored
 pub told_may_store : (law : StoringLaw) (told : Option Kept) (cid : Cid) (bytes : List ℕ) (block : Block) (changes : Changes) → changes ≡ record no_changes { store = record { cid = cid; bytes = bytes } ∷ [] }
@@ -40,15 +40,15 @@ told_new (Some kept) cids blocks are once none =
     let back : cids_in blocks ≡ cids = ap cids_in are ∙ cids_back kept.graph cids in
     (ap (is_once same_cid) back ∙ once, ap (list_any (is_among kept.order)) back ∙ none)
 
-module _ (fit_law : FitLaw) (sound_law : SoundLaw) (mark_law : MarkLaw) (links_law : LinksLaw) where
-  pub told_may_process : (told : Option Kept) (whole : Bool) (cids : List Cid) (blocks : List Block) (changes : Changes) → IfSome told IsKept → IfSome told (λ kept. blocks ≡ blocks_in kept.graph cids)
+module _ (fit_law : FitLaw) where
+  pub told_may_process : (told : Option Kept) (whole : Bool) (cids : List Cid) (blocks : List Block) (changes : Changes) → IfSome told (λ kept. blocks ≡ blocks_in kept.graph cids)
       → IfSome told (λ kept. list_all (is_stored kept.graph) cids ≡ true) → is_once same_cid cids ≡ true → IfSome told (λ kept. list_any (is_among kept.order) cids ≡ false)
       → IfSome told (λ kept. Processes kept whole blocks (map (λ (block : Block). block.cid) blocks) changes) → IfSome told (λ kept. ChangesFit kept changes)
-  told_may_process None whole cids blocks changes sound are stored once none p = tt
-  told_may_process (Some kept) whole cids blocks changes sound are stored once none p =
+  told_may_process None whole cids blocks changes are stored once none p = tt
+  told_may_process (Some kept) whole cids blocks changes are stored once none p =
       let back : cids_in blocks ≡ cids = ap cids_in are ∙ cids_back kept.graph cids in
-      (ready fit_law sound_law mark_law links_law kept whole blocks changes sound (told_new (Some kept) cids blocks are once none)
-      (ap (list_all (is_stored kept.graph)) back ∙ stored) (ap (blocks_in kept.graph) back ∙ sym are) p).fits
+      fit_law kept blocks changes p.only p.marks (told_new (Some kept) cids blocks are once none)
+      (ap (list_all (is_stored kept.graph)) back ∙ stored) (ap (blocks_in kept.graph) back ∙ sym are) p.rows p.front
 
 -- the same at the moments of a call
 
@@ -63,13 +63,13 @@ new_now old mid now cids blocks slice none e1 e2 is are once done p =
     (subst (λ b. IfSome old (λ kept. AreNew kept b)) (sym is)
     (told_new old cids blocks are once (none_told old none cids done (subst (λ t. IfSome t (λ kept. none ≡ true → list_any (is_among kept.order) cids ≡ false)) e1 p))))
 
-pub process_now : (fit_law : FitLaw) (sound_law : SoundLaw) (mark_law : MarkLaw) (links_law : LinksLaw) (old mid now last : Option Kept) (whole : Bool) (cids : List Cid) (blocks slice : List Block) (none : Bool) (changes : Changes)
-    → mid ≡ old → now ≡ mid → last ≡ now → slice ≡ blocks → IfSome old IsKept → IfSome old (λ kept. blocks ≡ blocks_in kept.graph cids) → IfSome old (λ kept. list_all (is_stored kept.graph) cids ≡ true)
+pub process_now : (fit_law : FitLaw) (old mid now last : Option Kept) (whole : Bool) (cids : List Cid) (blocks slice : List Block) (none : Bool) (changes : Changes)
+    → mid ≡ old → now ≡ mid → last ≡ now → slice ≡ blocks → IfSome old (λ kept. blocks ≡ blocks_in kept.graph cids) → IfSome old (λ kept. list_all (is_stored kept.graph) cids ≡ true)
     → is_once same_cid cids ≡ true → none ≡ true → IfSome mid (λ kept. none ≡ true → list_any (is_among kept.order) cids ≡ false)
     → IfSome now (λ kept. Processes kept whole slice (map (λ (block : Block). block.cid) slice) changes) → IfSome last (λ kept. ChangesFit kept changes)
-process_now fit_law sound_law mark_law links_law old mid now last whole cids blocks slice none changes e1 e2 e3 is sound are stored once done p processes =
+process_now fit_law old mid now last whole cids blocks slice none changes e1 e2 e3 is are stored once done p processes =
     subst (λ t. IfSome t (λ kept. ChangesFit kept changes)) (sym (e3 ∙ (e2 ∙ e1)))
-    (told_may_process fit_law sound_law mark_law links_law old whole cids blocks changes sound are stored once
+    (told_may_process fit_law old whole cids blocks changes are stored once
     (none_told old none cids done (subst (λ t. IfSome t (λ kept. none ≡ true → list_any (is_among kept.order) cids ≡ false)) e1 p))
     (subst (λ b. IfSome old (λ kept. Processes kept whole b (map (λ (block : Block). block.cid) b) changes)) is
     (subst (λ t. IfSome t (λ kept. Processes kept whole slice (map (λ (block : Block). block.cid) slice) changes)) (e2 ∙ e1) processes)))

@@ -7,18 +7,22 @@ ghost use Rattle.mc_model.specs.Front.{same_cid, is_among};
 ghost use Rattle.mc_model.specs.Kept.{block_in, blocks_in, is_stored};
 ghost use Rattle.mc_keep.specs.Causes.{IfTold};
 
-use crate::given::{empty, is_sound, process_changes, store_of};
+use crate::given::{empty, process_changes, store_of};
 use mc_base::{Bytes, Cid, Counted, List, Text};
 use mc_block::{read_block, write_block};
-use mc_keep::{HeadRow, KeepError, Keeper, changes_fit, commits_are_events};
+use mc_keep::{HeadRow, KeepError, Keeper, changes_fit};
 use mc_keep_mem::{FaultPlan, MemKeeper};
-use mc_model::{Block, Delta, Element, Tomb, id_of, kept_changes_are_events, kept_is_durable};
+use mc_model::{Block, Delta, Element, Tomb, id_of};
 use std::alloc::{AllocError, Global};
 use std::sync::Wait;
 use std::test::Fail;
 
-// Stores the bytes, which are a block, unless they are stored.
-fn store_bytes<K: Keeper>(keeper: &mut K, alloc: Global, bytes: Bytes) -> Result<Cid, KeepError> {
+/// Stores the bytes, which are a block, unless they are stored.
+pub fn store_bytes<K: Keeper>(
+    keeper: &mut K,
+    alloc: Global,
+    bytes: Bytes,
+) -> Result<Cid, KeepError> {
     changes_fit();
     let cid = Cid::of(bytes.as_slice());
     read(alloc, &cid, &bytes)?;
@@ -121,18 +125,14 @@ fn has_cid(cids: &[Cid], cid: &Cid) -> bool
     false
 }
 
-// Processes these stored blocks in one commit, and answers the number of gaps.
-fn process<K: Keeper>(
+/// Processes these stored blocks in one commit, and answers the number of gaps.
+pub fn process<K: Keeper>(
     keeper: &mut K,
     alloc: Global,
     cids: &[Cid],
     whole: bool,
 ) -> Result<u64, KeepError> {
     changes_fit();
-    commits_are_events();
-    kept_is_durable();
-    kept_changes_are_events();
-    is_sound(keeper);
     let blocks = read_group(keeper, alloc, cids)?;
     if !are_once(cids) {
         return Err(KeepError::Memory);
@@ -150,8 +150,8 @@ fn process<K: Keeper>(
     Ok(keeper.summary()?.gaps)
 }
 
-// The bytes of a block of priority 1 that sets a key to one byte.
-fn element(alloc: Global, value: u8) -> Result<Bytes, AllocError> {
+/// The bytes of a block of priority 1 that sets a key to one byte.
+pub fn element(alloc: Global, value: u8) -> Result<Bytes, AllocError> {
     let mut delta = no_delta(alloc, 1);
     delta.elements.push(Element {
         key: Text::from_text(alloc, "/k")?,
@@ -176,7 +176,8 @@ fn link(alloc: Global, cid: Cid, priority: u64) -> Result<Bytes, AllocError> {
     Ok(write_block(alloc, &[cid], &delta)?.bytes)
 }
 
-fn no_delta(alloc: Global, priority: u64) -> Delta {
+/// A delta of this priority without a row.
+pub fn no_delta(alloc: Global, priority: u64) -> Delta {
     Delta {
         elements: List::new(alloc),
         tombstones: List::new(alloc),
@@ -191,7 +192,8 @@ fn take_up<K: Keeper>(keeper: &mut K, alloc: Global, bytes: Bytes) -> Result<Cid
     Ok(cid)
 }
 
-fn has_value<K: Keeper>(
+/// Whether the value of the key of the examples is this byte, with this priority.
+pub fn has_value<K: Keeper>(
     keeper: &mut K,
     alloc: Global,
     priority: u64,
@@ -292,12 +294,14 @@ fn has_keys<K: Keeper>(keeper: &mut K, alloc: Global) -> Result<bool, KeepError>
     )
 }
 
-fn has_front<K: Keeper>(keeper: &mut K, gaps: u64, mark: bool) -> Result<bool, KeepError> {
+/// Whether there are so many gaps, and the mark stands so.
+pub fn has_front<K: Keeper>(keeper: &mut K, gaps: u64, mark: bool) -> Result<bool, KeepError> {
     let summary = keeper.summary()?;
     Ok(summary.gaps == gaps && summary.mark == mark)
 }
 
-fn has_head<K: Keeper>(
+/// Whether this is the one head.
+pub fn has_head<K: Keeper>(
     keeper: &mut K,
     alloc: Global,
     cid: Cid,

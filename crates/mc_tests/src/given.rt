@@ -3,7 +3,7 @@ ghost use Rattle.std.specs.Prelude.{◌≡◌, ◌∷◌, [], map, IfOk, IfSome}
 ghost use Rattle.mc_model.specs.declared.block.Block.{Block};
 ghost use Rattle.mc_model.specs.Ascending.{is_once};
 ghost use Rattle.mc_model.specs.Front.{same_cid, is_processed};
-ghost use Rattle.mc_model.specs.Kept.{IsKept, nothing_kept};
+ghost use Rattle.mc_model.specs.Kept.{nothing_kept};
 ghost use Rattle.mc_keep.specs.Calls.{Reads};
 ghost use Rattle.mc_keep.specs.Causes.{IfTold};
 ghost use Rattle.mc_keep.specs.Changes.{no_changes};
@@ -75,8 +75,3 @@ pub fn store_of(alloc: Global, cid: Cid, bytes: Bytes) -> Result<Changes, AllocE
     changes.store.push(Stored { cid, bytes })?;
     Ok(changes)
 }
-
-/// What the keeper tells is sound.
-pub fn is_sound<K: Keeper>(keeper: &K)
-    ensures { IfSome (K.told keeper.now) IsKept }
-{}

@@ -8,12 +8,18 @@ mod commits;
 #[cfg(test)]
 mod deltas;
 #[cfg(test)]
+mod fetches;
+#[cfg(test)]
 mod front;
+#[cfg(test)]
+mod fuses;
 #[cfg(test)]
 mod given;
 #[cfg(test)]
 mod hand_made;
 #[cfg(test)]
 mod queries;
+#[cfg(test)]
+mod replicas;
 #[cfg(test)]
 mod rows;

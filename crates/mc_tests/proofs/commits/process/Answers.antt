@@ -12,6 +12,6 @@ process_changes-requires g c =
 pub commit-requires-clause-fits : goal.commit-requires-clause-fits
 commit-requires-clause-fits g c =
     let once : is_once same_cid c.args.cids.now ≡ true = cc in
-    process_now c.changes_fit.ensures.process c.commits_are_events.ensures.sound c.kept_changes_are_events.ensures.mark c.kept_is_durable.ensures.some_links
+    process_now c.changes_fit.ensures.process
     _ _ _ _ _ c.args.cids.now _ _ _ _ c.in_ok-blocks.ensures.told c.in_ok-none_processed.ensures.told (c.in_ok-reserve.ensures.reserves.told_same ∙ c.in_ok-changes.ensures.reads.told_same) c.as_slice.ensures
-    c.is_sound.ensures c.in_ok-blocks.ensures.blocks c.in_ok-blocks.ensures.stored once (cc) c.in_ok-none_processed.ensures.none c.in_ok-changes.ensures.process
+    c.in_ok-blocks.ensures.blocks c.in_ok-blocks.ensures.stored once (cc) c.in_ok-none_processed.ensures.none c.in_ok-changes.ensures.process

@@ -1,0 +1,213 @@
+// One replica that hears, fetches, stops and repairs.
+ghost use Rattle.std.specs.Prelude.{IfSome};
+ghost use Rattle.mc_fetch.specs.Fits.{FoundHas};
+ghost use Rattle.mc_model.specs.State.{HasSoundMark};
+
+use crate::commits::{element, no_delta};
+use crate::given::empty;
+use mc_base::{Bytes, Cid};
+use mc_block::write_block;
+use mc_cast::write_cast;
+use mc_core::{CoreError, Replica, Settled, WalkStep};
+use mc_fetch::{Delivered, Found};
+use mc_keep::Keeper;
+use std::alloc::{AllocError, Global};
+use std::test::Fail;
+
+// The bytes of a block that links to this one.
+fn link(alloc: Global, cid: Cid, priority: u64) -> Result<Bytes, AllocError> {
+    Ok(write_block(alloc, &[cid], &no_delta(alloc, priority))?.bytes)
+}
+
+// The identifiers of a chain of three blocks: the first links to none, and each other one to the one before.
+#[derive(Clone, Copy)]
+struct Chain {
+    first: Cid,
+    second: Cid,
+    third: Cid,
+}
+
+fn make_chain(alloc: Global) -> Result<Chain, AllocError> {
+    let first = Cid::of(element(alloc, 1)?.as_slice());
+    let second = Cid::of(link(alloc, first, 2)?.as_slice());
+    let third = Cid::of(link(alloc, second, 3)?.as_slice());
+    Ok(Chain {
+        first,
+        second,
+        third,
+    })
+}
+
+fn opened<K: Keeper + Drop>(alloc: Global, keeper: K) -> Result<Replica<K>, CoreError>
+    requires { IfSome (K.told keeper) HasSoundMark }
+{
+    match Replica::open(alloc, keeper) {
+        Ok(replica) => Ok(replica),
+        Err(_) => Err(CoreError::KeeperFault),
+    }
+}
+
+fn hears<K: Keeper>(replica: &mut Replica<K>, alloc: Global, cid: Cid) -> Result<u64, CoreError> {
+    let message = write_cast(alloc, &[cid])?;
+    Ok(replica.hear(alloc, message.as_slice())?.queued)
+}
+
+// What was found under an identifier: these bytes, where they have its digest.
+fn found_for(cid: &Cid, bytes: Bytes) -> Found
+    ensures { FoundHas cid.now result }
+{
+    if Cid::of(bytes.as_slice()) == *cid {
+        return Found::Bytes(bytes);
+    }
+    Found::Missing
+}
+
+// Delivers these bytes for the first block that waits.
+fn fetches<K: Keeper>(
+    replica: &mut Replica<K>,
+    alloc: Global,
+    bytes: Bytes,
+) -> Result<Delivered, CoreError> {
+    let Some(job) = replica.next_job(alloc)? else {
+        return Ok(Delivered::Known);
+    };
+    let found = found_for(&job.cid, bytes);
+    replica.deliver(alloc, job, found)
+}
+
+// A replica without a block hears of the last of the chain, and processes it alone.
+fn last_alone<K: Keeper + Drop>(
+    replica: &mut Replica<K>,
+    alloc: Global,
+    chain: Chain,
+) -> Result<bool, CoreError> {
+    let queued = hears(replica, alloc, chain.third)?;
+    let again = hears(replica, alloc, chain.third)?;
+    let delivered = fetches(replica, alloc, link(alloc, chain.second, 3)?)?;
+    Ok(queued == 1 && again == 0 && delivered == Delivered::Processed { position: 0 })
+}
+
+// After a stop with a gap the walk finds it.
+fn walks<K: Keeper>(replica: &mut Replica<K>, alloc: Global) -> Result<bool, CoreError> {
+    let began = replica.walk_step(alloc)?;
+    let visited = replica.walk_step(alloc)?;
+    let ended = replica.walk_step(alloc)?;
+    let idle = replica.walk_step(alloc)?;
+    Ok(
+        began == WalkStep::Begun
+            && visited == WalkStep::Visited { position: 0 }
+            && ended == WalkStep::Ended
+            && idle == WalkStep::Idle,
+    )
+}
+
+// Whether so many gaps are left, where every gap counts as wanted.
+fn settles<K: Keeper>(replica: &Replica<K>, settled: Settled) -> Result<bool, CoreError> {
+    if !replica.is_whole() {
+        return Ok(false);
+    }
+    Ok(replica.settle()? == settled)
+}
+
+// The rest of the chain comes in.
+fn rest_comes<K: Keeper>(
+    replica: &mut Replica<K>,
+    alloc: Global,
+    chain: Chain,
+) -> Result<bool, CoreError> {
+    let second = fetches(replica, alloc, link(alloc, chain.first, 2)?)?;
+    let first = fetches(replica, alloc, element(alloc, 1)?)?;
+    let none = fetches(replica, alloc, element(alloc, 1)?)?;
+    Ok(
+        second == Delivered::Processed { position: 1 }
+            && first == Delivered::Processed { position: 2 }
+            && none == Delivered::Known,
+    )
+}
+
+// A chain whose last block is processed alone before a stop is repaired.
+fn repairs<K: Keeper + Drop>(keeper: K, alloc: Global) -> Result<bool, CoreError>
+    requires { IfSome (K.told keeper) HasSoundMark }
+{
+    let chain = make_chain(alloc)?;
+    let mut replica = opened(alloc, keeper)?;
+    if !last_alone(&mut replica, alloc, chain)? {
+        return Ok(false);
+    }
+    let mut replica = opened(alloc, replica.stop())?;
+    Ok(
+        walks(&mut replica, alloc)?
+            && settles(&replica, Settled::Open { gaps: 1 })?
+            && rest_comes(&mut replica, alloc, chain)?
+            && settles(&replica, Settled::Clean)?,
+    )
+}
+
+// What no offer has and what is damaged is wanted again when it is heard again, and after a requeue.
+fn wants_again<K: Keeper + Drop>(keeper: K, alloc: Global) -> Result<bool, CoreError>
+    requires { IfSome (K.told keeper) HasSoundMark }
+{
+    let damaged = Cid::of(b"no block");
+    let mut replica = opened(alloc, keeper)?;
+    let queued = hears(&mut replica, alloc, damaged)?;
+    let missing = fetches(&mut replica, alloc, element(alloc, 1)?)?;
+    let again = hears(&mut replica, alloc, damaged)?;
+    let bad = fetches(&mut replica, alloc, Bytes::from_slice(alloc, b"no block")?)?;
+    replica.requeue();
+    let counts = replica.report()?.counts;
+    Ok(
+        queued == 1
+            && again == 1
+            && missing == Delivered::Missing
+            && matches!(bad, Delivered::Bad { .. })
+            && counts.waiting == 1
+            && counts.bad == 0,
+    )
+}
+
+// A job that is given back is the next one again, one that is recalled, too, and what comes late is known.
+fn gives_back<K: Keeper + Drop>(keeper: K, alloc: Global) -> Result<bool, CoreError>
+    requires { IfSome (K.told keeper) HasSoundMark }
+{
+    let cid = Cid::of(element(alloc, 1)?.as_slice());
+    let mut replica = opened(alloc, keeper)?;
+    hears(&mut replica, alloc, cid)?;
+    let Some(first) = replica.next_job(alloc)? else {
+        return Ok(false);
+    };
+    replica.give_back(first);
+    let Some(late) = replica.next_job(alloc)? else {
+        return Ok(false);
+    };
+    replica.recall();
+    let found = found_for(&late.cid, element(alloc, 1)?);
+    let known = replica.deliver(alloc, late, found)? == Delivered::Known;
+    let waits = replica.report()?.counts.waiting == 1;
+    Ok(
+        known
+            && waits
+            && fetches(&mut replica, alloc, element(alloc, 1)?)?
+                == Delivered::Processed { position: 0 },
+    )
+}
+
+#[test]
+fn a_chain_is_repaired(rt: HostRuntime) -> Result<(), Fail> {
+    let alloc = rt.alloc();
+    assert!(rt; repairs(empty(alloc)?, alloc)?);
+    Ok(())
+}
+
+#[test]
+fn a_wanted_block_comes_again(rt: HostRuntime) -> Result<(), Fail> {
+    let alloc = rt.alloc();
+    assert!(rt; wants_again(empty(alloc)?, alloc)?);
+    Ok(())
+}
+
+#[test]
+fn a_job_comes_back(rt: HostRuntime) -> Result<(), Fail> {
+    let alloc = rt.alloc();
+    assert!(rt; gives_back(empty(alloc)?, alloc)?);
+    Ok(())
+}
