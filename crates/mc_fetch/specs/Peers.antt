@@ -73,7 +73,8 @@ pub record ViewGoes {K Desk : Type 0} (quiet : K → Bool) (quiet_desk : Desk �
   pub keeper : new.keeper ≡ old.keeper
   pub planted : new.planted ≡ old.planted
   pub later : faults old.desk ≤ faults new.desk
-  pub still_quiet : quiet old.keeper.now ≡ true → quiet_desk old.desk ≡ true → (quiet_desk new.desk ≡ true) × (faults new.desk ≡ faults old.desk)
+  pub still_quiet : quiet old.keeper.now ≡ true → quiet_desk old.desk ≡ true
+      → (quiet_desk new.desk ≡ true) × (faults new.desk ≡ faults old.desk)
   pub plan : SamePlan (desk_schedule old.desk) (desk_schedule new.desk)
 
 -- What one call leaves of the view that it asks: the same, and its desk's count rose exactly where it failed.

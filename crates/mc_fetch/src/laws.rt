@@ -9,8 +9,8 @@ ghost use Rattle.mc_fetch.specs.Offers.{listed};
 ghost use Rattle.mc_fetch.specs.Peers.{peer_places};
 ghost use Rattle.mc_fetch.specs.Plants.{planted_at, planted_with};
 
-/// What the places of some peers offer are, in their order, the offers of these peers: of each one its planted offer, and
-/// then its stored block.
+/// What the places of some peers offer are, in their order, the offers of these peers: of each one its planted offer,
+/// and then its stored block.
 pub fn peers_offer_in_order()
     ensures { (peers : List PeerOffers) → listed (flat_map peer_places peers) ≡ offers_from None peers }
 {}

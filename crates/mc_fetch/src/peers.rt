@@ -1,9 +1,8 @@
 // The other replicas, as places that blocks are fetched from.
-ghost use Rattle.std.specs.Prelude.{◌≡◌, ◌+◌, ◌-◌, ◌*◌, ◌^◌, ◌<◌, Bool, List, Option, cond, fold, length, map, min, IfOk, IfSome};
-ghost use Rattle.std.specs.List.{AllZip, flat_map, list_all, sum_by};
+ghost use Rattle.std.specs.Prelude.{◌≡◌, cond, fold, IfOk, IfSome};
 ghost use Rattle.mc_fetch.specs.Causes.{is_peer_fault};
+ghost use Rattle.mc_fetch.specs.Peers.{ViewAsks, told_at, capped_with};
 ghost use Rattle.mc_fetch.specs.Plants.{planted_at};
-ghost use Rattle.mc_fetch.specs.Peers.{ViewAsks, told_at, capped_with, faults_of};
 
 use crate::plants::Plants;
 use crate::{Fetch, FetchError};

@@ -1,5 +1,5 @@
 // Bytes that are planted at a replica, to be offered to others.
-ghost use Rattle.std.specs.Prelude.{◌≡◌, [], map, OnOk, OnErr};
+ghost use Rattle.std.specs.Prelude.{◌≡◌, [], OnOk, OnErr};
 ghost use Rattle.std.specs.Option.{option_map};
 ghost use Rattle.indexmap.specs.IndexMap.{insert_entry};
 ghost use Rattle.mc_model.specs.Front.{same_cid};
@@ -46,8 +46,8 @@ impl Plants {
         }
     }
 
-    /// Plants an offer, in the place of an older one for its block where there is one. A want of memory leaves the offers
-    /// as they were.
+    /// Plants an offer, in the place of an older one for its block where there is one. A want of memory leaves the
+    /// offers as they were.
     pub fn plant(&mut self, offer: Planted) -> Result<(), AllocError>
         ensures ok { OnOk result (self.new ≡ planted_with self.old offer) }
         ensures err { OnErr result (self.new ≡ self.old) }
