@@ -13,17 +13,14 @@ use Rattle.mc_model.specs.State.{Durable, Running, State, kept_of}
 use Rattle.mc_model.proofs.Prefix.{goes_on_then}
 use Rattle.mc_keep.specs.declared.fuse.Fuse.{Fuse}
 use Rattle.mc_keep.specs.Causes.{fires, CommitFails}
-use Rattle.mc_core.specs.Events.{ReplicaState, goes_on, all_happen, MayHappen, Goes, IsCutShort, Breaks}
+use Rattle.mc_core.specs.Events.{ReplicaState, all_happen, MayHappen, Goes, IsCutShort, Breaks}
 use Rattle.mc_core.specs.Plans.{with_store}
 use Rattle.mc_core.specs.Puts.{made_events}
+use Rattle.mc_core.proofs.SoundFacts.{all_after}
 
 -- the law of the events of a state
 abbrev pub GrowLaw : Type 0
 GrowLaw = (state : State) (events : List Event) → GoesOn state.durable (after state events).durable
-
-all_after : (events : List Event) (s : ReplicaState) → (all_happen s events).state ≡ after s.state events
-all_after [] s = refl
-all_after (event ∷ events) s = all_after events (goes_on s event)
 
 pub same_goes : (d : Durable) → GoesOn d d
 same_goes d = record { processed = []; stored = []; order = sym (append-nil d.order); graph = sym (append-nil d.graph) }
