@@ -34,6 +34,7 @@ impl<K: Keeper> Replica<K> {
         ensures keeps { Continues K.Keeper (is_fault result) self.old self.new }
         ensures front { front_of result ≡ stop_front self.old.stopped (open_batch_refusal self.old.batch) }
         ensures no_memory { NoMemory result }
+        ensures no_fault { is_fault result ≡ false }
         ensures untouched { (self.new.keeper ≡ self.old.keeper) × (self.new.queue ≡ self.old.queue)
             × (self.new.walk ≡ self.old.walk) × (self.new.whole ≡ self.old.whole) }
         ensures begun { self.new.batch ≡ batch_once result (Some empty_batch) self.old.batch }
@@ -56,6 +57,7 @@ impl<K: Keeper> Replica<K> {
         ensures keeps { Continues K.Keeper (is_fault result) self.old self.new }
         ensures front { front_of result ≡ stop_front self.old.stopped
             (no_batch_refusal self.old.batch (λ batch. put_front key.now value.now)) }
+        ensures no_fault { is_fault result ≡ false }
         ensures untouched { (self.new.keeper ≡ self.old.keeper) × (self.new.queue ≡ self.old.queue)
             × (self.new.walk ≡ self.old.walk) × (self.new.whole ≡ self.old.whole) }
         ensures added { self.new.batch

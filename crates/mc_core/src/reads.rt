@@ -1,10 +1,11 @@
 // The calls of a replica that only read.
-ghost use Rattle.std.specs.Prelude.{◌≡◌, None, map, slice_get};
+ghost use Rattle.std.specs.Prelude.{◌≡◌, None, false, is_some, map, slice_get, IfErr, IfOk, IfSome};
+ghost use Rattle.mc_core.specs.declared.error.CoreError.{CoreError as Refused};
 ghost use Rattle.std.specs.List.{position};
 ghost use Rattle.mc_key.specs.Prefix.{is_under};
 ghost use Rattle.mc_model.specs.Answers as answers;
 ghost use Rattle.mc_model.specs.Answers.{has_value};
-ghost use Rattle.mc_model.specs.Front.{heads, same_cid};
+ghost use Rattle.mc_model.specs.Front.{heads, is_among, same_cid};
 ghost use Rattle.mc_model.specs.Kept.{processed};
 ghost use Rattle.mc_model.specs.Live.{value};
 ghost use Rattle.mc_keep.specs.Changes.{heads_in_rows};
@@ -129,11 +130,14 @@ impl<K: Keeper> Replica<K> {
     pub fn position(&mut self, cid: &Cid) -> Result<Option<u64>, CoreError>
         ensures call { Answers K.Keeper (λ kept place.
             place ≡ position (same_cid cid.now) kept.order) result self.old self.new }
+        ensures found { IfSome (K.told self.old.keeper) (λ kept. IfOk result (λ place.
+            is_some place ≡ is_among kept.order cid.now)) }
         ensures keeps { Continues K.Keeper (is_fault result) self.old self.new }
         ensures front { front_of result ≡ stop_front self.old.stopped None }
         ensures rest { RestSame self.old self.new }
         ensures same { TellsSame K.Keeper self.old self.new }
         ensures no_memory { NoMemory result }
+        ensures only { self.old.stopped ≡ false → IfErr result (λ error. error ≡ Refused.KeeperFault) }
     {
         kept_is_durable();
         if self.stopped {
@@ -157,6 +161,7 @@ impl<K: Keeper> Replica<K> {
         ensures rest { RestSame self.old self.new }
         ensures same { TellsSame K.Keeper self.old self.new }
         ensures no_memory { NoMemory result }
+        ensures only { self.old.stopped ≡ false → IfErr result (λ error. error ≡ Refused.KeeperFault) }
     {
         kept_is_durable();
         if self.stopped {

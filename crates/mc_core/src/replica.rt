@@ -54,6 +54,7 @@ impl<K: Keeper> Replica<K> {
     ghost use Rattle.std.specs.Prelude.{IfSome};
     ghost use Rattle.mc_keep.specs.Calls.{Reads};
     ghost use Rattle.mc_model.specs.Kept.{IsKept};
+    ghost use Rattle.mc_model.specs.Wanted.{no_queue};
     ghost use Rattle.mc_core.specs.Replica.{replica_state, opened_state};
 
     /// Opens the replica of a keeper: nothing is wanted, and every gap counts as wanted exactly where the dirty mark is
@@ -64,6 +65,7 @@ impl<K: Keeper> Replica<K> {
             replica_state K.told K.fuse replica ≡ opened_state (K.told keeper) (K.fuse keeper)) }
         ensures reads { IfOk result (λ replica. Reads K.Keeper false keeper replica.keeper) }
         ensures runs { IfOk result (λ replica. (replica.stopped ≡ false) × (replica.batch ≡ None)) }
+        ensures fresh { IfOk result (λ replica. (shown replica.queue ≡ no_queue) × (replica.walk ≡ None)) }
         ensures refused { IfErr result (λ error.
             (error.cause ≡ OpenCause.KeeperFault) × Reads K.Keeper true keeper error.keeper) }
     {

@@ -214,6 +214,7 @@ module _ {S : Type 0} {told : S → Option Kept} {fuse : S → Option Fuse} {own
     no_fuse = λ e. e;
     own_later = omega arith;
     own_still = λ e. refl;
+    own_rose = λ none. no_fault;
     faults_go = count_none (faults now);
     still_quiet = λ e. (e, refl);
     calm = λ none e. refl;
@@ -227,6 +228,7 @@ module _ {S : Type 0} {told : S → Option Kept} {fuse : S → Option Fuse} {own
     no_fuse = λ e. next.no_fuse (before.no_fuse e);
     own_later = omega (arith, before.own_later, next.own_later);
     own_still = λ e. next.own_still e ∙ before.own_still refl;
+    own_rose = λ none e. rose_before before.own_later (next.own_rose (not_fired_next (fuse old) (fuse mid) (fuse new) before.no_fuse none) e);
     faults_go = count_more before.faults_go next.faults_go;
     still_quiet = λ e. let first = before.still_quiet e in let then = next.still_quiet first.0 in (then.0, then.1 ∙ first.1);
     calm = λ none e. next.calm (not_fired_next (fuse old) (fuse mid) (fuse new) before.no_fuse none) (before.still_quiet e).0;
@@ -241,6 +243,7 @@ module _ {S : Type 0} {told : S → Option Kept} {fuse : S → Option Fuse} {own
     no_fuse = λ e. reads.fuse_same ∙ e;
     own_later = reads.own_goes.later;
     own_still = reads.own_goes.still;
+    own_rose = λ none e. reads.own_goes.rose e;
     faults_go = reads.faults_go;
     still_quiet = λ e. (reads.still_quiet e, reads.own_goes.still (reads.calm e));
     calm = λ none e. reads.calm e;
@@ -256,6 +259,7 @@ module _ {S : Type 0} {told : S → Option Kept} {fuse : S → Option Fuse} {own
     no_fuse = λ e. commits.fuse_burnt ∙ none_burns (fuse old) e;
     own_later = commits.own_later;
     own_still = commits.own_still;
+    own_rose = λ none e. commits.own_rose (unfired none) e;
     faults_go = commits.faults_go;
     still_quiet = commits.still_quiet;
     calm = λ none e. commits.calm e (unfired none);
