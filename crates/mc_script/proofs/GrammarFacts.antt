@@ -9,13 +9,16 @@ use Rattle.std.proofs.lemmas.List.Elements.{All-cons, All-nil}
 use Rattle.std.proofs.lemmas.List.Splits.{join_with_byte-slice_split, slice_split_at, slice_split_none}
 use Rattle.std.proofs.lemmas.Slice.Eq.{bytes_eq-Decides}
 use Rattle.std.proofs.lemmas.Str.{IsUtf8-append, IsUtf8-from_ascii, IsUtf8-from_is_utf8, is_utf8-from_IsUtf8}
-use Rattle.mc_script.specs.Arguments.{key_words, range_words, replica_words, value_words, ◌>>=◌}
-use Rattle.mc_script.specs.Grammar.{HasWord, IsComment, IsLineOf, IsSilent, IsWritable, Key, Number, Part, Prefix, Replica, Say, Value, command_text, form, is_whole_word, word_of}
-use Rattle.mc_script.specs.Line.{batch_by_name, command_by_name, command_of_words, has_no_reply, line_of, line_of_text, on_key, on_range, on_replica, on_value}
-use Rattle.mc_script.specs.Words.{bytes_of_hex, is_word, number_of, replica_of, words_of}
+use Rattle.mc_base.specs.declared.cid.Cid.{Cid}
+use Rattle.mc_cidtext.specs.CidText.{IsOneText, IsReadAgain}
+use Rattle.mc_script.specs.Arguments.{commit_words, hex_words, key_words, link_words, message_words, offer_words, pair_words, range_words, replica_words, value_words}
+use Rattle.mc_script.specs.Grammar.{CommitNumber, HasWord, Identifier, IsComment, IsLineOf, IsSilent, IsWritable, Key, Number, OtherThan, Part, Prefix, Replica, Say, Says, Value, Way, command_text, form, is_whole_word, word_of}
+use Rattle.mc_script.specs.Line.{batch_by_name, command_by_name, command_of_words, has_no_reply, line_of, line_of_text, message_by_name, on_commit, on_hex, on_key, on_link, on_message, on_offer, on_pair, on_range, on_replica, on_value, run_by_name}
+use Rattle.mc_script.specs.Words.{◌>>=◌, bytes_of_hex, commit_of, identifier_of, is_word, number_of, other_of, replica_of, way_of, words_of}
 use Rattle.mc_script.specs.declared.command.Command.{Command}
-use Rattle.mc_script.specs.declared.command.Command.TheVariants.{Put, Del, Begin, BatchPut, BatchDel, Commit, Get, Has, Query, Heads}
+use Rattle.mc_script.specs.declared.command.Command.TheVariants.{Put, Del, Begin, BatchPut, BatchDel, Commit, Get, Has, Query, Heads, Cast, Wire, Hear, Plant, Link, Step, State, Same, Stop, Open, StopAt, StopAfter}
 use Rattle.mc_script.proofs.PartFacts.{number_found, number_read, plain_ascii, replica_found, replica_read, says_whole, value_found, value_read, word_is_utf8, word_says}
+use Rattle.mc_script.proofs.WordFacts.{bind_some, commit_found, commit_read, identifier_found, identifier_read, other_found, other_read, way_found, way_read}
 
 -- ---- words and lines
 
@@ -58,10 +61,6 @@ map_some f (Some a) b h = (a, refl, is b (f a) h)
     is : {B : Type 0} (b c : B) → Some c ≡ Some b → b ≡ c
     is b c h = cc h
 map_some f None b h = cc h
-
-bind_some : {A B : Type 0} (o : Option A) (f : A → Option B) (b : B) → (o >>= f) ≡ Some b → (a : A) × (o ≡ Some a) × (f a ≡ Some b)
-bind_some (Some a) f b h = (a, refl, h)
-bind_some None f b h = cc h
 
 -- the name and the words are those of the command
 abbrev IsNamed : List ℕ → List (List ℕ) → Command → Type 0
@@ -108,6 +107,63 @@ range_words_found (replica ∷ prefix ∷ skip ∷ take ∷ []) said all h =
     subst (λ (said : ℕ × List ℕ × ℕ × ℕ). Say (replica ∷ prefix ∷ skip ∷ take ∷ []) (Replica said.0 ∷ Prefix said.1 ∷ Number said.2 ∷ Number said.3 ∷ [])) same (replica_found replica first.0 first.1, ((refl, whole.0), (number_found skip third.0 third.1, (number_found take fourth.0 fourth.1, tt))))
 range_words_found (replica ∷ prefix ∷ skip ∷ take ∷ next ∷ rest) said all h = cc h
 
+hex_words_found : (words : List (List ℕ)) (bytes : List ℕ) → hex_words words ≡ Some bytes → Say words (Value bytes ∷ [])
+hex_words_found [] bytes h = cc h
+hex_words_found (hex ∷ []) bytes h = (value_found hex bytes h, tt)
+hex_words_found (hex ∷ next ∷ rest) bytes h = cc h
+
+-- a replica, and a word that says one number more
+two_words_found : (second_of : List ℕ → Option ℕ) (part : ℕ → Part) → ((word : List ℕ) (number : ℕ) → second_of word ≡ Some number → Says word (part number)) → (replica second : List ℕ) (said : ℕ × ℕ)
+    → (replica_of replica >>= (λ r. second_of second >>= (λ number. Some (r, number)))) ≡ Some said → Say (replica ∷ second ∷ []) (Replica said.0 ∷ part said.1 ∷ [])
+two_words_found second_of part found replica second said h =
+    let first = bind_some (replica_of replica) _ said h in
+    let next = bind_some (second_of second) _ said first.2 in
+    let same : (first.0, next.0) ≡ said = cc in
+    subst (λ (said : ℕ × ℕ). Say (replica ∷ second ∷ []) (Replica said.0 ∷ part said.1 ∷ [])) same (replica_found replica first.0 first.1, (found second next.0 next.1, tt))
+
+message_words_found : (words : List (List ℕ)) (said : ℕ × ℕ) → message_words words ≡ Some said → Say words (Replica said.0 ∷ Number said.1 ∷ [])
+message_words_found [] said h = cc h
+message_words_found (replica ∷ []) said h = cc h
+message_words_found (replica ∷ message ∷ []) said h = two_words_found number_of Number number_found replica message said h
+message_words_found (replica ∷ message ∷ next ∷ rest) said h = cc h
+
+pair_words_found : (words : List (List ℕ)) (said : ℕ × ℕ) → pair_words words ≡ Some said → Say words (Replica said.0 ∷ Replica said.1 ∷ [])
+pair_words_found [] said h = cc h
+pair_words_found (replica ∷ []) said h = cc h
+pair_words_found (replica ∷ second ∷ []) said h = two_words_found replica_of Replica replica_found replica second said h
+pair_words_found (replica ∷ second ∷ next ∷ rest) said h = cc h
+
+commit_words_found : (words : List (List ℕ)) (said : ℕ × ℕ) → commit_words words ≡ Some said → Say words (Replica said.0 ∷ CommitNumber said.1 ∷ [])
+commit_words_found [] said h = cc h
+commit_words_found (replica ∷ []) said h = cc h
+commit_words_found (replica ∷ commit ∷ []) said h = two_words_found commit_of CommitNumber commit_found replica commit said h
+commit_words_found (replica ∷ commit ∷ next ∷ rest) said h = cc h
+
+offer_words_found : IsOneText → (words : List (List ℕ)) (said : ℕ × Cid × List ℕ) → list_all is_whole_word words ≡ true → offer_words words ≡ Some said → Say words (Replica said.0 ∷ Identifier said.1 ∷ Value said.2 ∷ [])
+offer_words_found one [] said all h = cc h
+offer_words_found one (replica ∷ []) said all h = cc h
+offer_words_found one (replica ∷ cid ∷ []) said all h = cc h
+offer_words_found one (replica ∷ cid ∷ hex ∷ []) said all h =
+    let first = bind_some (replica_of replica) _ said h in
+    let second = bind_some (identifier_of cid) _ said first.2 in
+    let third = bind_some (bytes_of_hex hex) _ said second.2 in
+    let whole = and_parts (is_whole_word cid) (is_whole_word hex && true) (and_parts (is_whole_word replica) (is_whole_word cid && (is_whole_word hex && true)) all).1 in
+    let same : (first.0, second.0, third.0) ≡ said = cc in
+    subst (λ (said : ℕ × Cid × List ℕ). Say (replica ∷ cid ∷ hex ∷ []) (Replica said.0 ∷ Identifier said.1 ∷ Value said.2 ∷ [])) same (replica_found replica first.0 first.1, (identifier_found one cid second.0 whole.0 second.1, (value_found hex third.0 third.1, tt)))
+offer_words_found one (replica ∷ cid ∷ hex ∷ next ∷ rest) said all h = cc h
+
+link_words_found : (words : List (List ℕ)) (said : ℕ × ℕ × Bool) → link_words words ≡ Some said → Say words (Replica said.0 ∷ OtherThan said.0 said.1 ∷ Way said.2 ∷ [])
+link_words_found [] said h = cc h
+link_words_found (replica ∷ []) said h = cc h
+link_words_found (replica ∷ second ∷ []) said h = cc h
+link_words_found (replica ∷ second ∷ way ∷ []) said h =
+    let first = bind_some (replica_of replica) _ said h in
+    let next = bind_some (other_of first.0 second) _ said first.2 in
+    let third = bind_some (way_of way) _ said next.2 in
+    let same : (first.0, next.0, third.0) ≡ said = cc in
+    subst (λ (said : ℕ × ℕ × Bool). Say (replica ∷ second ∷ way ∷ []) (Replica said.0 ∷ OtherThan said.0 said.1 ∷ Way said.2 ∷ [])) same (replica_found replica first.0 first.1, (other_found first.0 next.0 second next.1, (way_found way third.0 third.1, tt)))
+link_words_found (replica ∷ second ∷ way ∷ next ∷ rest) said h = cc h
+
 -- a command by its name, where the words behind it say what its form has
 module _ (name : List ℕ) (words : List (List ℕ)) (command : Command) (all : list_all is_whole_word words ≡ true) where
   on_replica_found : (make : ℕ → Command) (wanted : List ℕ) → ((r : ℕ) → form (make r) ≡ (wanted, Replica r ∷ [])) → name ≡ wanted → on_replica make words ≡ Some command → IsNamed name words command
@@ -130,6 +186,12 @@ module _ (name : List ℕ) (words : List (List ℕ)) (command : Command) (all : 
       let said = map_some (λ (said : ℕ × List ℕ × ℕ × ℕ). make said.0 said.1 said.2 said.3) (range_words words) command h in
       rw (said.2, has said.0.0 said.0.1 said.0.2 said.0.3) (is, range_words_found words said.0 all said.1)
 
+  -- any command, by what is read of the words behind its name
+  said_found : {A : Type 0} (make : A → Command) (read : List (List ℕ) → Option A) (wanted : List ℕ) (parts : A → List Part) → ((said : A) → form (make said) ≡ (wanted, parts said)) → ((said : A) → read words ≡ Some said → Say words (parts said)) → name ≡ wanted → option_map make (read words) ≡ Some command → IsNamed name words command
+  said_found make read wanted parts has says is h =
+      let said = map_some make (read words) command h in
+      rw (said.2, has said.0) (is, says said.0 said.1)
+
   -- which way a test of the name went
   went : (wanted : List ℕ) (first other : Option Command) → (if bytes_eq name wanted then first else other) ≡ Some command → ((name ≡ wanted) × (first ≡ Some command)) ⊎ (other ≡ Some command)
   went wanted first other h = by_test (bytes_eq name wanted) refl h
@@ -138,23 +200,65 @@ module _ (name : List ℕ) (words : List (List ℕ)) (command : Command) (all : 
       by_test true is h = inl ((bytes_eq-Decides name wanted).0 is, h)
       by_test false is h = inr h
 
-  batch_found : batch_by_name name words ≡ Some command → IsNamed name words command
-  batch_found h = elim (went (codes "begin") (on_replica Begin words) _ h) [
-    | inl at ↦ on_replica_found Begin (codes "begin") (λ r. refl) at.0 at.1
-    | inr h ↦ elim (went (codes "bput") (on_value BatchPut words) _ h) [
-      | inl at ↦ on_value_found BatchPut (codes "bput") (λ r key bytes. refl) at.0 at.1
-      | inr h ↦ elim (went (codes "bdel") (on_key BatchDel words) _ h) [
-        | inl at ↦ on_key_found BatchDel (codes "bdel") (λ r key. refl) at.0 at.1
-        | inr h ↦ elim (went (codes "commit") (on_replica Commit words) None h) [
-          | inl at ↦ on_replica_found Commit (codes "commit") (λ r. refl) at.0 at.1
-          | inr h ↦ cc h
+  run_found : run_by_name name words ≡ Some command → IsNamed name words command
+  run_found h = elim (went (codes "state") (on_replica State words) _ h) [
+    | inl at ↦ on_replica_found State (codes "state") (λ r. refl) at.0 at.1
+    | inr h ↦ elim (went (codes "same") (on_pair Same words) _ h) [
+      | inl at ↦ said_found (λ (said : ℕ × ℕ). Same said.0 said.1) pair_words (codes "same") (λ (said : ℕ × ℕ). Replica said.0 ∷ Replica said.1 ∷ []) (λ said. refl) (pair_words_found words) at.0 at.1
+      | inr h ↦ elim (went (codes "stop") (on_replica Stop words) _ h) [
+        | inl at ↦ on_replica_found Stop (codes "stop") (λ r. refl) at.0 at.1
+        | inr h ↦ elim (went (codes "open") (on_replica Open words) _ h) [
+          | inl at ↦ on_replica_found Open (codes "open") (λ r. refl) at.0 at.1
+          | inr h ↦ elim (went (codes "stopat") (on_commit StopAt words) _ h) [
+            | inl at ↦ said_found (λ (said : ℕ × ℕ). StopAt said.0 said.1) commit_words (codes "stopat") (λ (said : ℕ × ℕ). Replica said.0 ∷ CommitNumber said.1 ∷ []) (λ said. refl) (commit_words_found words) at.0 at.1
+            | inr h ↦ elim (went (codes "stopafter") (on_commit StopAfter words) None h) [
+              | inl at ↦ said_found (λ (said : ℕ × ℕ). StopAfter said.0 said.1) commit_words (codes "stopafter") (λ (said : ℕ × ℕ). Replica said.0 ∷ CommitNumber said.1 ∷ []) (λ said. refl) (commit_words_found words) at.0 at.1
+              | inr h ↦ cc h
+            ]
+          ]
         ]
       ]
     ]
   ]
 
-  command_found : command_by_name name words ≡ Some command → IsNamed name words command
-  command_found h = elim (went (codes "put") (on_value Put words) _ h) [
+  message_found : IsOneText → message_by_name name words ≡ Some command → IsNamed name words command
+  message_found one h = elim (went (codes "cast") (on_replica Cast words) _ h) [
+    | inl at ↦ on_replica_found Cast (codes "cast") (λ r. refl) at.0 at.1
+    | inr h ↦ elim (went (codes "wire") (on_hex Wire words) _ h) [
+      | inl at ↦ said_found Wire hex_words (codes "wire") (λ (bytes : List ℕ). Value bytes ∷ []) (λ bytes. refl) (hex_words_found words) at.0 at.1
+      | inr h ↦ elim (went (codes "hear") (on_message Hear words) _ h) [
+        | inl at ↦ said_found (λ (said : ℕ × ℕ). Hear said.0 said.1) message_words (codes "hear") (λ (said : ℕ × ℕ). Replica said.0 ∷ Number said.1 ∷ []) (λ said. refl) (message_words_found words) at.0 at.1
+        | inr h ↦ elim (went (codes "plant") (on_offer Plant words) _ h) [
+          | inl at ↦ said_found (λ (said : ℕ × Cid × List ℕ). Plant said.0 said.1 said.2) offer_words (codes "plant") (λ (said : ℕ × Cid × List ℕ). Replica said.0 ∷ Identifier said.1 ∷ Value said.2 ∷ []) (λ said. refl) (λ said. offer_words_found one words said all) at.0 at.1
+          | inr h ↦ elim (went (codes "link") (on_link Link words) _ h) [
+            | inl at ↦ said_found (λ (said : ℕ × ℕ × Bool). Link said.0 said.1 said.2) link_words (codes "link") (λ (said : ℕ × ℕ × Bool). Replica said.0 ∷ OtherThan said.0 said.1 ∷ Way said.2 ∷ []) (λ said. refl) (link_words_found words) at.0 at.1
+            | inr h ↦ elim (went (codes "step") (on_replica Step words) _ h) [
+              | inl at ↦ on_replica_found Step (codes "step") (λ r. refl) at.0 at.1
+              | inr h ↦ run_found h
+            ]
+          ]
+        ]
+      ]
+    ]
+  ]
+
+  batch_found : IsOneText → batch_by_name name words ≡ Some command → IsNamed name words command
+  batch_found one h = elim (went (codes "begin") (on_replica Begin words) _ h) [
+    | inl at ↦ on_replica_found Begin (codes "begin") (λ r. refl) at.0 at.1
+    | inr h ↦ elim (went (codes "bput") (on_value BatchPut words) _ h) [
+      | inl at ↦ on_value_found BatchPut (codes "bput") (λ r key bytes. refl) at.0 at.1
+      | inr h ↦ elim (went (codes "bdel") (on_key BatchDel words) _ h) [
+        | inl at ↦ on_key_found BatchDel (codes "bdel") (λ r key. refl) at.0 at.1
+        | inr h ↦ elim (went (codes "commit") (on_replica Commit words) _ h) [
+          | inl at ↦ on_replica_found Commit (codes "commit") (λ r. refl) at.0 at.1
+          | inr h ↦ message_found one h
+        ]
+      ]
+    ]
+  ]
+
+  command_found : IsOneText → command_by_name name words ≡ Some command → IsNamed name words command
+  command_found one h = elim (went (codes "put") (on_value Put words) _ h) [
     | inl at ↦ on_value_found Put (codes "put") (λ r key bytes. refl) at.0 at.1
     | inr h ↦ elim (went (codes "del") (on_key Del words) _ h) [
       | inl at ↦ on_key_found Del (codes "del") (λ r key. refl) at.0 at.1
@@ -166,7 +270,7 @@ module _ (name : List ℕ) (words : List (List ℕ)) (command : Command) (all : 
             | inl at ↦ on_range_found Query (codes "query") (λ r prefix skip take. refl) at.0 at.1
             | inr h ↦ elim (went (codes "heads") (on_replica Heads words) _ h) [
               | inl at ↦ on_replica_found Heads (codes "heads") (λ r. refl) at.0 at.1
-              | inr h ↦ batch_found h
+              | inr h ↦ batch_found one h
             ]
           ]
         ]
@@ -202,6 +306,43 @@ said_range make r prefix skip take (replica ∷ word ∷ first ∷ []) say = abs
 said_range make r prefix skip take (replica ∷ word ∷ first ∷ second ∷ []) say = rw (replica_read replica r say.0, say.1.0.0, number_read first skip say.1.1.0, number_read second take say.1.1.1.0) refl
 said_range make r prefix skip take (replica ∷ word ∷ first ∷ second ∷ next ∷ rest) say = absurd say.1.1.1.1
 
+said_hex : (make : List ℕ → Command) (bytes : List ℕ) (words : List (List ℕ)) → Say words (Value bytes ∷ []) → on_hex make words ≡ Some (make bytes)
+said_hex make bytes [] say = absurd say
+said_hex make bytes (hex ∷ []) say = ap (option_map make) (value_read hex bytes say.0)
+said_hex make bytes (hex ∷ next ∷ rest) say = absurd say.1
+
+said_message : (make : ℕ → ℕ → Command) (r message : ℕ) (words : List (List ℕ)) → Say words (Replica r ∷ Number message ∷ []) → on_message make words ≡ Some (make r message)
+said_message make r message [] say = absurd say
+said_message make r message (replica ∷ []) say = absurd say.1
+said_message make r message (replica ∷ word ∷ []) say = rw (replica_read replica r say.0, number_read word message say.1.0) refl
+said_message make r message (replica ∷ word ∷ next ∷ rest) say = absurd say.1.1
+
+said_pair : (make : ℕ → ℕ → Command) (r other : ℕ) (words : List (List ℕ)) → Say words (Replica r ∷ Replica other ∷ []) → on_pair make words ≡ Some (make r other)
+said_pair make r other [] say = absurd say
+said_pair make r other (replica ∷ []) say = absurd say.1
+said_pair make r other (replica ∷ word ∷ []) say = rw (replica_read replica r say.0, replica_read word other say.1.0) refl
+said_pair make r other (replica ∷ word ∷ next ∷ rest) say = absurd say.1.1
+
+said_commit : (make : ℕ → ℕ → Command) (r commit : ℕ) (words : List (List ℕ)) → Say words (Replica r ∷ CommitNumber commit ∷ []) → on_commit make words ≡ Some (make r commit)
+said_commit make r commit [] say = absurd say
+said_commit make r commit (replica ∷ []) say = absurd say.1
+said_commit make r commit (replica ∷ word ∷ []) say = rw (replica_read replica r say.0, commit_read word commit say.1.0) refl
+said_commit make r commit (replica ∷ word ∷ next ∷ rest) say = absurd say.1.1
+
+said_offer : (make : ℕ → Cid → List ℕ → Command) (r : ℕ) (cid : Cid) (bytes : List ℕ) (words : List (List ℕ)) → Say words (Replica r ∷ Identifier cid ∷ Value bytes ∷ []) → on_offer make words ≡ Some (make r cid bytes)
+said_offer make r cid bytes [] say = absurd say
+said_offer make r cid bytes (replica ∷ []) say = absurd say.1
+said_offer make r cid bytes (replica ∷ word ∷ []) say = absurd say.1.1
+said_offer make r cid bytes (replica ∷ word ∷ hex ∷ []) say = rw (replica_read replica r say.0, identifier_read word cid say.1.0, value_read hex bytes say.1.1.0) refl
+said_offer make r cid bytes (replica ∷ word ∷ hex ∷ next ∷ rest) say = absurd say.1.1.1
+
+said_link : (make : ℕ → ℕ → Bool → Command) (r other : ℕ) (up : Bool) (words : List (List ℕ)) → Say words (Replica r ∷ OtherThan r other ∷ Way up ∷ []) → on_link make words ≡ Some (make r other up)
+said_link make r other up [] say = absurd say
+said_link make r other up (replica ∷ []) say = absurd say.1
+said_link make r other up (replica ∷ word ∷ []) say = absurd say.1.1
+said_link make r other up (replica ∷ word ∷ way ∷ []) say = rw (replica_read replica r say.0, other_read r other word say.1.0, way_read way up say.1.1.0) refl
+said_link make r other up (replica ∷ word ∷ way ∷ next ∷ rest) say = absurd say.1.1.1
+
 command_said : (command : Command) (words : List (List ℕ)) → Say words (form command).1 → command_by_name (form command).0 words ≡ Some command
 command_said (Put r key bytes) words say = said_value Put r key bytes words say
 command_said (Del r key) words say = said_key Del r key words say
@@ -213,6 +354,18 @@ command_said (Get r key) words say = said_key Get r key words say
 command_said (Has r key) words say = said_key Has r key words say
 command_said (Query r prefix skip take) words say = said_range Query r prefix skip take words say
 command_said (Heads r) words say = said_replica Heads r words say
+command_said (Cast r) words say = said_replica Cast r words say
+command_said (Wire bytes) words say = said_hex Wire bytes words say
+command_said (Hear r message) words say = said_message Hear r message words say
+command_said (Plant r cid bytes) words say = said_offer Plant r cid bytes words say
+command_said (Link r other up) words say = said_link Link r other up words say
+command_said (Step r) words say = said_replica Step r words say
+command_said (State r) words say = said_replica State r words say
+command_said (Same r other) words say = said_pair Same r other words say
+command_said (Stop r) words say = said_replica Stop r words say
+command_said (Open r) words say = said_replica Open r words say
+command_said (StopAt r commit) words say = said_commit StopAt r commit words say
+command_said (StopAfter r commit) words say = said_commit StopAfter r commit words say
 
 -- a name is a word that doesn't begin with `#`
 abbrev is_name : List ℕ → Bool
@@ -230,6 +383,18 @@ form_has_name (Get r key) = refl
 form_has_name (Has r key) = refl
 form_has_name (Query r prefix skip take) = refl
 form_has_name (Heads r) = refl
+form_has_name (Cast r) = refl
+form_has_name (Wire bytes) = refl
+form_has_name (Hear r message) = refl
+form_has_name (Plant r cid bytes) = refl
+form_has_name (Link r other up) = refl
+form_has_name (Step r) = refl
+form_has_name (State r) = refl
+form_has_name (Same r other) = refl
+form_has_name (Stop r) = refl
+form_has_name (Open r) = refl
+form_has_name (StopAt r commit) = refl
+form_has_name (StopAfter r commit) = refl
 
 say_whole : (words : List (List ℕ)) (parts : List Part) → Say words parts → (list_all is_word words ≡ true) × (list_all has_no_space words ≡ true)
 say_whole [] [] say = (refl, refl)
@@ -276,14 +441,14 @@ list_all_both (word ∷ words) some none =
     let second = and_parts (has_no_space word) (list_all has_no_space words) none in
     rw (first.0, second.0, list_all_both words first.1 second.1) refl
 
-words_found : (words : List (List ℕ)) (command : Command) → list_all has_no_space words ≡ true → command_of_words words ≡ Some command → (rest : List (List ℕ)) × (words ≡ (form command).0 ∷ rest) × Say rest (form command).1
-words_found [] command none h = cc h
-words_found (name ∷ words) command none h = by_test (list_all is_word (name ∷ words)) refl h
+words_found : IsOneText → (words : List (List ℕ)) (command : Command) → list_all has_no_space words ≡ true → command_of_words words ≡ Some command → (rest : List (List ℕ)) × (words ≡ (form command).0 ∷ rest) × Say rest (form command).1
+words_found one [] command none h = cc h
+words_found one (name ∷ words) command none h = by_test (list_all is_word (name ∷ words)) refl h
   where
     by_test : (test : Bool) → list_all is_word (name ∷ words) ≡ test → (if test then command_by_name name words else None) ≡ Some command → (rest : List (List ℕ)) × (name ∷ words ≡ (form command).0 ∷ rest) × Say rest (form command).1
     by_test true is h =
         let all = (and_parts (is_whole_word name) (list_all is_whole_word words) (list_all_both (name ∷ words) is none)).1 in
-        let named = command_found name words command all h in
+        let named = command_found name words command all one h in
         (words, ap (λ (name : List ℕ). name ∷ words) named.0, named.1)
     by_test false is h = cc h
 
@@ -298,12 +463,12 @@ text_found line command h = by_test (has_no_reply line) h
     by_test true h = cc h
     by_test false h = some_some command (command_of_words (words_of line)) h
 
-pub line_is_found : (command : Command) (line : List ℕ) → line_of line ≡ Some (Some command) → IsLineOf command line
-line_is_found command line h = by_test (is_utf8 line) refl h
+pub line_is_found : IsOneText → (command : Command) (line : List ℕ) → line_of line ≡ Some (Some command) → IsLineOf command line
+line_is_found one command line h = by_test (is_utf8 line) refl h
   where
     by_test : (test : Bool) → is_utf8 line ≡ test → (if test then line_of_text line else None) ≡ Some (Some command) → IsLineOf command line
     by_test true is h =
-        let found = words_found (words_of line) command (words_have_no_space line) (text_found line command h) in
+        let found = words_found one (words_of line) command (words_have_no_space line) (text_found line command h) in
         record { words = found.0; text = IsUtf8-from_is_utf8 line is; said = found.2; joined = sym (join_with_byte-slice_split 32 line) ∙ ap (join_with_byte 32) found.1 }
     by_test false is h = cc h
 
@@ -337,9 +502,9 @@ silent_lines line = (silent_is_found line, λ silent. rw (is_utf8-from_IsUtf8 li
 
 -- ---- written lines
 
-written_say : (parts : List Part) → AllByRecursion HasWord parts → Say (map word_of parts) parts
-written_say [] all = tt
-written_say (part ∷ parts) all = (word_says part all.0, written_say parts all.1)
+written_say : IsReadAgain → (parts : List Part) → AllByRecursion HasWord parts → Say (map word_of parts) parts
+written_say again [] all = tt
+written_say again (part ∷ parts) all = (word_says again part all.0, written_say again parts all.1)
 
 written_utf8 : (name : List ℕ) (words : List (List ℕ)) → IsUtf8 name → AllByRecursion IsUtf8 words → IsUtf8 (join_with_byte 32 (name ∷ words))
 written_utf8 name [] first all = first
@@ -363,11 +528,23 @@ form_is_plain (Get r key) = refl
 form_is_plain (Has r key) = refl
 form_is_plain (Query r prefix skip take) = refl
 form_is_plain (Heads r) = refl
+form_is_plain (Cast r) = refl
+form_is_plain (Wire bytes) = refl
+form_is_plain (Hear r message) = refl
+form_is_plain (Plant r cid bytes) = refl
+form_is_plain (Link r other up) = refl
+form_is_plain (Step r) = refl
+form_is_plain (State r) = refl
+form_is_plain (Same r other) = refl
+form_is_plain (Stop r) = refl
+form_is_plain (Open r) = refl
+form_is_plain (StopAt r commit) = refl
+form_is_plain (StopAfter r commit) = refl
 
-pub command_is_read : (command : Command) → IsWritable command → line_of (command_text command) ≡ Some (Some command)
-command_is_read command all = line_is_read command (command_text command) (record {
+pub command_is_read : IsReadAgain → (command : Command) → IsWritable command → line_of (command_text command) ≡ Some (Some command)
+command_is_read again command all = line_is_read command (command_text command) (record {
   words = map word_of (form command).1;
   text = written_utf8 (form command).0 (map word_of (form command).1) (IsUtf8-from_ascii (form command).0 (plain_ascii (form command).0 (form_is_plain command))) (parts_utf8 (form command).1 all);
-  said = written_say (form command).1 all;
+  said = written_say again (form command).1 all;
   joined = refl;
 })

@@ -20,8 +20,10 @@ use Rattle.hex.specs.Hex.{IsBytes, decode_of, decode_pairs, digit_or_error, enco
 use Rattle.hex.specs.declared.error.FromHexError.{FromHexError}
 use Rattle.hex.proofs.HexLemmas.{decode_of-encode_lower, decode_of-even, decode_of-ok, IsAscii-encode_with, length-encode_with}
 use Rattle.hex.proofs.Pairs.{cons_byte, decode_pairs-ok_pair}
-use Rattle.mc_script.specs.Grammar.{Part, Replica, Key, Prefix, Value, Number, HasWord, Says, is_whole_word, word_of}
+use Rattle.mc_cidtext.specs.CidText.{IsReadAgain, cid_text}
+use Rattle.mc_script.specs.Grammar.{Part, Replica, Key, Prefix, Value, Number, Identifier, OtherThan, Way, CommitNumber, HasWord, Says, is_whole_word, word_of}
 use Rattle.mc_script.specs.ReplyText.{hex_text}
+use Rattle.mc_script.proofs.CidFacts.{cid_passes}
 use Rattle.mc_script.specs.Words.{bytes_of_hex, is_number, number_of, replica_of}
 
 -- ---- a replica
@@ -93,7 +95,7 @@ chosen true first other value h = inl (refl, some_is h)
     some_is h = cc h
 chosen false first other value h = inr (refl, h)
 
-no_other : {A B : Type 0} {value : A} → ◌≡◌ {A = Option A} None (Some value) → B
+pub no_other : {A B : Type 0} {value : A} → ◌≡◌ {A = Option A} None (Some value) → B
 no_other h = cc h
 
 pub number_found : (word : List ℕ) (number : ℕ) → number_of word ≡ Some number → Says word (Number number)
@@ -134,6 +136,12 @@ number_said word number says =
 
 pub number_read : (word : List ℕ) (number : ℕ) → Says word (Number number) → number_of word ≡ Some number
 number_read word number says = let said = number_said word number says in rw (said.0, said.1) refl
+
+-- the number of a commit is a number
+pub commit_is_number : (word : List ℕ) (commit : ℕ) → Says word (CommitNumber commit) → Says word (Number commit)
+commit_is_number word commit says =
+    let few : commit ≤ 1000000 = says.1 in
+    (omega (arith, few), says.2, says.3)
 
 -- ---- a value
 
@@ -290,15 +298,23 @@ hex_is_whole word bytes h = elim (hex_went word bytes h) [
 letter_is_whole : (letter r : ℕ) → letter ≡ 97 + r → is_whole_word (letter ∷ []) ≡ true
 letter_is_whole letter r is = grind (arith, nat_tests)
 
+number_is_whole : (word : List ℕ) (number : ℕ) → Says word (Number number) → is_whole_word word ≡ true
+number_is_whole word number says =
+    let said = number_said word number says in
+    let some = and_parts (nat_le 1 (length word)) (nat_le (length word) 20 && (all_ascii_digits word && nat_lt (digits_value 10 word) (2 ^ 64))) said.0 in
+    rw (lt-ltb 0 (length word) (omega (arith, leb-true 1 (length word) some.0)), digits_whole word said.2) refl
+
 pub says_whole : (word : List ℕ) (part : Part) → Says word part → is_whole_word word ≡ true
 says_whole word (Replica r) says = rw says.1 (letter_is_whole (97 + r) r refl)
 says_whole word (Key key) says = rw says.0 says.1
 says_whole word (Prefix prefix) says = rw says.0 says.1
 says_whole word (Value bytes) says = hex_is_whole word bytes (value_read word bytes says)
-says_whole word (Number number) says =
-    let said = number_said word number says in
-    let some = and_parts (nat_le 1 (length word)) (nat_le (length word) 20 && (all_ascii_digits word && nat_lt (digits_value 10 word) (2 ^ 64))) said.0 in
-    rw (lt-ltb 0 (length word) (omega (arith, leb-true 1 (length word) some.0)), digits_whole word said.2) refl
+says_whole word (Identifier cid) says = says.2
+says_whole word (OtherThan r other) says = rw says.2 (letter_is_whole (97 + other) other refl)
+says_whole word (Way true) says = rw says refl
+says_whole word (Way false) says = rw says refl
+says_whole word (CommitNumber commit) says = number_is_whole word commit (commit_is_number word commit says)
+says_whole word (Number number) says = number_is_whole word number says
 
 -- ---- a written word says its part
 
@@ -308,14 +324,27 @@ written_hex (byte ∷ bytes) are =
     let len = length-encode_with lower_digits (byte ∷ bytes) in
     no_dash (encode_lower (byte ∷ bytes)) (byte ∷ bytes) (bytes_eq (encode_lower (byte ∷ bytes)) (codes "-")) refl (λ e. omega (arith, len, e)) (rw (le-leb 1 (length (encode_lower (byte ∷ bytes))) (omega (arith, len)), decode_of-encode_lower (byte ∷ bytes) are) refl)
 
-pub word_says : (part : Part) → HasWord part → Says (word_of part) part
-word_says (Replica r) has = (has, refl)
-word_says (Key key) has = (refl, has.1)
-word_says (Prefix prefix) has = (refl, has.1)
-word_says (Value bytes) has = value_found (hex_text bytes) bytes (written_hex bytes has)
-word_says (Number number) has =
-    let small : number < 2 ^ 64 = has in
-    (small, length-decimal-le 20 number (omega arith) (omega (arith, small)) small, (0, refl))
+number_says : (number : ℕ) → number < 2 ^ 64 → Says (decimal number) (Number number)
+number_says number small = (small, length-decimal-le 20 number (omega arith) (omega (arith, small)) small, (0, refl))
+
+commit_small : (commit : ℕ) → commit ≤ 1000000 → commit < 2 ^ 64
+commit_small commit few = omega arith
+
+some_whole : (word : List ℕ) → 0 < length word → list_all (λ byte. not (byte == 32)) word ≡ true → is_whole_word word ≡ true
+some_whole word some none = rw (lt-ltb 0 (length word) some, none) refl
+
+pub word_says : IsReadAgain → (part : Part) → HasWord part → Says (word_of part) part
+word_says again (Replica r) has = (has, refl)
+word_says again (Key key) has = (refl, has.1)
+word_says again (Prefix prefix) has = (refl, has.1)
+word_says again (Value bytes) has = value_found (hex_text bytes) bytes (written_hex bytes has)
+word_says again (Number number) has = number_says number has
+word_says again (Identifier cid) has = (refl, again cid.0 has.0 has.1, some_whole (cid_text cid.0) (omega arith) (cid_passes (λ byte. not (byte == 32)) refl refl cid has))
+word_says again (OtherThan r other) has = (has.0, has.1, refl)
+word_says again (Way up) has = refl
+word_says again (CommitNumber commit) has =
+    let number = number_says commit (commit_small commit has.1) in
+    (has.0, has.1, number.1, number.2)
 
 -- ---- words are UTF-8
 
@@ -325,13 +354,21 @@ plain_ascii (byte ∷ word) all =
     let parts = and_parts (nat_lt byte 128) (list_all (λ byte. nat_lt byte 128) word) all in
     IsAscii-cons byte word (ltb-true byte 128 parts.0) (plain_ascii word parts.1)
 
-pub word_is_utf8 : (part : Part) → HasWord part → IsUtf8 (word_of part)
-word_is_utf8 (Replica r) has = IsUtf8-from_ascii ((97 + r) ∷ []) (IsAscii-cons (97 + r) [] (letter r has) IsAscii-nil)
+letter_is_utf8 : (r : ℕ) → r < 8 → IsUtf8 ((97 + r) ∷ [])
+letter_is_utf8 r small = IsUtf8-from_ascii ((97 + r) ∷ []) (IsAscii-cons (97 + r) [] (letter r small) IsAscii-nil)
   where
     letter : (r : ℕ) → r < 8 → 97 + r < 128
     letter r small = omega arith
+
+pub word_is_utf8 : (part : Part) → HasWord part → IsUtf8 (word_of part)
+word_is_utf8 (Replica r) has = letter_is_utf8 r has
 word_is_utf8 (Key key) has = has.0
 word_is_utf8 (Prefix prefix) has = has.0
 word_is_utf8 (Value []) has = IsUtf8-from_ascii (codes "-") (plain_ascii (codes "-") refl)
 word_is_utf8 (Value (byte ∷ bytes)) has = IsUtf8-from_ascii (encode_lower (byte ∷ bytes)) (IsAscii-encode_with lower_digits (byte ∷ bytes) (plain_ascii lower_digits refl))
 word_is_utf8 (Number number) has = IsUtf8-from_ascii (decimal number) (IsAscii-decimal number has)
+word_is_utf8 (Identifier cid) has = IsUtf8-from_ascii (cid_text cid.0) (plain_ascii (cid_text cid.0) (cid_passes (λ byte. nat_lt byte 128) refl refl cid has))
+word_is_utf8 (OtherThan r other) has = letter_is_utf8 other has.1
+word_is_utf8 (Way true) has = IsUtf8-from_ascii (codes "up") (plain_ascii (codes "up") refl)
+word_is_utf8 (Way false) has = IsUtf8-from_ascii (codes "down") (plain_ascii (codes "down") refl)
+word_is_utf8 (CommitNumber commit) has = IsUtf8-from_ascii (decimal commit) (IsAscii-decimal commit (commit_small commit has.1))

@@ -1,31 +1,29 @@
 -- The text of a reply tells it.
-use Rattle.std.proofs.Common.{◌≡◌, ℕ, zero, suc, ◌+◌, ◌*◌, ◌/◌, ◌%◌, ◌<◌, ◌≤◌, ◌==◌, Bool, true, false, ◌&&◌, not, List, [], ◌∷◌, ◌++◌, length, map, slice_index, Option, Some, None, Result, Ok, Err, inl, inr, codes, refl, sym, ap, ◌∙◌, arith, unwrap_or, append_assoc}
+use Rattle.std.proofs.Common.{◌≡◌, ℕ, zero, suc, ◌+◌, ◌*◌, ◌/◌, ◌%◌, ◌<◌, ◌≤◌, ◌==◌, Bool, true, false, ◌&&◌, not, List, [], ◌∷◌, ◌++◌, length, Option, Some, None, Result, Ok, Err, inl, inr, codes, refl, sym, ap, ◌∙◌, arith, unwrap_or, append_assoc}
 use Rattle.std.specs.Prelude.{if◌then◌else◌, nat_le, nat_lt}
 use Rattle.std.specs.Char.{is_ascii_digit}
 use Rattle.std.specs.Fmt.{decimal, digit_glyph}
-use Rattle.std.specs.List.{AllByRecursion, AllPass, flat_map, list_all}
+use Rattle.std.specs.List.{AllByRecursion, AllPass, flat_map, join_with_byte, list_all}
 use Rattle.std.specs.Str.{all_ascii_digits, bytes_eq}
 use Rattle.std.specs.Str.Parse.{digits_value}
 use Rattle.std.proofs.lemmas.Bool.{and_parts, cases_lt, eqb-true, lt-ltb, ltb-true}
 use Rattle.std.proofs.lemmas.Bool.Decides.{nat_tests}
 use Rattle.std.proofs.lemmas.Fmt.{decimal_is_IsNumeral}
-use Rattle.std.proofs.lemmas.List.Elements.{All-head, All-tail, recursion_from_All}
+use Rattle.std.proofs.lemmas.List.Elements.{All-head, All-tail}
 use Rattle.std.proofs.lemmas.Str.Parse.{IsNumeralModel, numerals_by_value, tells_all_ascii_digits}
 use Rattle.hex.specs.Hex.{IsBytes, decode_pairs, encode_lower, hex_digit_value, is_hex_digit}
 use Rattle.hex.proofs.HexLemmas.{decode_of-encode_lower, decode_of-ok}
 use Rattle.percent_encoding.specs.Percent.{percent_encode_byte}
-use Rattle.mc_base.specs.Base32.{alphabet32, byte_bits, fives}
-use Rattle.mc_base.specs.Cid.{cid_prefix}
-use Rattle.mc_base.specs.declared.base32.Case.TheVariants.{Lower}
 use Rattle.mc_base.specs.declared.cid.Cid.{Cid}
 use Rattle.mc_cidtext.specs.CidText.{IsReadAgain, cid_text, read_cid_text}
 use Rattle.mc_cidtext.specs.declared.fault.CidTextFault.{CidTextFault}
 use Rattle.mc_script.specs.KeyText.{byte_text, is_plain, key_text}
 use Rattle.mc_script.specs.Replies.{IsDigest, IsTyped, IsWide}
-use Rattle.mc_script.specs.ReplyText.{head_text, hex_text, number_line, pair_line, reply_text, row_text}
+use Rattle.mc_script.specs.ReplyText.{clear_or_set, count_words, head_text, hex_text, mark_words, number_line, pair_line, reply_text, row_text, yes_or_no}
 use Rattle.mc_script.specs.Words.{bytes_of_hex, words_of}
 use Rattle.mc_script.specs.declared.reply.Reply.{Reply}
-use Rattle.mc_script.specs.declared.reply.Reply.TheVariants.{Done, Priority, Deleted, Value, Has, Rows, Heads, Stopped, FaultKeeper, RefusedKey, RefusedValue, RefusedSize, RefusedPriority, RefusedClash, RefusedBatch, RefusedCast}
+use Rattle.mc_script.specs.declared.reply.Reply.TheVariants.{Done, Priority, Deleted, Value, Has, Rows, Heads, Message, Queued, Processed, Missing, Bad, Idle, State, Same, Stopped, FaultKeeper, FaultPeer, RefusedKey, RefusedValue, RefusedSize, RefusedPriority, RefusedClash, RefusedBatch, RefusedCast, RefusedOpen}
+use Rattle.mc_script.proofs.CidFacts.{cid_passes}
 use Rattle.mc_script.proofs.GrammarFacts.{joined_is_split}
 use Rattle.mc_script.proofs.PartFacts.{written_hex}
 
@@ -84,51 +82,8 @@ graphic_hex : (bytes : List ℕ) → IsBytes bytes → is_graphic (hex_text byte
 graphic_hex [] are = refl
 graphic_hex (byte ∷ bytes) are = graphic_hex_digits (encode_lower (byte ∷ bytes)) (decode_of-ok (encode_lower (byte ∷ bytes)) (byte ∷ bytes) (decode_of-encode_lower (byte ∷ bytes) are)).1
 
--- the bits of bytes, and their groups of five
-abbrev AreBits : List ℕ → Type 0
-AreBits bits = AllByRecursion (λ bit. bit < 2) bits
-
-bits_are : (bytes : List ℕ) → AllByRecursion (λ byte. byte < 256) bytes → AreBits (flat_map byte_bits bytes)
-bits_are [] all = tt
-bits_are (byte ∷ bytes) all =
-    let small = all.0 in
-    (omega (arith, small), (omega arith, (omega arith, (omega arith, (omega arith, (omega arith, (omega arith, (omega arith, bits_are bytes all.1))))))))
-
-fives_small : (bits : List ℕ) → AreBits bits → AllByRecursion (λ value. value < 32) (fives bits)
-unfolding fives
-fives_small [] h = tt
-fives_small (a ∷ []) h = (omega (arith, h.0), tt)
-fives_small (a ∷ b ∷ []) h = (omega (arith, h.0, h.1.0), tt)
-fives_small (a ∷ b ∷ c ∷ []) h = (omega (arith, h.0, h.1.0, h.1.1.0), tt)
-fives_small (a ∷ b ∷ c ∷ d ∷ []) h = (omega (arith, h.0, h.1.0, h.1.1.0, h.1.1.1.0), tt)
-fives_small (a ∷ b ∷ c ∷ d ∷ e ∷ bits) h = (omega (arith, h.0, h.1.0, h.1.1.0, h.1.1.1.0, h.1.1.1.1.0), fives_small bits h.1.1.1.1.1)
-
-abbrev all_letters : ℕ → Bool
-all_letters zero = true
-all_letters (suc n) = nat_lt 32 (slice_index (alphabet32 Lower) n) && all_letters n
-
-letter_at : (n k : ℕ) → all_letters n ≡ true → k < n → nat_lt 32 (slice_index (alphabet32 Lower) k) ≡ true
-letter_at zero k h lt = absurd (omega arith)
-letter_at (suc n) k h lt =
-    let parts = and_parts (nat_lt 32 (slice_index (alphabet32 Lower) n)) (all_letters n) h in
-    elim (cases_lt k n) [
-      | inl below ↦ letter_at n k parts.1 below
-      | inr top ↦
-          let e : k ≡ n = omega arith in
-          rw e parts.0
-    ]
-
-graphic_letters : (values : List ℕ) → AllByRecursion (λ value. value < 32) values → is_graphic (map (slice_index (alphabet32 Lower)) values) ≡ true
-graphic_letters [] all = refl
-graphic_letters (value ∷ values) all = rw (letter_at 32 value refl all.0, graphic_letters values all.1) refl
-
-prefix_and : (digest : List ℕ) → AllByRecursion (λ byte. byte < 256) digest → AllByRecursion (λ byte. byte < 256) (cid_prefix ++ digest)
-prefix_and digest all = (omega arith, (omega arith, (omega arith, (omega arith, all))))
-
 graphic_cid : (cid : Cid) → IsDigest cid → is_graphic (cid_text cid.0) ≡ true
-graphic_cid cid is =
-    graphic_letters (fives (flat_map byte_bits (cid_prefix ++ cid.0)))
-    (fives_small (flat_map byte_bits (cid_prefix ++ cid.0)) (bits_are (cid_prefix ++ cid.0) (prefix_and cid.0 (recursion_from_All (λ (byte : ℕ). byte < 256) cid.0 is.1))))
+graphic_cid cid is = cid_passes (λ byte. nat_lt 32 byte) refl refl cid is
 
 -- ---- keys
 
@@ -300,16 +255,36 @@ graphic_no_space (byte ∷ word) all =
 abbrev has_no_feed : List ℕ → Bool
 has_no_feed word = list_all (λ byte. not (byte == 10)) word
 
+is_not : (b : Bool) → not b ≡ true → b ≡ false
+is_not true e = cc e
+is_not false e = refl
+
+feed_is_cut : (text rest : List ℕ) → has_no_feed text ≡ true → cut 10 (text ++ 10 ∷ rest) ≡ (text, rest)
+feed_is_cut [] rest none = refl
+feed_is_cut (byte ∷ text) rest none =
+    let parts = and_parts (not (byte == 10)) (has_no_feed text) none in
+    rw (is_not (byte == 10) parts.0, feed_is_cut text rest parts.1) refl
+
+graphic_no_feed : (word : List ℕ) → is_graphic word ≡ true → has_no_feed word ≡ true
+graphic_no_feed [] all = refl
+graphic_no_feed (byte ∷ word) all =
+    let parts = and_parts (nat_lt 32 byte) (is_graphic word) all in
+    let above = ltb-true 32 byte parts.0 in
+    let one : not (byte == 10) ≡ true = grind (arith, nat_tests) in
+    rw (one, graphic_no_feed word parts.1) refl
+
+no_feed_append : (first second : List ℕ) → has_no_feed first ≡ true → has_no_feed second ≡ true → has_no_feed (first ++ second) ≡ true
+no_feed_append [] second a b = b
+no_feed_append (byte ∷ first) second a b =
+    let parts = and_parts (not (byte == 10)) (has_no_feed first) a in
+    rw (parts.0, no_feed_append first second parts.1 b) refl
+
 line_is_cut : (word text rest : List ℕ) → has_no_feed word ≡ true → is_graphic text ≡ true → cut 10 (pair_line word text ++ rest) ≡ (word ++ 32 ∷ text, rest)
 line_is_cut [] text rest none graphic = rw (append_assoc text (10 ∷ []) rest, cut_at 10 text rest (omega arith) graphic) refl
 line_is_cut (byte ∷ word) text rest none graphic =
     let parts = and_parts (not (byte == 10)) (has_no_feed word) none in
     let other : (byte == 10) ≡ false = is_not (byte == 10) parts.0 in
     rw (other, line_is_cut word text rest parts.1 graphic) refl
-  where
-    is_not : (b : Bool) → not b ≡ true → b ≡ false
-    is_not true e = cc e
-    is_not false e = refl
 
 abbrev of_one_word : Option (List ℕ) → List ℕ → Reply
 of_one_word (Some bytes) word = Value (Some bytes)
@@ -318,7 +293,27 @@ of_one_word None word =
     else (if bytes_eq word (codes "none") then Value None
     else (if bytes_eq word (codes "yes") then Has true
     else (if bytes_eq word (codes "no") then Has false
-    else Stopped)))
+    else (if bytes_eq word (codes "processed") then Processed
+    else (if bytes_eq word (codes "missing") then Missing
+    else (if bytes_eq word (codes "idle") then Idle
+    else Stopped))))))
+
+-- the two words of a refusal or a fault
+abbrev of_second : List ℕ → Reply
+of_second second =
+    if bytes_eq second (codes "keeper") then FaultKeeper
+    else (if bytes_eq second (codes "peer") then FaultPeer
+    else (if bytes_eq second (codes "value") then RefusedValue
+    else (if bytes_eq second (codes "priority") then RefusedPriority
+    else (if bytes_eq second (codes "cast") then RefusedCast
+    else (if bytes_eq second (codes "open") then RefusedOpen
+    else RefusedBatch)))))
+
+-- the words of a state behind the first two, each count behind its name
+abbrev of_state : List (List ℕ) → Reply
+of_state (processed ∷ stored_name ∷ stored ∷ waiting_name ∷ waiting ∷ missing_name ∷ missing ∷ bad_name ∷ bad ∷ mark_name ∷ mark ∷ whole_name ∷ whole ∷ []) =
+    State (digits_value 10 processed) (digits_value 10 stored) (digits_value 10 waiting) (digits_value 10 missing) (digits_value 10 bad) (bytes_eq mark (codes "set")) (bytes_eq whole (codes "yes"))
+of_state words = Done
 
 abbrev of_words : List (List ℕ) → List ℕ → Reply × List ℕ
 of_words [] rest = (Done, rest)
@@ -328,15 +323,16 @@ of_words (word ∷ second ∷ []) rest =
     else (if bytes_eq word (codes "deleted") then (Deleted (digits_value 10 second), rest)
     else (if bytes_eq word (codes "rows") then (Rows (rows_from (digits_value 10 second) rest).0, (rows_from (digits_value 10 second) rest).1)
     else (if bytes_eq word (codes "heads") then (Heads (heads_from (digits_value 10 second) rest).0, (heads_from (digits_value 10 second) rest).1)
-    else (if bytes_eq second (codes "keeper") then (FaultKeeper, rest)
-    else (if bytes_eq second (codes "value") then (RefusedValue, rest)
-    else (if bytes_eq second (codes "priority") then (RefusedPriority, rest)
-    else (if bytes_eq second (codes "cast") then (RefusedCast, rest)
-    else (RefusedBatch, rest))))))))
+    else (if bytes_eq word (codes "message") then (Message (digits_value 10 second), rest)
+    else (if bytes_eq word (codes "queued") then (Queued (digits_value 10 second), rest)
+    else (if bytes_eq word (codes "bad") then (Bad (digits_value 10 second), rest)
+    else (if bytes_eq word (codes "same") then (Same (bytes_eq second (codes "yes")), rest)
+    else (of_second second, rest))))))))
 of_words (word ∷ second ∷ third ∷ words) rest =
     if bytes_eq second (codes "key") then (RefusedKey (digits_value 10 third), rest)
     else (if bytes_eq second (codes "size") then (RefusedSize (digits_value 10 third), rest)
-    else (RefusedClash (cid_of third), rest))
+    else (if bytes_eq second (codes "clash") then (RefusedClash (cid_of third), rest)
+    else (of_state (third ∷ words), rest)))
 
 -- the reply at the front of a text, and what follows it
 abbrev told : List ℕ → Reply × List ℕ
@@ -360,6 +356,52 @@ told_value bytes rest are =
     ∙ ap (λ words. of_words words rest) (joined_is_split (hex_text bytes) [] (graphic_no_space (hex_text bytes) graphic) refl)
     ∙ ap (λ (o : Option (List ℕ)). (of_one_word o (hex_text bytes), rest)) (written_hex bytes are)
 
+-- words that are joined, with a line feed at the end
+joined_has_no_feed : (word : List ℕ) (words : List (List ℕ)) → is_graphic word ≡ true → list_all is_graphic words ≡ true → has_no_feed (join_with_byte 32 (word ∷ words)) ≡ true
+joined_has_no_feed word [] first all = graphic_no_feed word first
+joined_has_no_feed word (next ∷ words) first all =
+    let parts = and_parts (is_graphic next) (list_all is_graphic words) all in
+    no_feed_append word (32 ∷ join_with_byte 32 (next ∷ words)) (graphic_no_feed word first) (joined_has_no_feed next words parts.0 parts.1)
+
+all_no_space : (words : List (List ℕ)) → list_all is_graphic words ≡ true → list_all (λ word. list_all (λ byte. not (byte == 32)) word) words ≡ true
+all_no_space [] all = refl
+all_no_space (word ∷ words) all =
+    let parts = and_parts (is_graphic word) (list_all is_graphic words) all in
+    rw (graphic_no_space word parts.0, all_no_space words parts.1) refl
+
+told_words : (word : List ℕ) (words : List (List ℕ)) (rest : List ℕ) → is_graphic word ≡ true → list_all is_graphic words ≡ true → told (join_with_byte 32 (word ∷ words) ++ 10 ∷ rest) ≡ of_words (word ∷ words) rest
+told_words word words rest first all =
+    let text = join_with_byte 32 (word ∷ words) in
+    ap (λ (p : List ℕ × List ℕ). of_words (words_of p.0) p.1) (feed_is_cut text rest (joined_has_no_feed word words first all))
+    ∙ ap (λ words. of_words words rest) (joined_is_split word words (graphic_no_space word first) (all_no_space words all))
+
+graphic_mark : (mark : Bool) → is_graphic (clear_or_set mark) ≡ true
+graphic_mark true = refl
+graphic_mark false = refl
+
+graphic_yes : (yes : Bool) → is_graphic (yes_or_no yes) ≡ true
+graphic_yes true = refl
+graphic_yes false = refl
+
+mark_is_read : (mark : Bool) → bytes_eq (clear_or_set mark) (codes "set") ≡ mark
+mark_is_read true = refl
+mark_is_read false = refl
+
+yes_is_read : (yes : Bool) → bytes_eq (yes_or_no yes) (codes "yes") ≡ yes
+yes_is_read true = refl
+yes_is_read false = refl
+
+told_state : (processed stored waiting missing bad : ℕ) (mark whole : Bool) (rest : List ℕ) → IsTyped (State processed stored waiting missing bad mark whole) → told (reply_text (State processed stored waiting missing bad mark whole) ++ rest) ≡ (State processed stored waiting missing bad mark whole, rest)
+told_state processed stored waiting missing bad mark whole rest typed =
+    let words : List (List ℕ) = codes "processed" ∷ decimal processed ∷ codes "stored" ∷ decimal stored ∷ codes "waiting" ∷ decimal waiting ∷ codes "missing" ∷ decimal missing ∷ codes "bad" ∷ decimal bad ∷ mark_words mark whole in
+    let graphic : list_all is_graphic words ≡ true = rw (graphic_decimal processed typed.0, graphic_decimal stored typed.1, graphic_decimal waiting typed.2, graphic_decimal missing typed.3, graphic_decimal bad typed.4, graphic_mark mark, graphic_yes whole) refl in
+    ap told (append_assoc (join_with_byte 32 (codes "state" ∷ words)) (10 ∷ []) rest)
+    ∙ told_words (codes "state") words rest refl graphic
+    ∙ state_is_read
+  where
+    state_is_read : of_words (count_words processed stored waiting missing bad ++ mark_words mark whole) rest ≡ (State processed stored waiting missing bad mark whole, rest)
+    state_is_read = rw (number_is_read processed typed.0, number_is_read stored typed.1, number_is_read waiting typed.2, number_is_read missing typed.3, number_is_read bad typed.4, mark_is_read mark, yes_is_read whole) refl
+
 told_reply : (reply : Reply) (rest : List ℕ) → IsReadAgain → IsTyped reply → told (reply_text reply ++ rest) ≡ (reply, rest)
 unfolding decode_pairs
 told_reply Done rest again typed = refl
@@ -381,8 +423,21 @@ told_reply (Heads heads) rest again typed =
     ∙ told_of_one (codes "heads") (decimal (length heads)) (flat_map head_text heads ++ rest) refl refl (graphic_decimal (length heads) typed.0)
     ∙ ap (λ (n : ℕ). (Heads (heads_from n (flat_map head_text heads ++ rest)).0, (heads_from n (flat_map head_text heads ++ rest)).1)) (number_is_read (length heads) typed.0)
     ∙ ap (λ (p : List (Cid × ℕ) × List ℕ). (Heads p.0, p.1)) (heads_are_read heads rest again typed.1)
+told_reply (Message number) rest again typed =
+    told_of_one (codes "message") (decimal number) rest refl refl (graphic_decimal number typed) ∙ ap (λ (n : ℕ). (Message n, rest)) (number_is_read number typed)
+told_reply (Queued count) rest again typed =
+    told_of_one (codes "queued") (decimal count) rest refl refl (graphic_decimal count typed) ∙ ap (λ (n : ℕ). (Queued n, rest)) (number_is_read count typed)
+told_reply Processed rest again typed = refl
+told_reply Missing rest again typed = refl
+told_reply (Bad damage) rest again typed =
+    told_of_one (codes "bad") (decimal damage) rest refl refl (graphic_decimal damage typed) ∙ ap (λ (n : ℕ). (Bad n, rest)) (number_is_read damage typed)
+told_reply Idle rest again typed = refl
+told_reply (State processed stored waiting missing bad mark whole) rest again typed = told_state processed stored waiting missing bad mark whole rest typed
+told_reply (Same true) rest again typed = refl
+told_reply (Same false) rest again typed = refl
 told_reply Stopped rest again typed = refl
 told_reply FaultKeeper rest again typed = refl
+told_reply FaultPeer rest again typed = refl
 told_reply (RefusedKey number) rest again typed =
     told_refused (codes "key") (decimal number) rest refl refl (graphic_decimal number typed) ∙ ap (λ (n : ℕ). (RefusedKey n, rest)) (number_is_read number typed)
 told_reply RefusedValue rest again typed = refl
@@ -393,6 +448,7 @@ told_reply (RefusedClash cid) rest again typed =
     told_refused (codes "clash") (cid_text cid.0) rest refl refl (graphic_cid cid typed) ∙ ap (λ (c : Cid). (RefusedClash c, rest)) (cid_is_read again cid typed)
 told_reply RefusedBatch rest again typed = refl
 told_reply RefusedCast rest again typed = refl
+told_reply RefusedOpen rest again typed = refl
 
 pub told_apart : (reply other : Reply) (after behind : List ℕ) → IsReadAgain → IsTyped reply → IsTyped other → reply_text reply ++ after ≡ reply_text other ++ behind → (reply ≡ other) × (after ≡ behind)
 told_apart reply other after behind again typed also same =
@@ -415,8 +471,18 @@ has_bytes (Has true) rest h = cc h
 has_bytes (Has false) rest h = cc h
 has_bytes (Rows rows) rest h = cc h
 has_bytes (Heads heads) rest h = cc h
+has_bytes (Message number) rest h = cc h
+has_bytes (Queued count) rest h = cc h
+has_bytes Processed rest h = cc h
+has_bytes Missing rest h = cc h
+has_bytes (Bad damage) rest h = cc h
+has_bytes Idle rest h = cc h
+has_bytes (State processed stored waiting missing bad mark whole) rest h = cc h
+has_bytes (Same true) rest h = cc h
+has_bytes (Same false) rest h = cc h
 has_bytes Stopped rest h = cc h
 has_bytes FaultKeeper rest h = cc h
+has_bytes FaultPeer rest h = cc h
 has_bytes (RefusedKey number) rest h = cc h
 has_bytes RefusedValue rest h = cc h
 has_bytes (RefusedSize len) rest h = cc h
@@ -424,6 +490,7 @@ has_bytes RefusedPriority rest h = cc h
 has_bytes (RefusedClash cid) rest h = cc h
 has_bytes RefusedBatch rest h = cc h
 has_bytes RefusedCast rest h = cc h
+has_bytes RefusedOpen rest h = cc h
 
 pub all_told_apart : (replies others : List Reply) → IsReadAgain → AllByRecursion IsTyped replies → AllByRecursion IsTyped others → flat_map reply_text replies ≡ flat_map reply_text others → replies ≡ others
 all_told_apart [] [] again typed also same = refl

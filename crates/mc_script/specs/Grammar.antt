@@ -1,12 +1,15 @@
 -- The commands, one row for each: its name and the words behind it; and which lines are lines of a command.
-use Rattle.std.specs.Prelude.{◌≡◌, ℕ, ◌+◌, ◌<◌, ◌≤◌, ◌^◌, ◌==◌, ◌&&◌, ◌++◌, not, nat_lt, Bool, true, List, [], ◌∷◌, length, map, codes, ⊤}
+use Rattle.std.specs.Prelude.{◌≡◌, ◌≢◌, ℕ, ◌+◌, ◌<◌, ◌≤◌, ◌^◌, ◌==◌, ◌&&◌, ◌++◌, not, nat_lt, Bool, true, false, List, [], ◌∷◌, length, map, codes, Ok, ⊤}
 use Rattle.std.specs.Fmt.{decimal}
 use Rattle.std.specs.List.{AllByRecursion, join_with_byte, list_all, repeat}
 use Rattle.std.specs.Str.{IsUtf8, str_to_ascii_lowercase}
 use Rattle.hex.specs.Hex.{IsBytes}
+use Rattle.mc_base.specs.declared.cid.Cid.{Cid}
+use Rattle.mc_cidtext.specs.CidText.{cid_text, read_cid_text}
+use Rattle.mc_script.specs.Replies.{IsDigest}
 use Rattle.mc_script.specs.ReplyText.{hex_text}
 use Rattle.mc_script.specs.declared.command.Command.{Command}
-use Rattle.mc_script.specs.declared.command.Command.TheVariants.{Put, Del, Begin, BatchPut, BatchDel, Commit, Get, Has, Query, Heads}
+use Rattle.mc_script.specs.declared.command.Command.TheVariants.{Put, Del, Begin, BatchPut, BatchDel, Commit, Get, Has, Query, Heads, Cast, Wire, Hear, Plant, Link, Step, State, Same, Stop, Open, StopAt, StopAfter}
 
 -- what a word behind a command's name says
 pub data Part : Type 0 where
@@ -15,6 +18,10 @@ pub data Part : Type 0 where
   Prefix : List ℕ → Part
   Value : List ℕ → Part
   Number : ℕ → Part
+  Identifier : Cid → Part
+  OtherThan : ℕ → ℕ → Part
+  Way : Bool → Part
+  CommitNumber : ℕ → Part
 
 -- each command's name, and the words behind it
 abbrev pub form : Command → List ℕ × List Part
@@ -28,29 +35,56 @@ form (Get r key) = (codes "get", Replica r ∷ Key key ∷ [])
 form (Has r key) = (codes "has", Replica r ∷ Key key ∷ [])
 form (Query r prefix skip take) = (codes "query", Replica r ∷ Prefix prefix ∷ Number skip ∷ Number take ∷ [])
 form (Heads r) = (codes "heads", Replica r ∷ [])
+form (Cast r) = (codes "cast", Replica r ∷ [])
+form (Wire bytes) = (codes "wire", Value bytes ∷ [])
+form (Hear r message) = (codes "hear", Replica r ∷ Number message ∷ [])
+form (Plant r cid bytes) = (codes "plant", Replica r ∷ Identifier cid ∷ Value bytes ∷ [])
+form (Link r other up) = (codes "link", Replica r ∷ OtherThan r other ∷ Way up ∷ [])
+form (Step r) = (codes "step", Replica r ∷ [])
+form (State r) = (codes "state", Replica r ∷ [])
+form (Same r other) = (codes "same", Replica r ∷ Replica other ∷ [])
+form (Stop r) = (codes "stop", Replica r ∷ [])
+form (Open r) = (codes "open", Replica r ∷ [])
+form (StopAt r commit) = (codes "stopat", Replica r ∷ CommitNumber commit ∷ [])
+form (StopAfter r commit) = (codes "stopafter", Replica r ∷ CommitNumber commit ∷ [])
 
 -- at least one byte, and no space
 abbrev pub is_whole_word : List ℕ → Bool
 is_whole_word word = nat_lt 0 (length word) && list_all (λ byte. not (byte == 32)) word
 
--- the word that is written: the letter of a replica, a key or a prefix as it is, a value in lower-case hexadecimal digits
--- or as a dash, a number in decimal digits without leading zeros
+-- the word of a link that is up or down
+abbrev pub way_word : Bool → List ℕ
+way_word true = codes "up"
+way_word false = codes "down"
+
+-- the word that is written: the letter of a replica, a key or a prefix as it is, a value in lower-case hexadecimal
+-- digits or as a dash, a number in decimal digits without leading zeros, an identifier as its text
 abbrev pub word_of : Part → List ℕ
 word_of (Replica r) = (97 + r) ∷ []
 word_of (Key key) = key
 word_of (Prefix prefix) = prefix
 word_of (Value bytes) = hex_text bytes
 word_of (Number number) = decimal number
+word_of (Identifier cid) = cid_text cid.0
+word_of (OtherThan r other) = (97 + other) ∷ []
+word_of (Way up) = way_word up
+word_of (CommitNumber commit) = decimal commit
 
--- whether a part has a word
+-- whether a part has a word: the other replica of a link differs from the first, and the number of a commit is from 1
+-- to 1,000,000
 abbrev pub HasWord : Part → Type 0
 HasWord (Replica r) = r < 8
 HasWord (Key key) = IsUtf8 key × (is_whole_word key ≡ true)
 HasWord (Prefix prefix) = IsUtf8 prefix × (is_whole_word prefix ≡ true)
 HasWord (Value bytes) = IsBytes bytes
 HasWord (Number number) = number < 2 ^ 64
+HasWord (Identifier cid) = IsDigest cid
+HasWord (OtherThan r other) = (r ≢ other) × (other < 8)
+HasWord (Way up) = ⊤
+HasWord (CommitNumber commit) = (1 ≤ commit) × (commit ≤ 1000000)
 
--- whether a word says a part: hexadecimal digits may be of either case, and zeros may lead a number of up to 20 digits
+-- whether a word says a part: hexadecimal digits may be of either case, and zeros may lead a number of up to 20 digits;
+-- the one text of an identifier is read as it
 abbrev pub Says : List ℕ → Part → Type 0
 Says word (Replica r) = (r < 8) × (word ≡ (97 + r) ∷ [])
 Says word (Key key) = (word ≡ key) × (is_whole_word key ≡ true)
@@ -58,6 +92,12 @@ Says word (Prefix prefix) = (word ≡ prefix) × (is_whole_word prefix ≡ true)
 Says word (Value bytes) = IsBytes bytes × (str_to_ascii_lowercase word ≡ hex_text bytes)
 Says word (Number number) =
     (number < 2 ^ 64) × (length word ≤ 20) × ((zeros : ℕ) × (word ≡ repeat zeros (48 ∷ []) ++ decimal number))
+Says word (Identifier cid) = (word ≡ cid_text cid.0) × (read_cid_text word ≡ Ok cid.0) × (is_whole_word word ≡ true)
+Says word (OtherThan r other) = (r ≢ other) × (other < 8) × (word ≡ (97 + other) ∷ [])
+Says word (Way up) = word ≡ way_word up
+Says word (CommitNumber commit) =
+    (1 ≤ commit) × (commit ≤ 1000000) × (length word ≤ 20)
+    × ((zeros : ℕ) × (word ≡ repeat zeros (48 ∷ []) ++ decimal commit))
 
 abbrev pub Say : List (List ℕ) → List Part → Type 0
 Say [] [] = ⊤

@@ -4,7 +4,7 @@ use Rattle.std.specs.List.{AllByRecursion}
 use Rattle.hex.specs.Hex.{IsBytes}
 use Rattle.mc_base.specs.declared.cid.Cid.{Cid}
 use Rattle.mc_script.specs.declared.reply.Reply.{Reply}
-use Rattle.mc_script.specs.declared.reply.Reply.TheVariants.{Priority, Deleted, Value, Rows, Heads, RefusedKey, RefusedSize, RefusedClash}
+use Rattle.mc_script.specs.declared.reply.Reply.TheVariants.{Priority, Deleted, Value, Rows, Heads, Message, Queued, Bad, State, RefusedKey, RefusedSize, RefusedClash}
 
 -- a number of 64 bits
 abbrev pub IsWide : ℕ → Type 0
@@ -21,6 +21,11 @@ IsTyped (Value (Some bytes)) = IsBytes bytes
 IsTyped (Value None) = ⊤
 IsTyped (Rows rows) = IsWide (length rows) × AllByRecursion (λ row. IsBytes row.0 × IsBytes row.1) rows
 IsTyped (Heads heads) = IsWide (length heads) × AllByRecursion (λ head. IsDigest head.0 × IsWide head.1) heads
+IsTyped (Message number) = IsWide number
+IsTyped (Queued count) = IsWide count
+IsTyped (Bad damage) = IsWide damage
+IsTyped (State processed stored waiting missing bad mark whole) =
+    IsWide processed × IsWide stored × IsWide waiting × IsWide missing × IsWide bad
 IsTyped (RefusedKey number) = IsWide number
 IsTyped (RefusedSize len) = IsWide len
 IsTyped (RefusedClash cid) = IsDigest cid

@@ -1,11 +1,20 @@
 -- The words of a line.
-use Rattle.std.specs.Prelude.{ℕ, ◌-◌, ◌^◌, List, [], ◌∷◌, length, Option, Some, None, Bool, nat_le, nat_lt, if◌then◌else◌, ◌==◌, ◌&&◌, codes, map}
+use Rattle.std.specs.Prelude.{ℕ, ◌-◌, ◌^◌, List, [], ◌∷◌, length, Option, Some, None, Bool, true, false, nat_le, nat_lt, if◌then◌else◌, ◌==◌, ◌&&◌, codes, map}
 use denote.Ref.{Bor}
 use Rattle.std.specs.List.{slice_split}
+use Rattle.std.specs.Option.{option_map}
 use Rattle.std.specs.Result.{result_ok}
 use Rattle.std.specs.Str.{all_ascii_digits, bytes_eq}
 use Rattle.std.specs.Str.Parse.{digits_value}
 use Rattle.hex.specs.Hex.{decode_of}
+use Rattle.mc_base.specs.declared.cid.Cid.{Cid}
+use Rattle.mc_cidtext.specs.CidText.{read_cid_text}
+
+-- the value goes on to what follows, where there is one
+infixl 10 ◌>>=◌
+abbrev pub ◌>>=◌ : {A B : Type 0} → Option A → (A → Option B) → Option B
+None >>= next = None
+Some value >>= next = next value
 
 -- the bytes of borrowed texts
 abbrev pub texts_of : List (Bor (List ℕ)) → List (List ℕ)
@@ -36,3 +45,32 @@ abbrev pub bytes_of_hex : List ℕ → Option (List ℕ)
 bytes_of_hex word =
     if bytes_eq word (codes "-") then Some []
     else (if nat_le 1 (length word) then result_ok (decode_of word) else None)
+
+-- the number of a replica other than `r`
+abbrev pub other_of : ℕ → List ℕ → Option ℕ
+other_of r word = do
+  other ← replica_of word
+  if r == other then None else Some other
+
+-- whether a link is up or down
+abbrev pub way_of : List ℕ → Option Bool
+way_of word =
+    if bytes_eq word (codes "up") then Some true
+    else (if bytes_eq word (codes "down") then Some false else None)
+
+-- the number of a commit that is told to fail, from 1 to 1,000,000
+abbrev pub is_commit : ℕ → Bool
+is_commit commit = nat_le 1 commit && nat_le commit 1000000
+
+abbrev pub commit_of : List ℕ → Option ℕ
+commit_of word = do
+  commit ← number_of word
+  if is_commit commit then Some commit else None
+
+-- the identifier of a digest
+abbrev pub cid_of : List ℕ → Cid
+cid_of digest = record { 0 = digest }
+
+-- the identifier of its text
+abbrev pub identifier_of : List ℕ → Option Cid
+identifier_of word = option_map cid_of (result_ok (read_cid_text word))

@@ -1,11 +1,13 @@
 // The words behind a command's name.
-ghost use Rattle.std.specs.Prelude.{◌≡◌, IfOk, IfErr, IsErrOf, Some, None};
-ghost use Rattle.mc_script.specs.Arguments.{replica_words, key_words, value_words, range_words};
+ghost use Rattle.std.specs.Prelude.{◌≡◌, ◌≢◌, ◌≤◌, IfOk, IfErr, IsErrOf, Some, None};
+ghost use Rattle.mc_script.specs.Arguments.{replica_words, key_words, value_words, range_words, hex_words, message_words, offer_words, link_words, pair_words, commit_words};
 ghost use Rattle.mc_script.specs.Words.{texts_of};
 
 use crate::LineError;
-use crate::words::{read_hex, read_number, read_replica};
-use mc_base::{Bytes, Text};
+use crate::words::{
+    read_cid, read_commit, read_hex, read_number, read_other, read_replica, read_way,
+};
+use mc_base::{Bytes, Cid, Text};
 use std::alloc::Global;
 
 // `R`
@@ -59,4 +61,84 @@ pub fn read_range_words(alloc: Global, words: &[&str]) -> Result<(u64, Text, u64
     let take = read_number(take)?;
     let prefix = Text::from_text(alloc, prefix)?;
     Ok((r, prefix, skip, take))
+}
+
+// `HEX`
+pub fn read_hex_words(alloc: Global, words: &[&str]) -> Result<Bytes, LineError>
+    ensures ok { IfOk result (λ bytes. hex_words (texts_of words.now) ≡ Some bytes) }
+    ensures bad { IsErrOf result LineError.Bad → hex_words (texts_of words.now) ≡ None }
+{
+    let [hex] = words else {
+        return Err(LineError::Bad);
+    };
+    read_hex(alloc, hex)
+}
+
+// `R M`
+pub fn read_message_words(words: &[&str]) -> Result<(u64, u64), LineError>
+    ensures ok { IfOk result (λ said. message_words (texts_of words.now) ≡ Some said) }
+    ensures err { IfErr result (λ e. (e ≡ LineError.Bad) × (message_words (texts_of words.now) ≡ None)) }
+{
+    let [replica, message] = words else {
+        return Err(LineError::Bad);
+    };
+    let r = read_replica(replica)?;
+    let message = read_number(message)?;
+    Ok((r, message))
+}
+
+// `R CID HEX`
+pub fn read_offer_words(alloc: Global, words: &[&str]) -> Result<(u64, Cid, Bytes), LineError>
+    ensures ok { IfOk result (λ said. offer_words (texts_of words.now) ≡ Some said) }
+    ensures bad { IsErrOf result LineError.Bad → offer_words (texts_of words.now) ≡ None }
+{
+    let [replica, cid, hex] = words else {
+        return Err(LineError::Bad);
+    };
+    let r = read_replica(replica)?;
+    let cid = read_cid(alloc, cid)?;
+    let bytes = read_hex(alloc, hex)?;
+    Ok((r, cid, bytes))
+}
+
+// `R R up` or `R R down`
+pub fn read_link_words(words: &[&str]) -> Result<(u64, u64, bool), LineError>
+    ensures ok { IfOk result (λ said. link_words (texts_of words.now) ≡ Some said) }
+    ensures limits { IfOk result (λ said. said.0 ≢ said.1) }
+    ensures err { IfErr result (λ e. (e ≡ LineError.Bad) × (link_words (texts_of words.now) ≡ None)) }
+{
+    let [replica, other, way] = words else {
+        return Err(LineError::Bad);
+    };
+    let r = read_replica(replica)?;
+    let other = read_other(r, other)?;
+    let up = read_way(way)?;
+    Ok((r, other, up))
+}
+
+// `R R`
+pub fn read_pair_words(words: &[&str]) -> Result<(u64, u64), LineError>
+    ensures ok { IfOk result (λ said. pair_words (texts_of words.now) ≡ Some said) }
+    ensures err { IfErr result (λ e. (e ≡ LineError.Bad) × (pair_words (texts_of words.now) ≡ None)) }
+{
+    let [replica, other] = words else {
+        return Err(LineError::Bad);
+    };
+    let r = read_replica(replica)?;
+    let other = read_replica(other)?;
+    Ok((r, other))
+}
+
+// `R K`
+pub fn read_commit_words(words: &[&str]) -> Result<(u64, u64), LineError>
+    ensures ok { IfOk result (λ said. commit_words (texts_of words.now) ≡ Some said) }
+    ensures limits { IfOk result (λ said. (1 ≤ said.1) × (said.1 ≤ 1000000)) }
+    ensures err { IfErr result (λ e. (e ≡ LineError.Bad) × (commit_words (texts_of words.now) ≡ None)) }
+{
+    let [replica, commit] = words else {
+        return Err(LineError::Bad);
+    };
+    let r = read_replica(replica)?;
+    let commit = read_commit(commit)?;
+    Ok((r, commit))
 }

@@ -1,12 +1,16 @@
 // A line of a script, as a command.
-ghost use Rattle.std.specs.Prelude.{◌≡◌, IfOk, IsErrOf, Some, None};
+ghost use Rattle.std.specs.Prelude.{◌≡◌, IfOk, IfSome, IsErrOf, Some, None};
 ghost use Rattle.std.specs.List.{list_all};
 ghost use Rattle.mc_script.specs.Words.{words_of, texts_of, is_word};
-ghost use Rattle.mc_script.specs.Line.{batch_by_name, command_by_name, command_of_words, has_no_reply, line_of, line_of_text};
+ghost use Rattle.mc_script.specs.Limits.{IsInLimits};
+ghost use Rattle.mc_script.specs.Line.{batch_by_name, command_by_name, command_of_words, has_no_reply, line_of, line_of_text, message_by_name, run_by_name};
 ghost use Rattle.mc_script.specs.declared.line.LineError.TheVariants.{Memory};
 
 use crate::Command;
-use crate::arguments::{read_key_words, read_range_words, read_replica_words, read_value_words};
+use crate::arguments::{
+    read_commit_words, read_hex_words, read_key_words, read_link_words, read_message_words,
+    read_offer_words, read_pair_words, read_range_words, read_replica_words, read_value_words,
+};
 use std::alloc::{AllocError, Global};
 use thiserror::Error;
 
@@ -34,9 +38,11 @@ impl From<AllocError> for LineError {
 /// them and none at either end. Only the space parts words: a tab, a carriage return or a NUL is part of one.
 /// `Bad` comes exactly where the line is not UTF-8, or its words are no command.
 ///
-/// No limit on a line or a script is looked at here: how long they may be is the caller's.
+/// The two replicas of a link differ, and the number of a commit is from 1 to 1,000,000 (`limits`). No limit on a line or
+/// a script is looked at here: how long they may be is the caller's.
 pub fn read_line(alloc: Global, line: &[u8]) -> Result<Option<Command>, LineError>
     ensures ok { IfOk result (λ read. line_of line.now ≡ Some read) }
+    ensures limits { IfOk result (λ read. IfSome read IsInLimits) }
     ensures bad { IsErrOf result LineError.Bad → line_of line.now ≡ None }
 {
     match str::from_utf8(line) {
@@ -47,6 +53,7 @@ pub fn read_line(alloc: Global, line: &[u8]) -> Result<Option<Command>, LineErro
 
 fn read_text(alloc: Global, text: &str) -> Result<Option<Command>, LineError>
     ensures ok { IfOk result (λ read. line_of_text text.now ≡ Some read) }
+    ensures limits { IfOk result (λ read. IfSome read IsInLimits) }
     ensures bad { IsErrOf result LineError.Bad → line_of_text text.now ≡ None }
 {
     if is_silent(text) {
@@ -74,6 +81,7 @@ fn split_words<'a>(alloc: Global, text: &'a str) -> Result<Vec<&'a str>, AllocEr
 
 fn read_words(alloc: Global, words: &[&str]) -> Result<Command, LineError>
     ensures ok { IfOk result (λ command. command_of_words (texts_of words.now) ≡ Some command) }
+    ensures limits { IfOk result IsInLimits }
     ensures bad { IsErrOf result LineError.Bad → command_of_words (texts_of words.now) ≡ None }
 {
     if !are_words(words) {
@@ -98,6 +106,7 @@ fn are_words(words: &[&str]) -> bool
 
 fn read_by_name(alloc: Global, name: &str, words: &[&str]) -> Result<Command, LineError>
     ensures ok { IfOk result (λ command. command_by_name name.now (texts_of words.now) ≡ Some command) }
+    ensures limits { IfOk result IsInLimits }
     ensures bad { IsErrOf result LineError.Bad → command_by_name name.now (texts_of words.now) ≡ None }
 {
     match name {
@@ -137,6 +146,7 @@ fn read_by_name(alloc: Global, name: &str, words: &[&str]) -> Result<Command, Li
 // The commands of a batch.
 fn read_of_batch(alloc: Global, name: &str, words: &[&str]) -> Result<Command, LineError>
     ensures ok { IfOk result (λ command. batch_by_name name.now (texts_of words.now) ≡ Some command) }
+    ensures limits { IfOk result IsInLimits }
     ensures bad { IsErrOf result LineError.Bad → batch_by_name name.now (texts_of words.now) ≡ None }
 {
     match name {
@@ -155,6 +165,76 @@ fn read_of_batch(alloc: Global, name: &str, words: &[&str]) -> Result<Command, L
         "commit" => {
             let r = read_replica_words(words)?;
             Ok(Command::Commit { r })
+        }
+        _ => read_of_messages(alloc, name, words),
+    }
+}
+
+// The commands of messages and of what others offer.
+fn read_of_messages(alloc: Global, name: &str, words: &[&str]) -> Result<Command, LineError>
+    ensures ok { IfOk result (λ command. message_by_name name.now (texts_of words.now) ≡ Some command) }
+    ensures limits { IfOk result IsInLimits }
+    ensures bad { IsErrOf result LineError.Bad → message_by_name name.now (texts_of words.now) ≡ None }
+{
+    match name {
+        "cast" => {
+            let r = read_replica_words(words)?;
+            Ok(Command::Cast { r })
+        }
+        "wire" => {
+            let bytes = read_hex_words(alloc, words)?;
+            Ok(Command::Wire { bytes })
+        }
+        "hear" => {
+            let (r, message) = read_message_words(words)?;
+            Ok(Command::Hear { r, message })
+        }
+        "plant" => {
+            let (r, cid, bytes) = read_offer_words(alloc, words)?;
+            Ok(Command::Plant { r, cid, bytes })
+        }
+        "link" => {
+            let (r, other, up) = read_link_words(words)?;
+            Ok(Command::Link { r, other, up })
+        }
+        "step" => {
+            let r = read_replica_words(words)?;
+            Ok(Command::Step { r })
+        }
+        _ => read_of_runs(name, words),
+    }
+}
+
+// The commands of a replica's state and its run.
+fn read_of_runs(name: &str, words: &[&str]) -> Result<Command, LineError>
+    ensures ok { IfOk result (λ command. run_by_name name.now (texts_of words.now) ≡ Some command) }
+    ensures limits { IfOk result IsInLimits }
+    ensures bad { IsErrOf result LineError.Bad → run_by_name name.now (texts_of words.now) ≡ None }
+{
+    match name {
+        "state" => {
+            let r = read_replica_words(words)?;
+            Ok(Command::State { r })
+        }
+        "same" => {
+            let (r, other) = read_pair_words(words)?;
+            Ok(Command::Same { r, other })
+        }
+        "stop" => {
+            let r = read_replica_words(words)?;
+            Ok(Command::Stop { r })
+        }
+        "open" => {
+            let r = read_replica_words(words)?;
+            Ok(Command::Open { r })
+        }
+        "stopat" => {
+            let (r, commit) = read_commit_words(words)?;
+            Ok(Command::StopAt { r, commit })
+        }
+        "stopafter" => {
+            let (r, commit) = read_commit_words(words)?;
+            Ok(Command::StopAfter { r, commit })
         }
         _ => Err(LineError::Bad),
     }

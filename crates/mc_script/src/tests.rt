@@ -74,7 +74,72 @@ fn lines_that_are_no_command(rt: HostRuntime) -> Result<(), Fail> {
     Ok(())
 }
 
-// The parts of a command: its name, its replica, its key or prefix, its value, and its numbers.
+#[test]
+fn lines_that_are_no_command_of_a_run(rt: HostRuntime) -> Result<(), Fail> {
+    let alloc = rt.alloc();
+    let bad: [&[u8]; 53] = [
+        b"cast",
+        b"cast a 1",
+        b"cast i",
+        b"Cast a",
+        b"wire",
+        b"wire 0",
+        b"wire 0g",
+        b"wire a 00",
+        b"wire 00 00",
+        b"hear a",
+        b"hear a 1 2",
+        b"hear a -1",
+        b"hear 1 a",
+        b"hear a 18446744073709551616",
+        b"hear a 000000000000000000001",
+        b"plant a notacid 00",
+        b"plant a bafybeihdwdcefgh4dqkjv67uzcmw7ojee6xedzdetojuzjevtenxquvyku",
+        b"plant a bafybeihdwdcefgh4dqkjv67uzcmw7ojee6xedzdetojuzjevtenxquvyku 0",
+        b"plant a bafybeihdwdcefgh4dqkjv67uzcmw7ojee6xedzdetojuzjevtenxquvyku 00 00",
+        b"plant i bafybeihdwdcefgh4dqkjv67uzcmw7ojee6xedzdetojuzjevtenxquvyku 00",
+        b"plant bafybeihdwdcefgh4dqkjv67uzcmw7ojee6xedzdetojuzjevtenxquvyku 00",
+        b"plant a bAfybeihdwdcefgh4dqkjv67uzcmw7ojee6xedzdetojuzjevtenxquvyku 00",
+        b"plant a bafyreihdwdcefgh4dqkjv67uzcmw7ojee6xedzdetojuzjevtenxquvyku 00",
+        b"link a a up",
+        b"link h h down",
+        b"link a b",
+        b"link a b Up",
+        b"link a b upward",
+        b"link a b up down",
+        b"link a i up",
+        b"link a up b",
+        b"step",
+        b"step a 1",
+        b"state",
+        b"state a b",
+        b"same a",
+        b"same a i",
+        b"same a b c",
+        b"stop",
+        b"stop a 1",
+        b"stop at a 1",
+        b"open",
+        b"open i",
+        b"stopat a",
+        b"stopat a 0",
+        b"stopat a 00000000000000000000",
+        b"stopat a 1000001",
+        b"stopat a b",
+        b"stopat a 1 1",
+        b"stopAt a 1",
+        b"stopafter a",
+        b"stopafter a 0",
+        b"stopafter a 1000001",
+    ];
+    for line in bad {
+        let answer = read_line(alloc, line);
+        assert!(rt; matches!(answer, Err(LineError::Bad)), "at {line:?}");
+    }
+    Ok(())
+}
+
+// The parts of a command: its name, its replica, its key or prefix or the word of a link, its bytes, and its numbers.
 fn parts(command: &Command) -> (&str, u64, &str, &[u8], u64, u64) {
     match command {
         Command::Put { r, key, bytes } => ("put", *r, key.as_str(), bytes.as_slice(), 0, 0),
@@ -92,6 +157,36 @@ fn parts(command: &Command) -> (&str, u64, &str, &[u8], u64, u64) {
             take,
         } => ("query", *r, prefix.as_str(), b"", *skip, *take),
         Command::Heads { r } => ("heads", *r, "", b"", 0, 0),
+        _ => parts_of_a_run(command),
+    }
+}
+
+fn parts_of_a_run(command: &Command) -> (&str, u64, &str, &[u8], u64, u64) {
+    match command {
+        Command::Cast { r } => ("cast", *r, "", b"", 0, 0),
+        Command::Wire { bytes } => ("wire", 0, "", bytes.as_slice(), 0, 0),
+        Command::Hear { r, message } => ("hear", *r, "", b"", *message, 0),
+        Command::Plant { r, cid, bytes } => ("plant", *r, name_of(cid), bytes.as_slice(), 0, 0),
+        Command::Link { r, other, up } => {
+            ("link", *r, if *up { "up" } else { "down" }, b"", *other, 0)
+        }
+        Command::Step { r } => ("step", *r, "", b"", 0, 0),
+        Command::State { r } => ("state", *r, "", b"", 0, 0),
+        Command::Same { r, other } => ("same", *r, "", b"", *other, 0),
+        Command::Stop { r } => ("stop", *r, "", b"", 0, 0),
+        Command::Open { r } => ("open", *r, "", b"", 0, 0),
+        Command::StopAt { r, commit } => ("stopat", *r, "", b"", *commit, 0),
+        Command::StopAfter { r, commit } => ("stopafter", *r, "", b"", *commit, 0),
+        _ => ("another", 0, "", b"", 0, 0),
+    }
+}
+
+// Whose identifier it is.
+fn name_of(cid: &Cid) -> &'static str {
+    if *cid == Cid::of(b"") {
+        "the empty block"
+    } else {
+        "another block"
     }
 }
 
@@ -121,6 +216,55 @@ fn lines_that_are_commands(rt: HostRuntime) -> Result<(), Fail> {
         (
             b"query a 1 09999999999999999999 0",
             ("query", 0, "1", b"", 9_999_999_999_999_999_999, 0),
+        ),
+    ];
+    for (line, want) in rows {
+        let read = read_line(alloc, line)?;
+        let Some(command) = read else {
+            return Err(Fail::new("the line is a command"));
+        };
+        assert_eq!(rt; parts(&command), want);
+    }
+    Ok(())
+}
+
+#[test]
+fn lines_that_are_commands_of_a_run(rt: HostRuntime) -> Result<(), Fail> {
+    let alloc = rt.alloc();
+    let rows: [(&[u8], (&str, u64, &str, &[u8], u64, u64)); 22] = [
+        (b"cast a", ("cast", 0, "", b"", 0, 0)),
+        (b"wire 0aFf", ("wire", 0, "", b"\x0a\xff", 0, 0)),
+        (b"wire -", ("wire", 0, "", b"", 0, 0)),
+        (b"hear b 1", ("hear", 1, "", b"", 1, 0)),
+        (b"hear b 0", ("hear", 1, "", b"", 0, 0)),
+        (
+            b"hear c 18446744073709551615",
+            ("hear", 2, "", b"", u64::MAX, 0),
+        ),
+        (b"hear d 00000000000000000012", ("hear", 3, "", b"", 12, 0)),
+        (
+            b"plant h bafybeihdwdcefgh4dqkjv67uzcmw7ojee6xedzdetojuzjevtenxquvyku 00",
+            ("plant", 7, "the empty block", b"\0", 0, 0),
+        ),
+        (
+            b"plant c bafybeif2pall7dybz7vecqka3zo24irdwabwdi4wc55jznaq75q7eaavvu -",
+            ("plant", 2, "another block", b"", 0, 0),
+        ),
+        (b"link a b up", ("link", 0, "up", b"", 1, 0)),
+        (b"link h a down", ("link", 7, "down", b"", 0, 0)),
+        (b"step e", ("step", 4, "", b"", 0, 0)),
+        (b"state f", ("state", 5, "", b"", 0, 0)),
+        (b"same a b", ("same", 0, "", b"", 1, 0)),
+        (b"same g g", ("same", 6, "", b"", 6, 0)),
+        (b"stop a", ("stop", 0, "", b"", 0, 0)),
+        (b"open b", ("open", 1, "", b"", 0, 0)),
+        (b"stopat a 1", ("stopat", 0, "", b"", 1, 0)),
+        (b"stopat c 1000000", ("stopat", 2, "", b"", 1_000_000, 0)),
+        (b"stopafter b 3", ("stopafter", 1, "", b"", 3, 0)),
+        (b"stopafter a 007", ("stopafter", 0, "", b"", 7, 0)),
+        (
+            b"stopafter h 1000000",
+            ("stopafter", 7, "", b"", 1_000_000, 0),
         ),
     ];
     for (line, want) in rows {
@@ -191,6 +335,58 @@ fn replies_of_one_line(rt: HostRuntime) -> Result<(), Fail> {
         assert_eq!(rt; written(alloc, reply)?.as_slice(), *want);
     }
     Ok(())
+}
+
+#[test]
+fn replies_of_a_run(rt: HostRuntime) -> Result<(), Fail> {
+    let alloc = rt.alloc();
+    let rows: [(Reply, &[u8]); 16] = [
+        (Reply::Message { number: 1 }, b"\nmessage 1\n"),
+        (Reply::Queued { count: 0 }, b"\nqueued 0\n"),
+        (
+            Reply::Queued { count: u64::MAX },
+            b"\nqueued 18446744073709551615\n",
+        ),
+        (Reply::Processed, b"\nprocessed\n"),
+        (Reply::Missing, b"\nmissing\n"),
+        (Reply::Bad { damage: 3 }, b"\nbad 3\n"),
+        (Reply::Idle, b"\nidle\n"),
+        (
+            state_of(0, 0, false, true),
+            b"\nstate processed 0 stored 0 waiting 3 missing 4 bad 5 mark clear whole yes\n",
+        ),
+        (
+            state_of(1, 2, true, false),
+            b"\nstate processed 1 stored 2 waiting 3 missing 4 bad 5 mark set whole no\n",
+        ),
+        (
+            state_of(800, u64::MAX, true, true),
+            b"\nstate processed 800 stored 18446744073709551615 waiting 3 missing 4 bad 5 mark set whole yes\n",
+        ),
+        (Reply::Same { yes: true }, b"\nsame yes\n"),
+        (Reply::Same { yes: false }, b"\nsame no\n"),
+        (Reply::FaultPeer, b"\nfault peer\n"),
+        (Reply::FaultKeeper, b"\nfault keeper\n"),
+        (Reply::RefusedCast, b"\nrefused cast\n"),
+        (Reply::RefusedOpen, b"\nrefused open\n"),
+    ];
+    for (reply, want) in &rows {
+        assert_eq!(rt; written(alloc, reply)?.as_slice(), *want);
+    }
+    Ok(())
+}
+
+// The state of a replica with three jobs that wait, four missing blocks, and five bad ones.
+fn state_of(processed: u64, stored: u64, mark: bool, whole: bool) -> Reply {
+    Reply::State {
+        processed,
+        stored,
+        waiting: 3,
+        missing: 4,
+        bad: 5,
+        mark,
+        whole,
+    }
 }
 
 fn value_of(bytes: Bytes) -> Reply {

@@ -1,6 +1,6 @@
 // The lines of a reply. A refusal leaves the bytes that are written to as they were.
 ghost use Rattle.std.specs.Prelude.{◌≡◌, ◌++◌, IfOk, OnOk, OnErr, string_bytes};
-ghost use Rattle.mc_script.specs.ReplyText.{hex_text, line, number_line, pair_line};
+ghost use Rattle.mc_script.specs.ReplyText.{clear_or_set, count_words, hex_text, joined, line, mark_words, number_line, pair_line, state_text, yes_or_no};
 
 use mc_base::Bytes;
 use std::alloc::{AllocError, Global};
@@ -41,6 +41,69 @@ pub fn write_pair(
 {
     let text = format!(in alloc; "{first} {second}\n")?;
     out.extend_from_slice(text.as_bytes())
+}
+
+// The counts of a replica, its mark, and whether it is whole.
+pub fn write_state(
+    alloc: Global,
+    processed: u64,
+    stored: u64,
+    waiting: u64,
+    missing: u64,
+    bad: u64,
+    mark: bool,
+    whole: bool,
+    out: &mut Bytes,
+) -> Result<(), AllocError>
+    ensures ok { OnOk result (out.new ≡ out.old ++ line (state_text processed stored waiting missing bad mark whole)) }
+    ensures err { OnErr result (out.new ≡ out.old) }
+{
+    let counts = text_of_counts(alloc, processed, stored, waiting, missing, bad)?;
+    write_marks(alloc, counts.as_str(), mark, whole, out)
+}
+
+fn text_of_counts(
+    alloc: Global,
+    processed: u64,
+    stored: u64,
+    waiting: u64,
+    missing: u64,
+    bad: u64,
+) -> Result<String, AllocError>
+    ensures { IfOk result (λ text. string_bytes text ≡ joined (count_words processed stored waiting missing bad)) }
+{
+    format!(in alloc;
+        "state processed {processed} stored {stored} waiting {waiting} missing {missing} bad {bad}"
+    )
+}
+
+// The counts, and the two marks behind them.
+fn write_marks(
+    alloc: Global,
+    counts: &str,
+    mark: bool,
+    whole: bool,
+    out: &mut Bytes,
+) -> Result<(), AllocError>
+    ensures ok { OnOk result (out.new ≡ out.old ++ pair_line counts.now (joined (mark_words mark whole))) }
+    ensures err { OnErr result (out.new ≡ out.old) }
+{
+    let mark = clear_or_set(mark);
+    let whole = yes_or_no(whole);
+    let text = format!(in alloc; "{counts} mark {mark} whole {whole}\n")?;
+    out.extend_from_slice(text.as_bytes())
+}
+
+fn clear_or_set(mark: bool) -> &'static str
+    ensures { result.now ≡ clear_or_set mark }
+{
+    if mark { "set" } else { "clear" }
+}
+
+fn yes_or_no(yes: bool) -> &'static str
+    ensures { result.now ≡ yes_or_no yes }
+{
+    if yes { "yes" } else { "no" }
 }
 
 // Bytes as lower-case hexadecimal digits, and none as a dash.

@@ -1,14 +1,18 @@
 // The words of a command.
-ghost use Rattle.std.specs.Prelude.{◌≡◌, IfOk, IfErr, IsErrOf, Some, None};
+ghost use Rattle.std.specs.Prelude.{◌≡◌, ◌≢◌, ◌≤◌, IfOk, IfErr, IsErrOf, Some, None};
 ghost use Rattle.std.specs.Str.{all_ascii_digits};
-ghost use Rattle.mc_script.specs.Words.{replica_of, number_of, bytes_of_hex};
+ghost use Rattle.mc_script.specs.Words.{replica_of, number_of, bytes_of_hex, other_of, way_of, commit_of, identifier_of};
 
 use crate::LineError;
-use mc_base::Bytes;
+use mc_base::{Bytes, Cid};
+use mc_cidtext::{CidTextError, from_text};
 use std::alloc::Global;
 
 // The most digits of a number.
 const DIGITS_MAX: usize = 20;
+
+// The greatest number of a commit that may be told to fail.
+const COMMIT_MAX: u64 = 1_000_000;
 
 // The number of a replica.
 pub fn read_replica(word: &str) -> Result<u64, LineError>
@@ -17,6 +21,31 @@ pub fn read_replica(word: &str) -> Result<u64, LineError>
 {
     match word.as_bytes() {
         [letter @ b'a'..=b'h'] => Ok(u64::from(*letter - b'a')),
+        _ => Err(LineError::Bad),
+    }
+}
+
+// The number of a replica other than `r`.
+pub fn read_other(r: u64, word: &str) -> Result<u64, LineError>
+    ensures ok { IfOk result (λ other. other_of r word.now ≡ Some other) }
+    ensures limits { IfOk result (λ other. r ≢ other) }
+    ensures err { IfErr result (λ e. (e ≡ LineError.Bad) × (other_of r word.now ≡ None)) }
+{
+    let other = read_replica(word)?;
+    if r == other {
+        return Err(LineError::Bad);
+    }
+    Ok(other)
+}
+
+// Whether a link is up or down.
+pub fn read_way(word: &str) -> Result<bool, LineError>
+    ensures ok { IfOk result (λ up. way_of word.now ≡ Some up) }
+    ensures err { IfErr result (λ e. (e ≡ LineError.Bad) × (way_of word.now ≡ None)) }
+{
+    match word {
+        "up" => Ok(true),
+        "down" => Ok(false),
         _ => Err(LineError::Bad),
     }
 }
@@ -30,6 +59,19 @@ pub fn read_number(word: &str) -> Result<u64, LineError>
         Some(number) => Ok(number),
         None => Err(LineError::Bad),
     }
+}
+
+// The number of a commit that is told to fail.
+pub fn read_commit(word: &str) -> Result<u64, LineError>
+    ensures ok { IfOk result (λ commit. commit_of word.now ≡ Some commit) }
+    ensures limits { IfOk result (λ commit. (1 ≤ commit) × (commit ≤ 1000000)) }
+    ensures err { IfErr result (λ e. (e ≡ LineError.Bad) × (commit_of word.now ≡ None)) }
+{
+    let commit = read_number(word)?;
+    if commit < 1 || commit > COMMIT_MAX {
+        return Err(LineError::Bad);
+    }
+    Ok(commit)
 }
 
 fn value_of_digits(word: &str) -> Option<u64>
@@ -67,5 +109,17 @@ pub fn read_hex(alloc: Global, word: &str) -> Result<Bytes, LineError>
         Ok(bytes) => Ok(Bytes::from_vec(bytes)),
         Err(hex::FromHexError::OutOfMemory) => Err(LineError::Memory),
         Err(_) => Err(LineError::Bad),
+    }
+}
+
+// The identifier of a text.
+pub fn read_cid(alloc: Global, word: &str) -> Result<Cid, LineError>
+    ensures ok { IfOk result (λ cid. identifier_of word.now ≡ Some cid) }
+    ensures bad { IsErrOf result LineError.Bad → identifier_of word.now ≡ None }
+{
+    match from_text(alloc, word) {
+        Ok(cid) => Ok(cid),
+        Err(CidTextError::Memory) => Err(LineError::Memory),
+        Err(CidTextError::Fault(_)) => Err(LineError::Bad),
     }
 }
