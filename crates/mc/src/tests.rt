@@ -8,23 +8,24 @@ use mc_keep_mem::{FaultPlan, MemKeepers};
 use std::alloc::Global;
 use std::io::Cursor;
 use std::mem::forget;
+use std::sync::Wait;
 use std::test::Fail;
 
 // The bytes that a stream moves a call, 0 for no limit, and the call that fails, 0 for none.
 #[derive(Clone, Copy)]
-struct Plan {
+pub(crate) struct Plan {
     piece: usize,
     failing: u64,
 }
 
-const WHOLE: Plan = Plan {
+pub(crate) const WHOLE: Plan = Plan {
     piece: 0,
     failing: 0,
 };
 
 #[derive(Clone, Copy)]
-struct Row {
-    script: &'static str,
+pub(crate) struct Row {
+    pub(crate) script: &'static str,
     reads: Plan,
     writes: Plan,
     status: Status,
@@ -32,7 +33,12 @@ struct Row {
     written: &'static str,
 }
 
-fn without_fault(script: &'static str, status: Status, code: u8, written: &'static str) -> Row {
+pub(crate) fn without_fault(
+    script: &'static str,
+    status: Status,
+    code: u8,
+    written: &'static str,
+) -> Row {
     Row {
         script,
         reads: WHOLE,
@@ -47,7 +53,7 @@ fn failing(alloc: Global, plan: Plan) -> Result<List<u64>, Fail> {
     Ok(List::from_vec([plan.failing].to_vec(alloc)?))
 }
 
-fn words_of(alloc: Global, texts: &[&str]) -> Result<Vec<String>, Fail> {
+pub(crate) fn words_of(alloc: Global, texts: &[&str]) -> Result<Vec<String>, Fail> {
     let mut words = Vec::new(alloc);
     for text in texts {
         words.push(String::from_str(alloc, text)?)?;
@@ -56,35 +62,37 @@ fn words_of(alloc: Global, texts: &[&str]) -> Result<Vec<String>, Fail> {
 }
 
 // Runs the words `run` over keepers in memory without faults.
-fn run_in_memory<S: Source, O: Sink>(
+fn run_in_memory<S: Source, O: Sink, W: Wait>(
     alloc: Global,
     words: &[&str],
     script: &mut S,
     out: &mut O,
+    wait: &W,
 ) -> Result<Status, Fail> {
     let words = words_of(alloc, words)?;
     let mut keepers = MemKeepers::new(List::new(alloc), List::new(alloc));
-    let status = run(alloc, words.as_slice(), script, out, &mut keepers);
+    let status = run(alloc, words.as_slice(), script, out, &mut keepers, wait);
     forget(keepers);
     Ok(status)
 }
 
-fn run_over(
+fn run_over<W: Wait>(
     alloc: Global,
     script: &[u8],
     reads: Plan,
     writes: Plan,
+    wait: &W,
 ) -> Result<(Status, MemorySink), Fail> {
     let script = Bytes::from_slice(alloc, script)?;
     let mut script = MemorySource::new(script, reads.piece, failing(alloc, reads)?);
     let mut out = MemorySink::new(Bytes::new(alloc), writes.piece, failing(alloc, writes)?);
-    let status = run_in_memory(alloc, &["run"], &mut script, &mut out)?;
+    let status = run_in_memory(alloc, &["run"], &mut script, &mut out, wait)?;
     Ok((status, out))
 }
 
 // Whether a row's script is answered as it says.
-fn is_so(alloc: Global, row: Row) -> Result<bool, Fail> {
-    let (status, out) = run_over(alloc, row.script.as_bytes(), row.reads, row.writes)?;
+pub(crate) fn is_so<W: Wait>(alloc: Global, row: Row, wait: &W) -> Result<bool, Fail> {
+    let (status, out) = run_over(alloc, row.script.as_bytes(), row.reads, row.writes, wait)?;
     Ok((status, status.code()) == (row.status, row.code) && out.bytes() == row.written.as_bytes())
 }
 
@@ -145,7 +153,7 @@ fn scripts_are_answered_line_by_line(rt: HostRuntime) -> Result<(), Fail> {
     ];
     for row in rows {
         let script = row.script;
-        assert!(rt; is_so(rt.alloc(), row)?, "at {script}");
+        assert!(rt; is_so(rt.alloc(), row, &rt)?, "at {script}");
     }
     Ok(())
 }
@@ -180,10 +188,40 @@ fn commands_are_answered(rt: HostRuntime) -> Result<(), Fail> {
             0,
             "ok 1\nok 2\nok 3\nok 4\nrows 2\n/a/b 03\n/a/c 04\nrows 2\n/a/b 03\n/a/c 04\nrows 0\ndeleted 0\n",
         ),
+        without_fault(
+            "put b /a 01\nget b /a\nget a /a\nput c /a 02\nget c /a\nstop b\nget b /a\nopen b\nget b /a\nlink a d down",
+            bad(10),
+            3,
+            "ok 1\n01\nnone\nok 1\n02\nok\nstopped\nok\n01\nbad line 10\n",
+        ),
+        without_fault(
+            "put a /k 01\nput b /k 01\ncast b\nhear a 1\nsame a b\nstate a",
+            done,
+            0,
+            "ok 1\nok 1\nmessage 1\nqueued 0\nsame yes\nstate processed 1 stored 1 waiting 0 missing 0 bad 0 mark clear whole yes\n",
+        ),
+        without_fault(
+            "stopat a 1\nput a /k 01\nget a /k\nopen a\nstate a",
+            done,
+            0,
+            "ok\nfault keeper\nstopped\nok\nstate processed 0 stored 0 waiting 0 missing 0 bad 0 mark clear whole yes\n",
+        ),
+        without_fault(
+            "stopafter a 1\nput a /k 01\nopen a\nstate a\nput a /k 01\nstate a",
+            done,
+            0,
+            "ok\nfault keeper\nok\nstate processed 0 stored 1 waiting 0 missing 0 bad 0 mark clear whole yes\nok 1\nstate processed 1 stored 1 waiting 0 missing 0 bad 0 mark clear whole yes\n",
+        ),
+        without_fault(
+            "stopafter a 2\nput a /k 01\nopen a\nstate a\nget a /k",
+            done,
+            0,
+            "ok\nfault keeper\nok\nstate processed 1 stored 1 waiting 0 missing 0 bad 0 mark clear whole yes\n01\n",
+        ),
     ];
     for row in rows {
         let script = row.script;
-        assert!(rt; is_so(rt.alloc(), row)?, "at {script}");
+        assert!(rt; is_so(rt.alloc(), row, &rt)?, "at {script}");
     }
     Ok(())
 }
@@ -202,16 +240,16 @@ fn a_sink_may_take_nothing_more(rt: HostRuntime) -> Result<(), Fail> {
     let alloc = rt.alloc();
     let mut script = one_line(alloc)?;
     let mut out = Writing::new(Cursor::new([0; 3]));
-    let status = run_in_memory(alloc, &["run"], &mut script, &mut out)?;
+    let status = run_in_memory(alloc, &["run"], &mut script, &mut out, &rt)?;
     assert_eq!(rt; (status, status.code()), (Status::WriteFault, 5));
     Ok(())
 }
 
 // How a run with these words ends, and how many bytes it writes.
-fn run_words(alloc: Global, words: &[&str]) -> Result<(Status, usize), Fail> {
+fn run_words<W: Wait>(alloc: Global, words: &[&str], wait: &W) -> Result<(Status, usize), Fail> {
     let mut script = one_line(alloc)?;
     let mut out = empty_sink(alloc);
-    let status = run_in_memory(alloc, words, &mut script, &mut out)?;
+    let status = run_in_memory(alloc, words, &mut script, &mut out, wait)?;
     Ok((status, out.bytes().len()))
 }
 
@@ -219,7 +257,7 @@ fn run_words(alloc: Global, words: &[&str]) -> Result<(Status, usize), Fail> {
 fn other_words_are_refused(rt: HostRuntime) -> Result<(), Fail> {
     let refused: [&[&str]; 5] = [&[], &["gen"], &["run", "run"], &["Run"], &["--help"]];
     for words in refused {
-        let ended = run_words(rt.alloc(), words)?;
+        let ended = run_words(rt.alloc(), words, &rt)?;
         assert_eq!(rt; ended, (Status::Usage, 0));
     }
     Ok(())
@@ -227,7 +265,11 @@ fn other_words_are_refused(rt: HostRuntime) -> Result<(), Fail> {
 
 // Lets call after call of the source or the sink fail, until a run has no fault. What is written then is a prefix of
 // the run's text. Gives the number of runs with a fault, where all are so.
-fn faults_before_the_end(alloc: Global, of_source: bool) -> Result<Option<u64>, Fail> {
+fn faults_before_the_end<W: Wait>(
+    alloc: Global,
+    of_source: bool,
+    wait: &W,
+) -> Result<Option<u64>, Fail> {
     let script = b"put a /a 01\nget a /a\nget a /b\nput a /a 0".as_slice();
     let text = b"ok 1\n01\nnone\nbad line 4\n".as_slice();
     let piece = 5;
@@ -242,7 +284,7 @@ fn faults_before_the_end(alloc: Global, of_source: bool) -> Result<Option<u64>, 
         } else {
             (all, some, Status::WriteFault)
         };
-        let (status, out) = run_over(alloc, script, reads, writes)?;
+        let (status, out) = run_over(alloc, script, reads, writes, wait)?;
         if status == (Status::BadLine { line: 4 }) && out.bytes() == text {
             return Ok(Some(call - 1));
         }
@@ -256,40 +298,63 @@ fn faults_before_the_end(alloc: Global, of_source: bool) -> Result<Option<u64>, 
 #[test]
 fn every_call_may_fail(rt: HostRuntime) -> Result<(), Fail> {
     let alloc = rt.alloc();
-    assert_eq!(rt; faults_before_the_end(alloc, true)?, Some(9));
-    assert_eq!(rt; faults_before_the_end(alloc, false)?, Some(6));
+    assert_eq!(rt; faults_before_the_end(alloc, true, &rt)?, Some(9));
+    assert_eq!(rt; faults_before_the_end(alloc, false, &rt)?, Some(6));
     Ok(())
 }
 
-fn run_without_end(alloc: Global, bytes: Vec<u8>) -> Result<(Status, MemorySink), Fail> {
+fn run_without_end<W: Wait>(
+    alloc: Global,
+    bytes: Vec<u8>,
+    wait: &W,
+) -> Result<(Status, MemorySink), Fail> {
     let Some(mut script) = RepeatingSource::new(Bytes::from_vec(bytes)) else {
         return Err(Fail::new("there are bytes to repeat"));
     };
     let mut out = MemorySink::new(Bytes::new(alloc), 0, List::new(alloc));
-    let status = run_in_memory(alloc, &["run"], &mut script, &mut out)?;
+    let status = run_in_memory(alloc, &["run"], &mut script, &mut out, wait)?;
     Ok((status, out))
 }
 
 #[test]
 fn a_source_without_an_end_ends_at_a_limit(rt: HostRuntime) -> Result<(), Fail> {
     let alloc = rt.alloc();
-    let (status, out) = run_without_end(alloc, b"g".to_vec(alloc)?)?;
+    let (status, out) = run_without_end(alloc, b"g".to_vec(alloc)?, &rt)?;
     assert_eq!(rt; status, Status::BadLine { line: 1 });
     assert_eq!(rt; out.bytes(), b"bad line 1\n".as_slice());
     // Lines of 1,031 bytes: 1,041,456 of them keep the script's limit of 1,073,741,824 bytes, and the next does not.
     let mut line = b"# ".to_vec(alloc)?;
     line.resize(1_030, b'b')?;
     line.push(b'\n')?;
-    let (status, out) = run_without_end(alloc, line)?;
+    let (status, out) = run_without_end(alloc, line, &rt)?;
     assert_eq!(rt; status, Status::BadLine { line: 1_041_457 });
     assert_eq!(rt; out.bytes(), b"bad line 1041457\n".as_slice());
     Ok(())
 }
 
 // Runs a script without faults, and says whether it is done with this text.
-fn is_answered(alloc: Global, script: &[u8], text: &[u8]) -> Result<bool, Fail> {
-    let (status, out) = run_over(alloc, script, WHOLE, WHOLE)?;
+pub(crate) fn is_answered<W: Wait>(
+    alloc: Global,
+    script: &[u8],
+    text: &[u8],
+    wait: &W,
+) -> Result<bool, Fail> {
+    let (status, out) = run_over(alloc, script, WHOLE, WHOLE, wait)?;
     Ok(status == Status::Done && out.bytes() == text)
+}
+
+#[test]
+fn a_line_ends_at_its_limit(rt: HostRuntime) -> Result<(), Fail> {
+    let alloc = rt.alloc();
+    for (len, ended) in [
+        (4_194_304, Status::Done),
+        (4_194_305, Status::BadLine { line: 1 }),
+    ] {
+        let line = vec![in alloc; b'#'; len]?;
+        let (status, _) = run_over(alloc, line.as_slice(), WHOLE, WHOLE, &rt)?;
+        assert_eq!(rt; status, ended);
+    }
+    Ok(())
 }
 
 #[test]
@@ -303,7 +368,7 @@ fn keys_end_at_their_limit(rt: HostRuntime) -> Result<(), Fail> {
         let len = script.len() + letters;
         script.resize(len, b'x')?;
         script.extend_from_slice(b" 01")?;
-        assert!(rt; is_answered(alloc, script.as_slice(), text)?);
+        assert!(rt; is_answered(alloc, script.as_slice(), text, &rt)?);
     }
     Ok(())
 }
@@ -332,12 +397,12 @@ fn large_script(alloc: Global) -> Result<Vec<u8>, Fail> {
 fn values_and_blocks_end_at_their_limits(rt: HostRuntime) -> Result<(), Fail> {
     let script = large_script(rt.alloc())?;
     let text = b"ok\nok\nok\nok\nok\nrefused size 1048630\nok\nok 1\nrefused value\n";
-    assert!(rt; is_answered(rt.alloc(), script.as_slice(), text.as_slice())?);
+    assert!(rt; is_answered(rt.alloc(), script.as_slice(), text.as_slice(), &rt)?);
     Ok(())
 }
 
 // The replies to so many puts of one key, and to its delete.
-fn replies_of(alloc: Global, puts: u64, last: &str) -> Result<Vec<u8>, Fail> {
+pub(crate) fn replies_of(alloc: Global, puts: u64, last: &str) -> Result<Vec<u8>, Fail> {
     let mut text = Vec::new(alloc);
     for number in 1..=puts {
         let line = format!(in alloc; "ok {number}\n")?;
@@ -357,30 +422,39 @@ fn a_delete_is_cut_into_blocks(rt: HostRuntime) -> Result<(), Fail> {
         }
         script.extend_from_slice(b"del a /a\nget a /a\n")?;
         let text = replies_of(alloc, puts, last)?;
-        assert!(rt; is_answered(alloc, script.as_slice(), text.as_slice())?);
+        assert!(rt; is_answered(alloc, script.as_slice(), text.as_slice(), &rt)?);
     }
     Ok(())
 }
 
 // How a run over these keepers ends, what it writes, and the counts of the keepers.
-fn run_with<K: Keepers>(
+pub(crate) fn run_with<K: Keepers, W: Wait>(
     alloc: Global,
     script: &[u8],
     keepers: &mut K,
+    wait: &W,
 ) -> Result<(Status, MemorySink, u64, u64), Fail> {
     let words = words_of(alloc, &["run"])?;
     let mut script = MemorySource::new(Bytes::from_slice(alloc, script)?, 0, List::new(alloc));
     let mut out = MemorySink::new(Bytes::new(alloc), 0, List::new(alloc));
-    let status = run(alloc, words.as_slice(), &mut script, &mut out, keepers);
+    let status = run(
+        alloc,
+        words.as_slice(),
+        &mut script,
+        &mut out,
+        keepers,
+        wait,
+    );
     Ok((status, out, keepers.faults(), keepers.lost()))
 }
 
 // The same over a keeper that fails as planned.
-fn run_failing(
+fn run_failing<W: Wait>(
     alloc: Global,
     commits: &[u64],
     reads: &[u64],
     makes: &[u64],
+    wait: &W,
 ) -> Result<(Status, MemorySink, u64, u64), Fail> {
     let mut plans = List::new(alloc);
     let mut plan = FaultPlan::nothing(alloc);
@@ -389,7 +463,7 @@ fn run_failing(
     plans.push(plan)?;
     let makes = List::from_vec(makes.to_vec(alloc)?);
     let mut keepers = MemKeepers::new(plans, makes);
-    let ran = run_with(alloc, b"put a /a 01\nget a /a\nfrob", &mut keepers);
+    let ran = run_with(alloc, b"put a /a 01\nget a /a\nfrob", &mut keepers, wait);
     forget(keepers);
     ran
 }
@@ -397,7 +471,7 @@ fn run_failing(
 #[test]
 fn a_keeper_that_fails_stops_its_replica(rt: HostRuntime) -> Result<(), Fail> {
     let alloc = rt.alloc();
-    let (status, out, faults, lost) = run_failing(alloc, &[1], &[], &[])?;
+    let (status, out, faults, lost) = run_failing(alloc, &[1], &[], &[], &rt)?;
     assert_eq!(rt; (status, faults, lost), (Status::BadLine { line: 3 }, 0, 1));
     assert_eq!(rt;
         out.bytes(),
@@ -409,12 +483,15 @@ fn a_keeper_that_fails_stops_its_replica(rt: HostRuntime) -> Result<(), Fail> {
 #[test]
 fn a_keeper_that_is_not_made_or_opened_ends_the_run(rt: HostRuntime) -> Result<(), Fail> {
     let alloc = rt.alloc();
-    let (status, out, faults, lost) = run_failing(alloc, &[], &[1], &[])?;
+    let (status, out, faults, lost) = run_failing(alloc, &[], &[1], &[], &rt)?;
     assert_eq!(rt; (status, faults, lost), (Status::KeeperFault, 0, 1));
     assert_eq!(rt; out.bytes().len(), 0);
-    let (status, out, faults, lost) = run_failing(alloc, &[], &[], &[1])?;
+    let (status, out, faults, lost) = run_failing(alloc, &[], &[], &[1], &rt)?;
     assert_eq!(rt; (status, status.code()), (Status::KeeperFault, 6));
     assert_eq!(rt; (faults, lost), (1, 0));
+    assert_eq!(rt; out.bytes().len(), 0);
+    let (status, out, faults, lost) = run_failing(alloc, &[], &[], &[3], &rt)?;
+    assert_eq!(rt; (status, faults, lost), (Status::KeeperFault, 1, 0));
     assert_eq!(rt; out.bytes().len(), 0);
     Ok(())
 }

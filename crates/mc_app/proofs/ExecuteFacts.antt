@@ -1,117 +1,162 @@
 -- A line whose command was done.
-use Rattle.std.proofs.Common.{◌≡◌, ◌≤◌, ℕ, Bool, true, false, true≢false, List, [], Option, None, Some, Result, Ok, Err, refl, subst, sym, ◌∙◌, ap, inl, inr, arith}
-use Rattle.std.proofs.Math.Dec.{leb}
-use Rattle.std.proofs.lemmas.Bool.{le-leb, leb-true}
-use Rattle.std.specs.Prelude.{OnOk, IfOk, IsErrOf, ◌||◌, cond, min, ◌+◌, ◌-◌, ◌^◌, slice_get, set}
+use Rattle.std.proofs.Common.{◌≡◌, ℕ, zero, suc, Bool, true, false, true≢false, cond, List, [], ◌∷◌, Option, Some, Result, Ok, Err, refl, subst, sym, ap, inl, inr, arith}
+use Rattle.std.specs.Prelude.{OnOk, IfOk, IsErrOf, ◌||◌, ◌⊎◌, nat_eq}
+use Rattle.std.specs.List.{list_all, sum_by}
 use Rattle.std.specs.Io.KnownBytes.{Appends}
-use Rattle.mc_base.specs.Causes.{Rose}
-use Rattle.mc_base.specs.Told.{Told, AppendsPart}
-use Rattle.mc_keep.specs.Causes.{StaysQuiet}
-use Rattle.mc_keep.specs.declared.fuse.Fuse.{Fuse}
-use Rattle.mc_model.specs.State.{OpenBatch}
+use Rattle.std.proofs.lemmas.Bool.{eq-eqb}
+use Rattle.std.proofs.lemmas.Bool.Decides.{nat_tests}
+use Rattle.std.proofs.lemmas.List.Sums.{sum_by-cons}
+use Rattle.mc_base.specs.Told.{AppendsPart}
+use Rattle.mc_base.specs.declared.counted.Counted as counted
+use Rattle.mc_base.proofs.Telling.{told_weaker}
+use Rattle.mc_keep.specs.Calls.{Members}
+use Rattle.mc_keep.specs.declared.keeper.Keeper as keeper
+use Rattle.mc_core.proofs.EventFacts.{breaks_rose}
+use Rattle.mc_core.specs.Calls.{Faults}
 use Rattle.mc_core.specs.Events.{ReplicaState}
 use Rattle.mc_script.specs.ReplyText.{reply_text}
 use Rattle.mc_script.specs.declared.command.Command.{Command}
 use Rattle.mc_script.specs.declared.reply.Reply.{Reply}
 use Rattle.mc_app.specs.declared.acting.ActError.{ActError}
 use Rattle.mc_app.specs.declared.entry.LineEntry.{LineEntry}
-use Rattle.mc_app.specs.Fronts.{due_front, front_reply}
-use Rattle.mc_app.specs.Record.{IsCalm, IsLonger, Recorded, numbers_of}
-use Rattle.mc_app.specs.Runs.{IsWithin, names_none}
-use Rattle.mc_app.specs.Step.{Plan, Refuses, ReplicaShort, ReplicaStep, ShortStep, Step, answers_fault, has_replica, is_fault, place_of}
+use Rattle.mc_app.specs.declared.seat.Seat.{Seat}
+use Rattle.mc_app.specs.declared.world.World.{World}
+use Rattle.mc_app.specs.Asks.{arms, is_named, is_there}
 use Rattle.mc_app.specs.Executes.{CutsShort, Executes, ExecutesPart, IsAnswered}
-use Rattle.mc_app.proofs.ActFacts.{first_place, named, none_own}
-use Rattle.mc_app.proofs.StepFacts.{no_fault_planned, no_refusal, row_map}
+use Rattle.mc_app.specs.Keepers.{WorldGoes, desk_count, is_calm, is_calm_desk, is_calm_keeper, keeper_of}
+use Rattle.mc_app.specs.LineWords.{AnswersIn}
+use Rattle.mc_app.specs.Plans.{Plan}
+use Rattle.mc_app.specs.Record.{NamesNone, RoseIn}
+use Rattle.mc_app.specs.Runs.{Answer, names_none, owns_none}
+use Rattle.mc_app.specs.Step.{CutShort, LeavesStep, Row, Step, answers_fault, is_fault}
+use Rattle.mc_app.specs.Words.{DeskRose, KeeperRose, OwnRose, Records, Shortens, state, tally}
+use Rattle.mc_app.specs.Worlds.{Place, WorldState, state_at}
+use Rattle.mc_app.proofs.OpeningFacts.{both_true, first_true, second_true}
 
--- one reply is at most one fault, and only where the count rose
-within_one : (fault : Bool) (before now : ℕ) → before ≤ now → (fault ≡ true → Rose before now) → IsWithin before now (cond fault 1 0)
-within_one true before now later rose = rose refl
-within_one false before now later rose = omega (arith, later)
+named_itself : (r : ℕ) → is_named (r ∷ []) r ≡ true
+named_itself r = ap (λ (b : Bool). b || false) (eq-eqb r r refl)
 
-module _ (calm : Type 0) (old : Option (List ReplicaState)) (faults : ℕ) (stop : Bool) (command : Command) (new : Option (List ReplicaState)) (faults_now : ℕ) (stop_now : Bool) where
-  pub answered : (Names : LineEntry → Type 0) (batch : Option OpenBatch) (entries after : List LineEntry) (result : Result Reply ActError)
-      → IfOk result (λ reply. Recorded (λ e. Names e × (calm → (e.own ≡ []) × (is_fault reply ≡ false)) × Told old new (λ w w2. Step w command e reply w2)) entries after) → IfOk result (λ reply. (front_reply reply ≡ due_front stop batch command) × (stop_now ≡ (is_fault reply || stop))) → OnOk result (has_replica command ≡ true) → faults ≤ faults_now → (answers_fault result ≡ true → Rose faults faults_now)
-      → IfOk result (IsAnswered calm old faults stop command new faults_now stop_now)
-  answered Names batch entries after (Err error) line said there later rose = tt
-  answered Names batch entries after (Ok reply) line said there later rose = record {
+-- a fault under other words
+cut_map : (w : WorldState) (command : Command) (own own2 : Type 0) (p q : Place) → (own → own2) → CutShort w command own p q → CutShort w command own2 p q
+cut_map w command own own2 p q f cut = record {
+  down = cut.down;
+  silent = cut.silent;
+  planted_same = cut.planted_same;
+  why = elim cut.why [ inl fired ↦ inl fired | inr failed ↦ inr (f failed) ];
+  told = told_weaker _ _ (λ s new faults. faults_map s new faults) (state_at p) (state_at q) cut.told;
+}
+  where
+    faults_map : (s new : ReplicaState) → Faults (λ events reply. Plan w s command events reply) own s new → Faults (λ events reply. Plan w s command events reply) own2 s new
+    faults_map s new faults = record { events = faults.events; begins = faults.begins; breaks = breaks_rose faults.events own own2 s new f faults.breaks }
+
+-- The entry of a command that was done and not recorded: it names what failed, and where all was calm none that failed by
+-- itself.
+pub record IsEntry (w : WorldState) (command : Command) (calm : Bool) (reply : Reply) (w2 : WorldState) : Type 0 where
+  pub entry : LineEntry
+  pub step : Step w command entry reply w2
+  pub owned : calm ≡ true → NamesNone entry
+
+pub entry_of : (w : WorldState) (command : Command) (calm : Bool) (named own desk : ℕ → Type 0) (reply : Reply) (w2 : WorldState) → is_there w command ≡ true → (calm ≡ true → (r : ℕ) → own r → ⊥) → (calm ≡ true → (r : ℕ) → desk r → ⊥)
+    → Row w command named own desk reply w2 → IsEntry w command calm reply w2
+entry_of w command calm named own desk reply w2 there no_own no_desk (inl (inl (inl refused))) = record { entry = record { keepers = []; desks = []; own = [] }; step = record { there = there; row = inl (inl (inl refused)) }; owned = λ e. (refl, refl) }
+entry_of w command calm named own desk reply w2 there no_own no_desk (inl (inl (inr done))) = record { entry = record { keepers = []; desks = []; own = [] }; step = record { there = there; row = inl (inl (inr done)) }; owned = λ e. (refl, refl) }
+entry_of w command calm named own desk reply w2 there no_own no_desk (inl (inr fault)) = by_calm calm no_own
+  where
+    row_of : (list : List ℕ) → (own fault.at → is_named list fault.at ≡ true) → Step w command (record { keepers = fault.at ∷ []; desks = []; own = list }) reply w2
+    row_of list f = record {
+      there = there;
+      row = inl (inr (record {
+        at = fault.at;
+        among = fault.among;
+        asked = fault.asked;
+        cause = named_itself fault.at;
+        says = fault.says;
+        moved = record { old = fault.moved.old; new = fault.moved.new; stands = fault.moved.stands; after = fault.moved.after; holds = cut_map w command (own fault.at) (is_named list fault.at ≡ true) fault.moved.old fault.moved.new f fault.moved.holds };
+        around = fault.around;
+      }));
+    }
+
+    by_calm : (calm : Bool) → (calm ≡ true → (r : ℕ) → own r → ⊥) → IsEntry w command calm reply w2
+    by_calm true none = record { entry = record { keepers = fault.at ∷ []; desks = []; own = [] }; step = row_of [] (λ failed. absurd (none refl fault.at failed)); owned = λ e. (refl, refl) }
+    by_calm false none = record { entry = record { keepers = fault.at ∷ []; desks = []; own = fault.at ∷ [] }; step = row_of (fault.at ∷ []) (λ failed. named_itself fault.at); owned = λ e. absurd (true≢false (sym e)) }
+entry_of w command calm named own desk reply w2 there no_own no_desk (inr peer) = by_calm calm no_desk
+  where
+    by_calm : (calm : Bool) → (calm ≡ true → (r : ℕ) → desk r → ⊥) → IsEntry w command calm reply w2
+    by_calm true none = absurd (none refl peer.at peer.cause)
+    by_calm false none = record {
+      entry = record { keepers = []; desks = peer.at ∷ []; own = [] };
+      step = record {
+        there = there;
+        row = inr (record { at = peer.at; among = peer.among; allowed = peer.allowed; cause = named_itself peer.at; says = peer.says; moved = peer.moved; around = peer.around });
+      };
+      owned = λ e. absurd (true≢false (sym e));
+    }
+
+-- what is calm before and after did not fail
+no_rise : {A : Type 0} (count : A → ℕ) (calm : A → Bool) → ((x : A) → calm x ≡ true → count x ≡ 0) → (xs ys : List A) (r : ℕ) → list_all calm xs ≡ true → list_all calm ys ≡ true → RoseIn count xs ys r → ⊥
+no_rise count calm none [] ys r all all_now rose = rose
+no_rise count calm none (x ∷ xs) [] zero all all_now rose = rose
+no_rise count calm none (x ∷ xs) [] (suc r) all all_now rose = no_rise count calm none xs [] r (second_true (calm x) (list_all calm xs) all) refl rose
+no_rise count calm none (x ∷ xs) (y ∷ ys) zero all all_now rose =
+    let before = none x (first_true (calm x) (list_all calm xs) all) in let now = none y (first_true (calm y) (list_all calm ys) all_now) in omega (arith, before, now, rose)
+no_rise count calm none (x ∷ xs) (y ∷ ys) (suc r) all all_now rose = no_rise count calm none xs ys r (second_true (calm x) (list_all calm xs) all) (second_true (calm y) (list_all calm ys) all_now) rose
+
+is_zero : (n : ℕ) → nat_eq n 0 ≡ true → n ≡ 0
+is_zero n e = grind (arith, nat_tests, e)
+
+owns_of_none : (answer : Answer) → NamesNone answer.entry → owns_none (Some answer) ≡ true
+owns_of_none answer none = both_true (ap names_none none.0) (ap names_none none.1)
+
+module _ {K D : Type 0} {g : keeper.Ghosts K D} {h : counted.Ghosts K} {i : counted.Ghosts D} (k : Members K D) (desk_faults : D → ℕ) (command : Command) (old new : World K D g h i) where
+  pub answered : (result : Result Reply ActError) → IfOk result (Records k desk_faults command old new) → WorldGoes k desk_faults (cond (answers_fault result) 1 0) (arms command) old new → IfOk result (AnswersIn k desk_faults command old new)
+  answered (Err error) line goes = tt
+  answered (Ok reply) line goes = record {
     answer = record { reply = reply; entry = line.entry };
     says = refl;
-    step = (there, line.holds.2);
-    counted = within_one (is_fault reply) faults faults_now later rose;
-    owned = λ c. let held = line.holds.1 c in (ap names_none held.0, ap (λ (b : Bool). cond b 1 0) held.1);
-    front = (batch, said.0);
-    stops = said.1;
+    answered = record {
+      step = line.holds.1;
+      tallies = record { paid = goes.paid; calm = goes.calm; owned = λ calm. owns_of_none (record { reply = reply; entry = line.entry }) (line.holds.0.calm calm) };
+    };
   }
 
-  pub executes : {E : Type 0} (reply : Reply) (before after : Option (List ℕ)) (result : Result (Unit {0}) E) → IsAnswered calm old faults stop command new faults_now stop_now reply → OnOk result (Appends before after (reply_text reply)) → OnOk result (Executes calm old faults stop (Some (Some command)) new faults_now stop_now before after)
-  executes reply before after (Err error) is written = tt
-  executes reply before after (Ok done) is written = record { answer = Some is.answer; step = is.step; counted = is.counted; owned = is.owned; front = is.front; stops = is.stops; written = subst (λ (r : Reply). Appends before after (reply_text r)) (sym is.says) written }
+  no_own : is_calm k desk_faults old ≡ true → is_calm k desk_faults new ≡ true → (r : ℕ) → OwnRose k desk_faults old new r → ⊥
+  no_own calm calm_now r rose = no_rise (λ (seat : Seat K D g h i). k.own (keeper_of seat)) (λ (seat : Seat K D g h i). is_calm_keeper k (keeper_of seat))
+      (λ seat e. is_zero (k.own (keeper_of seat)) (second_true (k.quiet (keeper_of seat)) _ e)) old.seats.items new.seats.items r (first_true _ _ calm) (first_true _ _ calm_now) rose
 
-  pub executes_part : (reply : Reply) (before after : Option (List ℕ)) → IsAnswered calm old faults stop command new faults_now stop_now reply → AppendsPart before after (reply_text reply) → ExecutesPart calm old faults stop (Some (Some command)) new faults_now stop_now before after
-  executes_part reply before after is written = record { answer = Some is.answer; step = is.step; counted = is.counted; owned = is.owned; front = is.front; stops = is.stops; written = subst (λ (r : Reply). AppendsPart before after (reply_text r)) (sym is.says) written }
+  no_faults : (desks : List D) → list_all (is_calm_desk k desk_faults) desks ≡ true → sum_by desk_faults desks ≡ 0
+  no_faults [] calm = refl
+  no_faults (desk ∷ desks) calm =
+      let first = is_zero (desk_faults desk) (second_true (k.quiet_desk desk) _ (first_true (is_calm_desk k desk_faults desk) _ calm)) in
+      let more = no_faults desks (second_true (is_calm_desk k desk_faults desk) _ calm) in omega (arith, first, more, sum_by-cons desk_faults desk desks)
 
--- `fault keeper` is answered only where the keeper failed
-fault_named : (s new : ReplicaState) (command : Command) (named own : Type 0) (reply : Reply) → ReplicaStep s command named own new reply → is_fault reply ≡ true → named
-fault_named s new command named own reply (inr faulted) is = faulted.cause
-fault_named s new command named own reply (inl (inr done)) is = absurd (true≢false (sym is ∙ no_fault_planned s command done.events reply done.plan))
-fault_named s new command named own reply (inl (inl refused)) is = absurd (true≢false (sym is ∙ no_refusal refused.cause.0 reply refused.cause.2))
+  no_desk : is_calm k desk_faults old ≡ true → is_calm k desk_faults new ≡ true → (r : ℕ) → DeskRose k desk_faults old new r → ⊥
+  no_desk calm calm_now r rose = no_rise (desk_count desk_faults) (λ (list : List D). list_all (is_calm_desk k desk_faults) list)
+      (λ list e. let none = no_faults list e in omega (arith, none)) old.desks.items new.desks.items r (second_true _ _ calm) (second_true _ _ calm_now) rose
 
-no_fault_where : (fault : Bool) → (fault ≡ true → ⊥) → fault ≡ false
-no_fault_where true never = absurd (never refl)
-no_fault_where false never = refl
+  pub still_goes : (error : ActError) (result : Result Reply ActError) → IsErrOf result error → WorldGoes k desk_faults (cond (answers_fault result) 1 0) (arms command) old new → WorldGoes k desk_faults 0 (arms command) old new
+  still_goes error (Ok reply) is goes = absurd (cc)
+  still_goes error (Err e) is goes = goes
 
--- whether a count rose, or stands at its last value
-abbrev rose_test : ℕ → ℕ → Bool
-rose_test before now = leb (min (before + 1) (2 ^ 64 - 1)) now
-
-module _ (quiet quiet_now : Bool) (own own_now : ℕ) (fuse : Option Fuse) (stays : StaysQuiet quiet quiet_now own own_now) (stop stop_now : Bool) (batch : Option OpenBatch) (faults faults_now : ℕ) (later : faults ≤ faults_now) (command : Command) (there : has_replica command ≡ true) where
-  -- the keeper failed, and was not calm
-  abbrev Named : Type 0
-  Named = Rose faults faults_now × (IsCalm quiet own fuse → ⊥)
-
-  abbrev Said : Reply → Type 0
-  Said reply = (front_reply reply ≡ due_front stop batch command) × (stop_now ≡ (is_fault reply || stop))
-
-  -- the entry of a command that was done and not answered
-  abbrev entry_of : LineEntry
-  entry_of = record { keepers = numbers_of (rose_test faults faults_now); desks = []; own = numbers_of (rose_test own own_now) }
-
-  step_of : (w : List ReplicaState) (s new : ReplicaState) (w2 : List ReplicaState) (reply : Reply) → slice_get w (place_of command) ≡ Some s → w2 ≡ set w (place_of command) new → ReplicaStep s command Named (Rose own own_now) new reply → Step w command entry_of reply w2
-  step_of w s new w2 reply stands after step = record {
-    old = s;
-    new = new;
-    stands = stands;
-    after = after;
-    step = row_map (Refuses s command) (Plan s command) Named (Rose own own_now) _ _ s new reply
-        (λ up. named (rose_test faults faults_now) entry_of.keepers (place_of command) refl (first_place command there) (le-leb _ _ up.0))
-        (λ up. named (rose_test own own_now) entry_of.own (place_of command) refl (first_place command there) (le-leb _ _ up)) step;
-  }
-
-  pub cut_short : (old new : Option (List ReplicaState)) → Told old new (λ w w2. ShortStep w command Said Named (Rose own own_now) w2) → CutsShort (IsCalm quiet own fuse) old faults stop command new faults_now stop_now
-  cut_short None new short = inl (there, tt)
-  cut_short (Some w) None short = absurd short
-  cut_short (Some w) (Some w2) short = over short.change
+  pub cut_short : Shortens k desk_faults command old new → WorldGoes k desk_faults 0 (arms command) old new → CutsShort (state k desk_faults old) (tally k desk_faults old) command (state k desk_faults new) (tally k desk_faults new)
+  cut_short short goes = record { left = by_left short.left; paid = goes.paid; calm = goes.calm }
     where
-      over : ReplicaShort short.old command Said Named (Rose own own_now) short.new → CutsShort (IsCalm quiet own fuse) (Some w) faults stop command (Some w2) faults_now stop_now
-      over (inl left) = inl (there, record { old = short.old; new = short.new; stands = short.stands; after = short.after; change = left })
-      over (inr (reply, said, step)) = inr (
-        reply,
-        record {
-          answer = record { reply = reply; entry = entry_of };
-          says = refl;
-          step = (there, step_of w short.old short.new w2 reply short.stands short.after step);
-          counted = within_one (is_fault reply) faults faults_now later (λ e. (fault_named short.old short.new command _ _ reply step e).0);
-          owned = λ calm. (
-            ap names_none (none_own own own_now quiet quiet_now (rose_test own own_now) fuse entry_of.own stays refl (λ is. leb-true _ _ is) calm),
-            ap (λ (b : Bool). cond b 1 0) (no_fault_where (is_fault reply) (λ e. (fault_named short.old short.new command _ _ reply step e).1 calm)),
-          );
-          front = (batch, said.0);
-          stops = said.1;
-        },
-      )
+      by_left : LeavesStep (state k desk_faults old) command (state k desk_faults new) ⊎ ((reply : Reply) × (is_there (state k desk_faults old) command ≡ true)
+          × Row (state k desk_faults old) command (KeeperRose k desk_faults old new) (OwnRose k desk_faults old new) (DeskRose k desk_faults old new) reply (state k desk_faults new) × WorldGoes k desk_faults (cond (is_fault reply) 1 0) (arms command) old new)
+          → LeavesStep (state k desk_faults old) command (state k desk_faults new)
+          ⊎ ((answer : Answer) × IsAnswered (state k desk_faults old) (tally k desk_faults old) (Some (Some command)) (state k desk_faults new) (tally k desk_faults new) (Some answer))
+      by_left (inl leaves) = inl leaves
+      by_left (inr (reply, there, row, done)) =
+          let found : IsEntry (state k desk_faults old) command (is_calm k desk_faults old) reply (state k desk_faults new) = entry_of _ command (is_calm k desk_faults old) _ _ _ reply _ there (λ calm. no_own calm (done.calm calm)) (λ calm. no_desk calm (done.calm calm)) row in
+          inr (
+            record { reply = reply; entry = found.entry },
+            record { step = found.step; tallies = record { paid = done.paid; calm = done.calm; owned = λ calm. owns_of_none (record { reply = reply; entry = found.entry }) (found.owned calm) } },
+          )
 
--- the record after a command, whatever came of it
-pub longer : (P : Reply → LineEntry → Type 0) (old new : List LineEntry) (result : Result Reply ActError) → IfOk result (λ reply. Recorded (P reply) old new) → (IsErrOf result ActError.BadLine → new ≡ old) → (IsErrOf result ActError.Memory → new ≡ old) → IsLonger old new
-longer P old new (Ok reply) line bad short = inr (line.entry, line.grows)
-longer P old new (Err ActError.BadLine) line bad short = inl (bad refl)
-longer P old new (Err ActError.Memory) line bad short = inl (short refl)
+-- an answer that is written, or some first bytes of it
+module _ {K D : Type 0} {g : keeper.Ghosts K D} {h : counted.Ghosts K} {i : counted.Ghosts D} {k : Members K D} {desk_faults : D → ℕ} {command : Command} {old new : World K D g h i} {reply : Reply} (is : AnswersIn k desk_faults command old new reply) where
+  pub executes : {E : Type 0} (before after : Option (List ℕ)) (result : Result (Unit {0}) E) → OnOk result (Appends before after (reply_text reply)) → OnOk result (Executes (state k desk_faults old) (tally k desk_faults old) (Some (Some command)) (state k desk_faults new) (tally k desk_faults new) before after)
+  executes before after (Err error) written = tt
+  executes before after (Ok done) written = record { answer = Some is.answer; answered = is.answered; written = subst (λ (r : Reply). Appends before after (reply_text r)) (sym is.says) written }
+
+  pub executes_part : (before after : Option (List ℕ)) → AppendsPart before after (reply_text reply) → ExecutesPart (state k desk_faults old) (tally k desk_faults old) (Some (Some command)) (state k desk_faults new) (tally k desk_faults new) before after
+  executes_part before after written = record { answer = Some is.answer; answered = is.answered; written = subst (λ (r : Reply). AppendsPart before after (reply_text r)) (sym is.says) written }

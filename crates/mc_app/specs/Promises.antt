@@ -1,56 +1,85 @@
 -- What is promised of every run.
-use Rattle.std.specs.Prelude.{◌≡◌, ℕ, Bool, true, false, List, [], ◌∷◌, ◌++◌, length, take, Option, Some, slice_get}
+use Rattle.std.specs.Prelude.{◌≡◌, ⊤, ℕ, ◌==◌, ◌&&◌, ◌||◌, Bool, true, false, List, [], ◌∷◌, ◌++◌, length, take, Option, Some, None, is_some, slice_get}
+use Rattle.std.specs.List.{list_any}
 use Rattle.mc_base.specs.Told.{Told}
 use Rattle.mc_base.specs.declared.cid.Cid.{Cid}
+use Rattle.mc_keep.specs.Causes.{has_fired}
+use Rattle.mc_keep.specs.declared.fuse.Fuse.{Fuse}
 use Rattle.mc_model.specs.Events.{GoesOn}
 use Rattle.mc_model.specs.Kept.{Kept}
 use Rattle.mc_model.specs.Made.{made_cid}
-use Rattle.mc_model.specs.State.{OpenBatch, kept_of}
+use Rattle.mc_model.specs.State.{OpenBatch, durable_of, kept_of}
 use Rattle.mc_model.specs.declared.delta.Delta.{Delta}
 use Rattle.mc_core.specs.Batches.{delta_of_batch}
 use Rattle.mc_core.specs.Deletes.{IsDeltas}
 use Rattle.mc_core.specs.Puts.{next_links}
-use Rattle.mc_core.specs.Events.{ReplicaState}
 use Rattle.mc_script.specs.Line.{line_of}
 use Rattle.mc_script.specs.declared.command.Command.{Command}
 use Rattle.mc_script.specs.declared.command.Command.TheVariants.{Put, Del, Begin, BatchPut, BatchDel, Commit, Get, Has, Query, Heads}
+use Rattle.mc_script.specs.declared.command.Command.TheVariants.{Cast, Wire, Hear, Plant, Link, Step, State, Same, Stop, Open, StopAt, StopAfter}
 use Rattle.mc_script.specs.declared.reply.Reply.{Reply}
+use Rattle.mc_app.specs.Plans.{batch_in}
 use Rattle.mc_app.specs.Runs.{Answer, Runs}
+use Rattle.mc_app.specs.Worlds.{Place, WorldState, is_down, state_at}
 
--- no replica loses a processed or stored block, and none changes its place or its bytes
-abbrev pub OnlyGrows : List ReplicaState → List ReplicaState → Type 0
-OnlyGrows w w2 = (r : ℕ) → Told (slice_get w r) (slice_get w2 r) (λ s t. GoesOn s.state.durable t.state.durable)
+-- what a keeper tells: none of the processed or stored blocks is lost, and none changes its place or its bytes; and
+-- where it tells nothing, it tells nothing later
+abbrev pub ContentGrows : Option Kept → Option Kept → Type 0
+ContentGrows None new = new ≡ None
+ContentGrows (Some old) None = ⊥
+ContentGrows (Some old) (Some new) = GoesOn (durable_of old) (durable_of new)
 
--- between two worlds the replica with this number has processed a block, and the first one is this over what was
--- processed before
-pub record HasProcessed (w : List ReplicaState) (r : ℕ) (cid : Kept → Cid) (w2 : List ReplicaState) : Type 0 where
-  pub old : ReplicaState
-  pub new : ReplicaState
-  pub stood : slice_get w r ≡ Some old
-  pub stands : slice_get w2 r ≡ Some new
-  pub processed :
-      slice_get new.state.durable.order (length old.state.durable.order) ≡ Some (cid (kept_of old.state.durable))
+-- so does what the keeper of a replica tells, and the replica is there where it was
+abbrev pub GrowsAt : Option Place → Option Place → Type 0
+GrowsAt None None = ⊤
+GrowsAt None (Some q) = ⊥
+GrowsAt (Some p) None = ⊥
+GrowsAt (Some p) (Some q) = ContentGrows p.content q.content
+
+-- so do all replicas of a world, and they are as many
+pub record OnlyGrows (w w2 : WorldState) : Type 0 where
+  pub many_same : length w2.places ≡ length w.places
+  pub each : (r : ℕ) → GrowsAt (slice_get w.places r) (slice_get w2.places r)
+
+-- between two worlds the replica with this number has processed a block, where its content is told: the first one is
+-- this over what was processed before
+pub record HasProcessed (w : WorldState) (r : ℕ) (cid : Kept → Cid) (w2 : WorldState) : Type 0 where
+  pub old : Place
+  pub new : Place
+  pub stood : slice_get w.places r ≡ Some old
+  pub stands : slice_get w2.places r ≡ Some new
+  pub processed : Told (state_at old) (state_at new) (λ s t.
+      slice_get t.state.durable.order (length s.state.durable.order) ≡ Some (cid (kept_of s.state.durable)))
 
 -- the identifiers of blocks of which the first has these links, and each later one links to the one before
 abbrev pub chain_cids : List Cid → List Delta → List Cid
 chain_cids links [] = []
 chain_cids links (delta ∷ deltas) = made_cid links delta ∷ chain_cids (made_cid links delta ∷ []) deltas
 
--- the replica with this number has processed all blocks of a delete, and no other
-pub record HasDeleted (w : List ReplicaState) (r : ℕ) (key : List ℕ) (count : ℕ) (w2 : List ReplicaState) : Type 0 where
-  pub old : ReplicaState
-  pub new : ReplicaState
-  pub deltas : List Delta
-  pub stood : slice_get w r ≡ Some old
-  pub stands : slice_get w2 r ≡ Some new
-  pub are : IsDeltas (kept_of old.state.durable) key deltas
-  pub counted : count ≡ length deltas
-  pub processed : new.state.durable.order
-      ≡ old.state.durable.order ++ chain_cids (next_links (kept_of old.state.durable)) deltas
+-- the replica with this number has processed all blocks of a delete, and no other, where its content is told
+pub record HasDeleted (w : WorldState) (r : ℕ) (key : List ℕ) (count : ℕ) (w2 : WorldState) : Type 0 where
+  pub old : Place
+  pub new : Place
+  pub stood : slice_get w.places r ≡ Some old
+  pub stands : slice_get w2.places r ≡ Some new
+  pub processed : Told (state_at old) (state_at new) (λ s t. (deltas : List Delta)
+      × IsDeltas (kept_of s.state.durable) key deltas × (count ≡ length deltas)
+      × (t.state.durable.order ≡ s.state.durable.order ++ chain_cids (next_links (kept_of s.state.durable)) deltas))
 
 -- the block of a batch
 abbrev pub batch_cid : OpenBatch → Kept → Cid
 batch_cid batch kept = made_cid (next_links kept) (delta_of_batch kept batch)
+
+-- the batch that is open at a replica
+abbrev pub batch_at : Option Place → Option OpenBatch
+batch_at None = None
+batch_at (Some p) = batch_in p.run
+
+-- the replica with this number had a batch open, and has processed its block, where its content is told
+pub record HasCommitted (w : WorldState) (r : ℕ) (w2 : WorldState) : Type 0 where
+  pub batch : OpenBatch
+  pub was_open : batch_at (slice_get w.places r) ≡ Some batch
+  pub processed : HasProcessed w r (batch_cid batch) w2
 
 -- a command that only reads
 abbrev pub is_read : Command → Bool
@@ -58,12 +87,15 @@ is_read (Get r key) = true
 is_read (Has r key) = true
 is_read (Query r prefix skip take) = true
 is_read (Heads r) = true
-is_read (Put r key bytes) = false
-is_read (Del r key) = false
-is_read (Begin r) = false
-is_read (BatchPut r key bytes) = false
-is_read (BatchDel r key) = false
-is_read (Commit r) = false
+is_read command = false
+
+-- the same command to read, at another replica
+abbrev pub read_at : ℕ → Command → Command
+read_at other (Get r key) = Get other key
+read_at other (Has r key) = Has other key
+read_at other (Query r prefix skip take) = Query other prefix skip take
+read_at other (Heads r) = Heads other
+read_at other command = command
 
 -- the line at this place, counted from 0, asks for this and is answered so
 pub record IsLineAt (lines : List (List ℕ)) (answers : List (Option Answer)) (k : ℕ) (command : Command) (reply : Reply)
@@ -76,7 +108,59 @@ pub record IsLineAt (lines : List (List ℕ)) (answers : List (Option Answer)) (
   pub says : answer.reply ≡ reply
 
 -- P ties the world before the line at this place to the last one
-abbrev pub SinceLine : Option (List ReplicaState) → List (List ℕ) → List (Option Answer) → ℕ
-    → Option (List ReplicaState) → (List ReplicaState → List ReplicaState → Type 0) → Type 0
+abbrev pub SinceLine : WorldState → List (List ℕ) → List (Option Answer) → ℕ → WorldState
+    → (WorldState → WorldState → Type 0) → Type 0
 SinceLine first lines answers k last P =
-    (before : Option (List ReplicaState)) × Runs first (take k lines) (take k answers) before × Told before last P
+    (before : WorldState) × Runs first (take k lines) (take k answers) before × P before last
+
+-- a replica tells what it keeps
+abbrev pub tells_at : Option Place → Bool
+tells_at None = false
+tells_at (Some p) = is_some p.content
+
+-- the fuse of a replica's keeper
+abbrev pub fuse_at : Option Place → Option Fuse
+fuse_at None = None
+fuse_at (Some p) = p.fuse
+
+-- whether the fuse of the replica with this number made a commit fail between two worlds
+abbrev pub fired_at : WorldState → WorldState → ℕ → Bool
+fired_at w w2 r = has_fired (fuse_at (slice_get w.places r)) (fuse_at (slice_get w2.places r))
+
+-- the replicas that a command is refused at with `stopped` where one of them doesn't run
+abbrev pub asks_running : Command → List ℕ
+asks_running (Put r key bytes) = r ∷ []
+asks_running (Del r key) = r ∷ []
+asks_running (Begin r) = r ∷ []
+asks_running (BatchPut r key bytes) = r ∷ []
+asks_running (BatchDel r key) = r ∷ []
+asks_running (Commit r) = r ∷ []
+asks_running (Get r key) = r ∷ []
+asks_running (Has r key) = r ∷ []
+asks_running (Query r prefix skip take) = r ∷ []
+asks_running (Heads r) = r ∷ []
+asks_running (Cast r) = r ∷ []
+asks_running (Wire bytes) = []
+asks_running (Hear r message) = r ∷ []
+asks_running (Plant r cid bytes) = []
+asks_running (Link r other up) = []
+asks_running (Step r) = r ∷ []
+asks_running (State r) = r ∷ []
+asks_running (Same r other) = r ∷ other ∷ []
+asks_running (Stop r) = r ∷ []
+asks_running (Open r) = []
+asks_running (StopAt r commit) = []
+asks_running (StopAfter r commit) = []
+
+-- whether a replica is there and doesn't run
+abbrev pub has_stopped : Option Place → Bool
+has_stopped None = false
+has_stopped (Some p) = is_down p.run
+
+-- whether one of these replicas of a world doesn't run
+abbrev pub some_stopped : WorldState → List ℕ → Bool
+some_stopped w numbers = list_any (λ r. has_stopped (slice_get w.places r)) numbers
+
+-- whether these two are those two, in either order
+abbrev pub same_pair : ℕ → ℕ → ℕ → ℕ → Bool
+same_pair r other a b = (r == a && other == b) || (r == b && other == a)

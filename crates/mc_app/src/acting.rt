@@ -1,23 +1,30 @@
 // One command in a world.
-ghost use Rattle.std.specs.Prelude.{◌≡◌, ◌↔◌, ◌++◌, [], ◌∷◌, true, false, IfOk, OnOk, OnErr, IsErrOf};
-ghost use Rattle.mc_base.specs.Causes.{Rose};
-ghost use Rattle.mc_app.specs.Record.{numbers_of};
-ghost use Rattle.mc_app.specs.Step.{answers_fault, has_replica};
-ghost use Rattle.mc_app.specs.Words.{Records, Says, Shortens, WorldKeeps};
+ghost use Rattle.std.specs.Prelude.{◌≡◌, true, false, IfOk, IsErrOf};
+ghost use Rattle.std.specs.Prelude.{cond};
+ghost use Rattle.mc_script.specs.Limits.{IsInLimits};
+ghost use Rattle.mc_app.specs.Asks.{arms, is_there};
+ghost use Rattle.mc_app.specs.Keepers.{WorldGoes};
+ghost use Rattle.mc_app.specs.Step.{answers_fault};
+ghost use Rattle.mc_app.specs.Words.{ActsOn, Records, Shortens, state};
 
-use crate::replies::act_at;
-use crate::{LineEntry, World};
-use mc_base::List;
-use mc_keep::Keeper;
+use crate::World;
+use crate::asks::is_there;
+use crate::messages::{cast_in, hear_in, send_in};
+use crate::places::{arm_in, link_in, open_in, plant_in, reply_in, stop_in};
+use crate::record::{counts_of, record_line};
+use crate::sames::same_in;
+use crate::stepping::step_in;
+use mc_keep::{Fused, Keeper};
 use mc_script::{Command, Reply};
 use std::alloc::{AllocError, Global};
+use std::sync::Wait;
 use thiserror::Error;
 
 /// Why a command was not answered.
 #[derive(Clone, Copy, Debug, PartialEq, Eq, Error)]
 pub enum ActError {
-    /// It names a replica that isn't there.
-    #[error("no such replica")]
+    /// It names a replica or a message that isn't there.
+    #[error("no such replica or message")]
     BadLine,
     /// Want of memory.
     #[error("out of memory")]
@@ -35,82 +42,73 @@ impl From<AllocError> for ActError {
     }
 }
 
-/// Executes one command. The world and the reply are by `Step`, and the record grows by one entry, which names exactly
-/// the keepers whose counts rose, and as failed by itself no quiet one whose own count was 0. Over every keeper the
-/// reply is the refusal that the replica decides alone (stopped, the batch, the key, the value), where one is due, and
-/// over a quiet one without a fuse it is no fault. `BadLine` comes exactly where the command names a replica that
-/// isn't there, and changes nothing. After `Memory` the record is as it was, and the command is done, or its replica
-/// is what a want of memory in the call leaves: as it was, or after some first blocks of a delete.
-pub fn act<K: Keeper>(
-    world: &mut World<K>,
+/// Executes one command, whose numbers are within the limits of its line. The world and the reply are by `Step`, and the
+/// record grows by one entry, which names exactly the keepers and desks whose counts rose; where all keepers and desks
+/// are quiet and have not failed, it names none that failed by itself. `BadLine` comes exactly where the command names a
+/// replica or a message that isn't there, and changes nothing. After `Memory` the record is as it was, and the command
+/// is done, or its replica is what a want of memory in the call leaves: as it was, after some first blocks of a delete,
+/// or with the first block that waited at the back of those that wait. Each fault that is answered is paid by a count
+/// that rose, or by a fuse that is armed no more.
+pub fn act<K: Keeper, W: Wait>(
+    world: &mut World<Fused<K>>,
     alloc: Global,
     command: &Command,
+    wait: &W,
 ) -> Result<Reply, ActError>
-    ensures line { IfOk result (Records K.Keeper command.now world.old world.new) }
-    ensures says { IfOk result (Says K.Keeper command.now world.old.replica world.new.replica) }
-    ensures there { OnOk result (has_replica command.now ≡ true) }
-    ensures bad { IsErrOf result ActError.BadLine → (has_replica command.now ≡ false) × (world.new ≡ world.old) }
-    ensures short { IsErrOf result ActError.Memory → Shortens K.Keeper command.now world.old world.new }
-    ensures keeps { WorldKeeps K.Keeper (answers_fault result) world.old world.new }
+    requires limits { IsInLimits command.now }
+    ensures line { IfOk result (Records ⟦<Fused<K> as Keeper>⟧ K.Desk.faults command.now world.old world.new) }
+    ensures bad { IsErrOf result ActError.BadLine →
+        (is_there (state ⟦<Fused<K> as Keeper>⟧ K.Desk.faults world.old) command.now ≡ false)
+        × (world.new ≡ world.old) }
+    ensures short { IsErrOf result ActError.Memory →
+        Shortens ⟦<Fused<K> as Keeper>⟧ K.Desk.faults command.now world.old world.new }
+    ensures goes { WorldGoes ⟦<Fused<K> as Keeper>⟧ K.Desk.faults (cond (answers_fault result) 1 0)
+        (arms command.now) world.old world.new }
 {
-    if !has_replica(command) {
+    if !is_there(world, command) {
         return Err(ActError::BadLine);
     }
-    let faults = world.replica.keeper().faults();
-    let own_faults = world.replica.keeper().own_faults();
-    let reply = act_at(&mut world.replica, alloc, command)?;
-    let keepers = numbers_of(alloc, rose(faults, world.replica.keeper().faults()))?;
-    let own = numbers_of(alloc, rose(own_faults, world.replica.keeper().own_faults()))?;
-    let desks = List::new(alloc);
-    let entry = LineEntry {
-        keepers,
-        desks,
-        own,
-    };
-    push_entry(&mut world.entries, entry)?;
-    Ok(reply)
+    let before = counts_of(world, alloc)?;
+    let reply = act_on(world, alloc, command, wait)?;
+    match record_line(world, alloc, &before) {
+        Ok(()) => Ok(reply),
+        Err(AllocError) => Err(ActError::Memory),
+    }
 }
 
-// Whether a command names the replica.
-fn has_replica(command: &Command) -> bool
-    ensures { result ≡ has_replica command.now }
+// A command that names only what is there.
+fn act_on<K: Keeper, W: Wait>(
+    world: &mut World<Fused<K>>,
+    alloc: Global,
+    command: &Command,
+    wait: &W,
+) -> Result<Reply, ActError>
+    requires limits { IsInLimits command.now }
+    requires there { is_there (state ⟦<Fused<K> as Keeper>⟧ K.Desk.faults world.old) command.now ≡ true }
+    ensures acts { ActsOn ⟦<Fused<K> as Keeper>⟧ K.Desk.faults command.now result world.old world.new }
 {
     match command {
-        Command::Put { r, .. } => *r == 0,
-        Command::Del { r, .. } => *r == 0,
-        Command::Begin { r } => *r == 0,
-        Command::BatchPut { r, .. } => *r == 0,
-        Command::BatchDel { r, .. } => *r == 0,
-        Command::Commit { r } => *r == 0,
-        Command::Get { r, .. } => *r == 0,
-        Command::Has { r, .. } => *r == 0,
-        Command::Query { r, .. } => *r == 0,
-        Command::Heads { r } => *r == 0,
+        Command::Cast { r } => cast_in(world, alloc, *r),
+        Command::Wire { bytes } => send_in(world, alloc, bytes.as_slice()),
+        Command::Hear { r, message } => hear_in(world, alloc, *r, *message),
+        Command::Plant { r, cid, bytes } => plant_in(world, alloc, *r, cid, bytes.as_slice()),
+        Command::Link { r, other, up } => link_in(world, *r, *other, *up),
+        Command::Step { r } => step_in(world, alloc, *r, wait),
+        Command::Same { r, other } => same_in(world, *r, *other),
+        Command::Stop { r } => stop_in(world, *r),
+        Command::Open { r } => open_in(world, alloc, *r),
+        Command::StopAt { r, commit } => arm_in(world, *r, *commit, false),
+        Command::StopAfter { r, commit } => arm_in(world, *r, *commit, true),
+        Command::Put { .. }
+        | Command::Del { .. }
+        | Command::Begin { .. }
+        | Command::BatchPut { .. }
+        | Command::BatchDel { .. }
+        | Command::Commit { .. }
+        | Command::Get { .. }
+        | Command::Has { .. }
+        | Command::Query { .. }
+        | Command::Heads { .. }
+        | Command::State { .. } => reply_in(world, alloc, command),
     }
-}
-
-fn push_entry(entries: &mut List<LineEntry>, entry: LineEntry) -> Result<(), AllocError>
-    ensures ok { OnOk result (entries.new ≡ entries.old ++ entry ∷ []) }
-    ensures err { OnErr result (entries.new ≡ entries.old) }
-{
-    entries.push(entry)?;
-    Ok(())
-}
-
-// Whether a count rose, or stands at its last value.
-fn rose(before: u64, now: u64) -> bool
-    ensures { (result ≡ true) ↔ Rose before now }
-{
-    now >= before.saturating_add(1)
-}
-
-// The number of the replica, where its count rose.
-fn numbers_of(alloc: Global, rose: bool) -> Result<List<u64>, AllocError>
-    ensures { IfOk result (λ numbers. numbers ≡ numbers_of rose) }
-{
-    let mut numbers = List::new(alloc);
-    if rose {
-        numbers.push(0)?;
-    }
-    Ok(numbers)
 }

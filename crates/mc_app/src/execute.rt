@@ -1,24 +1,33 @@
 // A line, its command, and the way of its reply into the sink.
-ghost use Rattle.std.specs.Prelude.{◌≡◌, ◌≤◌, [], OnOk, IfOk, IsErrOf, Some, false};
+ghost use Rattle.std.specs.Prelude.{◌≡◌, [], OnOk, IfOk, IsErrOf, Some, false};
 ghost use Rattle.std.specs.Io.KnownBytes.{Appends, Keeps};
 ghost use Rattle.mc_base.specs.Causes.{Counts};
 ghost use Rattle.mc_base.specs.Told.{AppendsPart};
+ghost use Rattle.mc_script.specs.Limits.{IsInLimits};
 ghost use Rattle.mc_script.specs.Line.{line_of};
 ghost use Rattle.mc_script.specs.ReplyText.{reply_text};
-ghost use Rattle.mc_app.specs.declared.acting.ActError.{ActError};
+ghost use Rattle.mc_app.specs.Asks.{is_there};
+ghost use Rattle.mc_app.specs.LineWords.{
+  AnswersIn,
+  CutsShortIn,
+  ExecutesIn,
+  ExecutesPartIn,
+  LineShortIn,
+  SameWorld,
+};
 ghost use Rattle.mc_app.specs.Progress.{IsBadCommand};
 ghost use Rattle.mc_app.specs.Record.{IsLonger};
-ghost use Rattle.mc_app.specs.Step.{has_replica};
-ghost use Rattle.mc_app.specs.Words.{AnswersIn, CutsShortIn, ExecutesIn, ExecutesPartIn, LineShortIn, WorldKeeps};
+ghost use Rattle.mc_app.specs.Words.{state};
 ghost use Rattle.mc_app.specs.declared.execute.ExecuteError.TheVariants.{Failed as WriteFailed, Memory};
 
 use crate::write::write_text;
 use crate::{ActError, LineEntry, World, act};
 use mc_base::{Bytes, Failed, List, Sink};
-use mc_keep::Keeper;
+use mc_keep::{Fused, Keeper};
 use mc_script::{Command, LineError, Reply, read_line, write_reply};
 use std::alloc::{AllocError, Global};
 use std::mem::replace;
+use std::sync::Wait;
 use thiserror::Error;
 
 /// Why a line was not executed, or its reply not written.
@@ -51,31 +60,32 @@ impl From<AllocError> for ExecuteError {
     }
 }
 
-/// Executes a line, and writes its reply. `Bad` comes exactly where the line is no command or names a replica that
-/// isn't there, and then nothing is written and nothing changes. `Failed` comes only where the sink failed, and then
-/// some first bytes of the reply are written. Under `Memory` nothing is written, and the command was done, or nothing
-/// or a part of it.
-pub fn execute_line<K: Keeper, O: Sink>(
+/// Executes a line, and writes its reply. `Bad` comes exactly where the line is no command, or names a replica or a
+/// message that isn't there, and then nothing is written and nothing changes. `Failed` comes only where the sink failed,
+/// and then some first bytes of the reply are written. Under `Memory` nothing is written, and the command was done, or
+/// nothing or a part of it.
+pub fn execute_line<K: Keeper, O: Sink, W: Wait>(
     alloc: Global,
-    world: &mut World<K>,
+    world: &mut World<Fused<K>>,
     line: &[u8],
     out: &mut O,
+    wait: &W,
 ) -> Result<(), ExecuteError>
-    ensures ok { OnOk result (ExecutesIn K.Keeper (line_of line.now) world.old world.new
+    ensures ok { OnOk result (ExecutesIn ⟦<Fused<K> as Keeper>⟧ K.Desk.faults (line_of line.now) world.old world.new
         (O.written out.old) (O.written out.new)) }
-    ensures bad { IsErrOf result ExecuteError.Bad → IsBadCommand (line_of line.now)
+    ensures bad { IsErrOf result ExecuteError.Bad →
+        IsBadCommand (state ⟦<Fused<K> as Keeper>⟧ K.Desk.faults world.old) (line_of line.now)
         × Keeps (O.written out.old) (O.written out.new) × (world.new ≡ world.old) }
-    ensures failed { IsErrOf result ExecuteError.Failed → ExecutesPartIn K.Keeper (line_of line.now)
-        world.old world.new (O.written out.old) (O.written out.new) }
+    ensures failed { IsErrOf result ExecuteError.Failed → ExecutesPartIn ⟦<Fused<K> as Keeper>⟧ K.Desk.faults
+        (line_of line.now) world.old world.new (O.written out.old) (O.written out.new) }
     ensures memory { IsErrOf result ExecuteError.Memory → Keeps (O.written out.old) (O.written out.new) }
     ensures short { IsErrOf result ExecuteError.Memory →
-        LineShortIn K.Keeper (line_of line.now) world.old world.new }
+        LineShortIn ⟦<Fused<K> as Keeper>⟧ K.Desk.faults (line_of line.now) world.old world.new }
     ensures entries { IsLonger world.old.entries world.new.entries }
-    ensures keeps { WorldKeeps K.Keeper false world.old world.new }
     ensures cause { Counts (O.faults out.old) (O.faults out.new) (IsErrOf result ExecuteError.Failed) }
 {
     match read_line(alloc, line) {
-        Ok(Some(command)) => answer(alloc, world, &command, out),
+        Ok(Some(command)) => answer(alloc, world, &command, out, wait),
         Ok(None) => Ok(()),
         Err(LineError::Bad) => Err(ExecuteError::Bad),
         Err(LineError::Memory) => Err(ExecuteError::Memory),
@@ -83,27 +93,29 @@ pub fn execute_line<K: Keeper, O: Sink>(
 }
 
 /// Executes a line of a world whose record is empty, writes its reply as `execute_line` does, and empties the record.
-pub fn execute_and_clear<K: Keeper, O: Sink>(
+pub fn execute_and_clear<K: Keeper, O: Sink, W: Wait>(
     alloc: Global,
-    world: &mut World<K>,
+    world: &mut World<Fused<K>>,
     line: &[u8],
     out: &mut O,
+    wait: &W,
 ) -> Result<(), ExecuteError>
     requires { world.old.entries ≡ [] }
-    ensures ok { OnOk result (ExecutesIn K.Keeper (line_of line.now) world.old world.new
+    ensures ok { OnOk result (ExecutesIn ⟦<Fused<K> as Keeper>⟧ K.Desk.faults (line_of line.now) world.old world.new
         (O.written out.old) (O.written out.new)) }
-    ensures bad { IsErrOf result ExecuteError.Bad → IsBadCommand (line_of line.now)
-        × Keeps (O.written out.old) (O.written out.new) × (world.new.replica ≡ world.old.replica) }
-    ensures failed { IsErrOf result ExecuteError.Failed → ExecutesPartIn K.Keeper (line_of line.now)
-        world.old world.new (O.written out.old) (O.written out.new) }
+    ensures bad { IsErrOf result ExecuteError.Bad →
+        IsBadCommand (state ⟦<Fused<K> as Keeper>⟧ K.Desk.faults world.old) (line_of line.now)
+        × Keeps (O.written out.old) (O.written out.new)
+        × SameWorld ⟦<Fused<K> as Keeper>⟧ K.Desk.faults world.old world.new }
+    ensures failed { IsErrOf result ExecuteError.Failed → ExecutesPartIn ⟦<Fused<K> as Keeper>⟧ K.Desk.faults
+        (line_of line.now) world.old world.new (O.written out.old) (O.written out.new) }
     ensures memory { IsErrOf result ExecuteError.Memory → Keeps (O.written out.old) (O.written out.new) }
     ensures short { IsErrOf result ExecuteError.Memory →
-        LineShortIn K.Keeper (line_of line.now) world.old world.new }
+        LineShortIn ⟦<Fused<K> as Keeper>⟧ K.Desk.faults (line_of line.now) world.old world.new }
     ensures entries { world.new.entries ≡ [] }
-    ensures keeps { WorldKeeps K.Keeper false world.old world.new }
     ensures cause { Counts (O.faults out.old) (O.faults out.new) (IsErrOf result ExecuteError.Failed) }
 {
-    let result = execute_line(alloc, world, line, out);
+    let result = execute_line(alloc, world, line, out, wait);
     clear_record(alloc, &mut world.entries);
     result
 }
@@ -118,25 +130,28 @@ fn clear_record(alloc: Global, entries: &mut List<LineEntry>)
 }
 
 // Does a command, and writes its reply.
-fn answer<K: Keeper, O: Sink>(
+fn answer<K: Keeper, O: Sink, W: Wait>(
     alloc: Global,
-    world: &mut World<K>,
+    world: &mut World<Fused<K>>,
     command: &Command,
     out: &mut O,
+    wait: &W,
 ) -> Result<(), ExecuteError>
-    ensures ok { OnOk result (ExecutesIn K.Keeper (Some (Some command.now)) world.old world.new
-        (O.written out.old) (O.written out.new)) }
-    ensures bad { IsErrOf result ExecuteError.Bad → (has_replica command.now ≡ false)
+    requires limits { IsInLimits command.now }
+    ensures ok { OnOk result (ExecutesIn ⟦<Fused<K> as Keeper>⟧ K.Desk.faults (Some (Some command.now))
+        world.old world.new (O.written out.old) (O.written out.new)) }
+    ensures bad { IsErrOf result ExecuteError.Bad →
+        (is_there (state ⟦<Fused<K> as Keeper>⟧ K.Desk.faults world.old) command.now ≡ false)
         × Keeps (O.written out.old) (O.written out.new) × (world.new ≡ world.old) }
-    ensures failed { IsErrOf result ExecuteError.Failed → ExecutesPartIn K.Keeper (Some (Some command.now))
-        world.old world.new (O.written out.old) (O.written out.new) }
+    ensures failed { IsErrOf result ExecuteError.Failed → ExecutesPartIn ⟦<Fused<K> as Keeper>⟧ K.Desk.faults
+        (Some (Some command.now)) world.old world.new (O.written out.old) (O.written out.new) }
     ensures memory { IsErrOf result ExecuteError.Memory → Keeps (O.written out.old) (O.written out.new) }
-    ensures short { IsErrOf result ExecuteError.Memory → CutsShortIn K.Keeper command.now world.old world.new }
+    ensures short { IsErrOf result ExecuteError.Memory →
+        CutsShortIn ⟦<Fused<K> as Keeper>⟧ K.Desk.faults command.now world.old world.new }
     ensures entries { IsLonger world.old.entries world.new.entries }
-    ensures keeps { WorldKeeps K.Keeper false world.old world.new }
     ensures cause { Counts (O.faults out.old) (O.faults out.new) (IsErrOf result ExecuteError.Failed) }
 {
-    let reply = match act_on(alloc, world, command) {
+    let reply = match act_on(alloc, world, command, wait) {
         Ok(reply) => reply,
         Err(ActError::BadLine) => return Err(ExecuteError::Bad),
         Err(ActError::Memory) => return Err(ExecuteError::Memory),
@@ -159,16 +174,21 @@ fn write_answer<O: Sink>(alloc: Global, reply: &Reply, out: &mut O) -> Result<()
     Ok(())
 }
 
-fn act_on<K: Keeper>(
+// Does a command, in the words of a line.
+fn act_on<K: Keeper, W: Wait>(
     alloc: Global,
-    world: &mut World<K>,
+    world: &mut World<Fused<K>>,
     command: &Command,
+    wait: &W,
 ) -> Result<Reply, ActError>
-    ensures answered { IfOk result (AnswersIn K.Keeper command.now world.old world.new) }
-    ensures bad { IsErrOf result ActError.BadLine → (has_replica command.now ≡ false) × (world.new ≡ world.old) }
-    ensures short { IsErrOf result ActError.Memory → CutsShortIn K.Keeper command.now world.old world.new }
+    requires limits { IsInLimits command.now }
+    ensures answered { IfOk result (AnswersIn ⟦<Fused<K> as Keeper>⟧ K.Desk.faults command.now world.old world.new) }
+    ensures bad { IsErrOf result ActError.BadLine →
+        (is_there (state ⟦<Fused<K> as Keeper>⟧ K.Desk.faults world.old) command.now ≡ false)
+        × (world.new ≡ world.old) }
+    ensures short { IsErrOf result ActError.Memory →
+        CutsShortIn ⟦<Fused<K> as Keeper>⟧ K.Desk.faults command.now world.old world.new }
     ensures entries { IsLonger world.old.entries world.new.entries }
-    ensures keeps { WorldKeeps K.Keeper false world.old world.new }
 {
-    act(world, alloc, command)
+    act(world, alloc, command, wait)
 }

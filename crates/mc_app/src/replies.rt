@@ -1,14 +1,16 @@
 // What each command does at its replica.
-ghost use Rattle.std.specs.Prelude.{◌≡◌, false, None, IfOk, IsErrOf, map};
+ghost use Rattle.std.specs.Prelude.{◌≡◌, false, true, IfOk, map};
 ghost use Rattle.mc_keep.specs.Changes.{heads_in_rows};
 ghost use Rattle.mc_query.specs.Places.{pair_of};
 ghost use Rattle.mc_core.specs.Exact.{front_of, stop_front};
 ghost use Rattle.mc_core.specs.Refusals.{is_fault};
 ghost use Rattle.mc_core.specs.Words.{Acts, Continues};
 ghost use Rattle.mc_app.specs.declared.acting.ActError.{ActError};
-ghost use Rattle.mc_app.specs.Fronts.{call_front, front_reply};
-ghost use Rattle.mc_app.specs.Step.{CallRefusal, Leaves, Plan, answer_of, answers_fault, batch_priority};
-ghost use Rattle.mc_app.specs.Words.{Replies, Says};
+ghost use Rattle.mc_app.specs.Calls.{is_call, CallLeaves, CallMakes};
+ghost use Rattle.mc_app.specs.Plans.{CallRefusal, Leaves, Plan, answer_of, batch_priority, call_front};
+ghost use Rattle.mc_app.specs.Step.{answers_fault};
+ghost use Rattle.mc_app.specs.Words.{can_fail};
+ghost use Rattle.mc_app.specs.Worlds.{WorldState};
 
 use crate::ActError;
 use mc_base::{Bytes, Cid, List, Text};
@@ -18,35 +20,22 @@ use mc_query::Pair;
 use mc_script::{Command, Reply};
 use std::alloc::{AllocError, Global};
 
-// Executes a command at its replica.
-pub(crate) fn act_at<K: Keeper>(
-    replica: &mut Replica<K>,
-    alloc: Global,
-    command: &Command,
-) -> Result<Reply, ActError>
-    ensures step { Replies K.Keeper command.now result replica.old replica.new }
-    ensures says { IfOk result (Says K.Keeper command.now replica.old replica.new) }
-    ensures not_bad { IsErrOf result ActError.BadLine → ⊥ }
-    ensures keeps { Continues K.Keeper (answers_fault result) replica.old replica.new }
-{
-    match call(replica, alloc, command) {
-        Ok(reply) => Ok(reply),
-        Err(error) => answer(error),
-    }
-}
-
 // Calls the replica for a command, and gives the reply to what it did.
-fn call<K: Keeper>(
+pub(crate) fn call<K: Keeper>(
     replica: &mut Replica<K>,
     alloc: Global,
     command: &Command,
 ) -> Result<Reply, CoreError>
-    ensures call { Acts K.Keeper (λ s. CallRefusal s command.now) (λ s. Plan s command.now) (Leaves command.now)
-        result replica.old replica.new }
+    requires single { is_call command.now ≡ true }
+    ensures call { (w : WorldState) → Acts K.Keeper (λ s. CallRefusal w s command.now) (λ s. Plan w s command.now)
+        (Leaves command.now) result replica.old replica.new }
     ensures keeps { Continues K.Keeper (is_fault result) replica.old replica.new }
-    ensures front { front_of result ≡ stop_front replica.old.stopped (call_front replica.old.batch command.now) }
+    ensures front { (w : WorldState) →
+        front_of result ≡ stop_front replica.old.stopped (call_front w replica.old.batch command.now) }
     ensures value { answers_fault result ≡ false }
-    ensures plain { IfOk result (λ reply. front_reply reply ≡ None) }
+    ensures may { can_fail command.now ≡ false → is_fault result ≡ false }
+    ensures leaves { CallLeaves K.Keeper command.now result replica.old replica.new }
+    ensures makes { IfOk result (CallMakes K.Keeper command.now replica.old replica.new) }
 {
     match command {
         Command::Put { key, bytes, .. } => Ok(Reply::Priority {
@@ -87,11 +76,23 @@ fn call<K: Keeper>(
         Command::Heads { .. } => Ok(Reply::Heads {
             heads: heads_of(alloc, replica.heads(alloc)?.as_slice())?,
         }),
+        Command::Cast { .. }
+        | Command::Wire { .. }
+        | Command::Hear { .. }
+        | Command::Plant { .. }
+        | Command::Link { .. }
+        | Command::Step { .. }
+        | Command::State { .. }
+        | Command::Same { .. }
+        | Command::Stop { .. }
+        | Command::Open { .. }
+        | Command::StopAt { .. }
+        | Command::StopAfter { .. } => unreachable!(),
     }
 }
 
 // The reply to a call that did nothing, or not all.
-fn answer(error: CoreError) -> Result<Reply, ActError>
+pub(crate) fn answer(error: CoreError) -> Result<Reply, ActError>
     ensures { result ≡ answer_of error }
 {
     match error {

@@ -1,8 +1,12 @@
-// The replicas of a run, and the record of its lines.
+// The replicas of a run, what is around them, and the record of its lines.
+ghost use Rattle.std.specs.Prelude.{◌≡◌, ◌≤◌, [], true, length, vec_capacity};
+ghost use Rattle.mc_app.specs.Desked.{is_desked};
+
 use crate::LineEntry;
-use crate::room::Room;
-use mc_base::List;
-use mc_core::{OpenCause, Replica};
+use crate::links::Link;
+use crate::seat::Seat;
+use mc_base::{Bytes, List};
+use mc_core::OpenCause;
 use mc_keep::Keeper;
 
 /// A keeper, and its desks.
@@ -17,15 +21,23 @@ pub struct Part<K: Keeper> {
 pub struct NoWorld<K: Keeper> {
     /// Why.
     pub cause: OpenCause,
-    /// The parts, whose keepers tell what they told before.
+    /// The parts, whose keepers tell what they told before, with the desks that were made.
     pub parts: List<Part<K>>,
 }
 
-/// The replica `a`, and the record of the lines that were executed.
+/// Some replicas in order of name, each running or stopped; the messages ever sent, numbered from 1; the links between
+/// the replicas; the offers that are planted at them; and the record of the lines that were executed. Each replica has
+/// its desks at hand, at least one.
 pub struct World<K: Keeper> {
-    pub(crate) replica: Replica<K>,
-    pub(crate) desks: List<K::Desk>,
-    pub(crate) room: Room<Part<K>>,
+    pub(crate) seats: Vec<Seat<K>>,
+    pub(crate) desks: Vec<List<K::Desk>>,
+    pub(crate) bag: List<Bytes>,
+    pub(crate) down: Vec<Link>,
+    // Room for the parts that are handed back.
+    pub(crate) room: Vec<Part<K>>,
     /// One entry for each line that was executed.
     pub entries: List<LineEntry>,
+    pub ghost desked: { is_desked (length seats.items) desks.items ≡ true },
+    pub ghost empty: { room.items ≡ [] },
+    pub ghost roomy: { length seats.items ≤ vec_capacity room },
 }

@@ -1,19 +1,18 @@
 use Rattle.std.proofs.Common.{rules}
-use Rattle.mc_app.proofs.ActFacts.{act_done, act_left, act_line}
-use Rattle.mc_app.proofs.WorldFacts.{calm_goes}
+use Rattle.mc_app.proofs.RecordFacts.{act_goes, act_line, act_not_begun, act_unrecorded, fewer_faults}
 use Rattle.mc_app.proofs.acting.act.Goals as goal
 
-pub returns-clause-line : goal.returns-clause-line
-returns-clause-line g c = act_line g.K.Counted.faults g.K.Keeper.own g.K.Keeper.quiet g.K.Keeper.fuse _ _ _ _ _ _ _ _ _ _ _ (search rules) c.in_ok-push_entry.ensures.ok c.in_ok-keepers.ensures c.in_ok-own.ensures c.new-desks.ensures (rw (c.faults-faults.ensures, c.keeper.ensures, c.faults.ensures, c.keeper-3.ensures) at c.rose.ensures) (rw (c.own_faults-own_faults.ensures, c.keeper-2.ensures, c.own_faults.ensures, c.keeper-4.ensures) at c.rose-2.ensures) c.in_ok-reply.ensures.keeps.keeper_goes.still_quiet (calm_goes _ _ c.in_ok-reply.ensures.keeps.keeper_goes) c.in_ok-reply.ensures.step
+pub returns-in-Ok-clause-line : goal.returns-in-Ok-clause-line
+returns-in-Ok-clause-line g c = act_line _ _ c.in_ok-before.before _ _ _ c.args.command.now c.in_ok-reply.reply c.in_ok-before.ensures.keepers c.in_ok-before.ensures.owns c.in_ok-before.ensures.of_desks (search rules) c.in_ok-reply.ensures.acts c.in-Ok.ensures.ok
 
-pub returns-in_err-reply-clause-short : goal.returns-in_err-reply-clause-short
-returns-in_err-reply-clause-short g c = λ _. (search rules, search rules, act_left _ _ _ _ _ _ (search rules) c.in_err-reply.ensures.step)
+pub returns-in-Ok-clause-goes : goal.returns-in-Ok-clause-goes
+returns-in-Ok-clause-goes g c = act_goes _ _ _ _ _ c.args.command.now c.in_ok-reply.reply _ c.in_ok-reply.ensures.acts c.in-Ok.ensures.ok
 
-pub returns-in_err-keepers-clause-short : goal.returns-in_err-keepers-clause-short
-returns-in_err-keepers-clause-short g c = λ _. (search rules, search rules, act_done _ _ _ _ _ _ _ (search rules) c.in_ok-reply.ensures.says c.in_ok-reply.ensures.step)
+pub returns-in_err-before-clause-short : goal.returns-in_err-before-clause-short
+returns-in_err-before-clause-short g c = λ _. act_not_begun _ _ _ c.args.command.now (search rules)
 
-pub returns-in_err-own-clause-short : goal.returns-in_err-own-clause-short
-returns-in_err-own-clause-short g c = λ _. (search rules, search rules, act_done _ _ _ _ _ _ _ (search rules) c.in_ok-reply.ensures.says c.in_ok-reply.ensures.step)
+pub returns-clause-short : goal.returns-clause-short
+returns-clause-short g c = λ _. act_unrecorded _ _ _ _ _ c.args.command.now c.in_ok-reply.reply (search rules) c.in_ok-reply.ensures.acts c.in-Err.ensures.err
 
-pub returns-in_err-push_entry-clause-short : goal.returns-in_err-push_entry-clause-short
-returns-in_err-push_entry-clause-short g c = λ _. (search rules, search rules, act_done _ _ _ _ _ _ _ (search rules) c.in_ok-reply.ensures.says c.in_ok-reply.ensures.step)
+pub returns-clause-goes : goal.returns-clause-goes
+returns-clause-goes g c = fewer_faults _ _ _ _ _ _ (act_goes _ _ _ _ _ c.args.command.now c.in_ok-reply.reply _ c.in_ok-reply.ensures.acts c.in-Err.ensures.err)

@@ -1,4 +1,4 @@
-use Rattle.mc_app.proofs.PromiseFacts.{commit_is_processed}
+use Rattle.mc_app.proofs.WrittenFacts.{commit_is_processed}
 use Rattle.mc_app.proofs.laws.acknowledged_commits_are_processed.Goals as goal
 
 pub returns : goal.returns

@@ -1,4 +1,4 @@
-use Rattle.mc_app.proofs.PromiseFacts.{put_is_processed}
+use Rattle.mc_app.proofs.WrittenFacts.{put_is_processed}
 use Rattle.mc_app.proofs.laws.acknowledged_puts_are_processed.Goals as goal
 
 pub returns : goal.returns

@@ -1,9 +1,14 @@
-use Rattle.std.proofs.Common.{arith, refl, inl, inr}
-use Rattle.mc_app.proofs.RunFacts.{gives_up_first, outcome_lost}
+use Rattle.std.proofs.Common.{List, Option, subst}
+use Rattle.mc_model.specs.Kept.{Kept}
+use Rattle.mc_app.specs.Outcome.{IsFirst}
+use Rattle.mc_app.proofs.EndFacts.{ends_taken, may_lost, unmade_outcome}
+use Rattle.mc_app.proofs.RunFacts.{outcome_told}
 use Rattle.mc_app.proofs.running.run_keepers.Goals as goal
 
-pub returns-in-Err-Memory-clause-outcome : goal.returns-in-Err-Memory-clause-outcome
-returns-in-Err-Memory-clause-outcome g c = gives_up_first _ _ _ _ _ (omega (arith, c.make.ensures.lost), λ quiet. (refl, refl)) (inr (refl, refl))
+pub returns-in-Err-clause-outcome : goal.returns-in-Err-clause-outcome
+returns-in-Err-clause-outcome g c = unmade_outcome _ _ _ _ _ _ _ _ _ _ _ c.status_of.ensures c.in-Err.ensures.taken c.in-Err.ensures.lost
 
 pub returns-clause-outcome : goal.returns-clause-outcome
-returns-clause-outcome g c = outcome_lost _ _ _ _ _ _ _ _ _ _ _ _ _ _ _ _ (λ quiet. (c.in-Ok.ensures.quiet quiet, c.in-Ok.ensures.fresh.1, c.in-Ok.ensures.fresh.2)) c.in-Ok.ensures.told c.make.ensures.lost c.end.ensures.lost (λ w kept. inl (record { before = _; keeper = _; desks = _; taken = c.end.ensures.taken; tells = kept })) c.run_keeper-status.ensures.outcome
+returns-clause-outcome g c = outcome_told _ _ _ _ _ _ _ _ _ _ _ (λ w first. subst (λ (l : List (Option Kept)). IsFirst l w) c.in-Ok.ensures.starts first)
+    (λ lines answers may. may_lost _ _ _ _ _ _ lines answers c.in-Ok.ensures.lost_same c.give_back.ensures.lost c.in-Ok.ensures.calm may)
+    (λ w same. ends_taken _ _ _ _ _ _ _ w same c.give_back.ensures.taken) c.run_parts-status.ensures.outcome

@@ -1,0 +1,137 @@
+-- How a run ends, and what its keepers tell then.
+use Rattle.std.proofs.Common.{◌≡◌, ◌≤◌, ◌+◌, ◌-◌, ◌^◌, ℕ, List, [], ◌∷◌, length, Option, None, Some, refl, sym, ◌∙◌, ap, subst, arith, inl, inr, false}
+use Rattle.std.specs.Prelude.{map, min}
+use Rattle.std.specs.List.{sum_by}
+use Rattle.std.proofs.lemmas.List.Sums.{sum_by-cons}
+use Rattle.mc_base.specs.Causes.{Rose}
+use Rattle.mc_base.specs.Told.{Told}
+use Rattle.mc_base.specs.declared.counted.Counted as counted
+use Rattle.mc_keep.specs.Calls.{Members}
+use Rattle.mc_keep.specs.declared.keeper.Keeper as keeper
+use Rattle.mc_model.specs.Events.{opened}
+use Rattle.mc_model.specs.Kept.{Kept}
+use Rattle.mc_model.specs.State.{Running, durable_of}
+use Rattle.mc_model.specs.Wanted.{no_queue}
+use Rattle.mc_core.specs.declared.replica.OpenCause.{OpenCause}
+use Rattle.mc_core.specs.declared.replica.OpenCause.TheVariants as causes
+use Rattle.mc_app.specs.declared.seat.Held.{Held}
+use Rattle.mc_app.specs.declared.seat.Held.TheVariants.{Up, Down}
+use Rattle.mc_app.specs.declared.seat.Seat.{Seat}
+use Rattle.mc_app.specs.declared.world.Part.{Part}
+use Rattle.mc_app.specs.Keepers.{desks_in, keeper_in, keeper_of, own_in}
+use Rattle.mc_app.specs.Openings.{AreLeft, AreRefused, counted_of, owns_of, parts_of, starts_of, unopened_status}
+use Rattle.mc_app.specs.Outcome.{AreStarts, EndsAt, IsFirst, Outcome, TakenFrom, TakesSome, contents_of}
+use Rattle.mc_app.specs.Plans.{OpensAs}
+use Rattle.mc_app.specs.Runs.{Answer, MayAnswer}
+use Rattle.mc_app.specs.Words.{place}
+use Rattle.mc_app.specs.Worlds.{Place, WorldState, place_with}
+use Rattle.mc_app.specs.declared.status.Status.{Status}
+use Rattle.mc_app.specs.declared.status.Status.TheVariants as status
+use Rattle.mc_app.proofs.RunFacts.{gives_up_first, nothing_said, untouched}
+
+-- a replica that was opened over what a keeper tells
+abbrev opens_run : Option Kept → Option Running
+opens_run None = Some (record { queue = no_queue; walk = None; batch = None; whole = false })
+opens_run (Some kept) = Some (opened (durable_of kept))
+
+abbrev start_place : Option Kept → Place
+start_place told = record { content = told; fuse = None; run = opens_run told; planted = [] }
+
+-- a first world over what some keepers tell
+abbrev first_world : List (Option Kept) → WorldState
+first_world starts = record { places = map start_place starts; around = record { bag = []; down = [] } }
+
+is_first : (starts : List (Option Kept)) → IsFirst starts (first_world starts)
+is_first starts = (all starts, refl)
+  where
+    runs : (told : Option Kept) → OpensAs told (opens_run told)
+    runs None = (false, refl)
+    runs (Some kept) = refl
+
+    all : (starts : List (Option Kept)) → AreStarts starts (map start_place starts)
+    all [] = tt
+    all (told ∷ starts) = (record { content = refl; no_fuse = refl; nothing_planted = refl; opened = runs told }, all starts)
+
+first_contents : (starts : List (Option Kept)) → contents_of (first_world starts) ≡ starts
+first_contents [] = refl
+first_contents (told ∷ starts) = ap (λ l. told ∷ l) (first_contents starts)
+
+module _ {K D : Type 0} {g : keeper.Ghosts K D} {h : counted.Ghosts K} {i : counted.Ghosts D} (k : Members K D) (desk_faults : D → ℕ) where
+  content_in : (planted : List _) (held : Held K D g h i) → (place_with k.told k.fuse planted held).content ≡ k.told (keeper_in held)
+  content_in planted (Up replica) = refl
+  content_in planted (Down idle) = refl
+
+  -- what the keepers of a world tell, and what they have counted
+  pub parts_told : (seats : List (Seat K D g h i)) (desks : List (List D)) → length seats ≡ length desks → starts_of k.told (parts_of seats desks) ≡ map (λ (p : Place). p.content) (map (place k) seats)
+  parts_told [] [] same = refl
+  parts_told (seat ∷ seats) (first ∷ desks) same =
+      ap (λ t. t ∷ starts_of k.told (parts_of seats desks)) (sym (content_in seat.planted seat.held)) ∙ ap (λ l. (place k seat).content ∷ l) (parts_told seats desks (omega (arith, same)))
+  parts_told [] (first ∷ desks) same = absurd (omega (arith, same))
+  parts_told (seat ∷ seats) [] same = absurd (omega (arith, same))
+
+  pub parts_counted : (seats : List (Seat K D g h i)) (desks : List (List D)) → length seats ≡ length desks → counted_of k desk_faults (parts_of seats desks) ≡ own_in k seats + desks_in desk_faults desks
+  parts_counted [] [] same = refl
+  parts_counted (seat ∷ seats) (first ∷ desks) same =
+      let more = parts_counted seats desks (omega (arith, same)) in
+      let all = sum_by-cons (λ (p : Part K D). k.own p.keeper + sum_by desk_faults p.desks) (record { keeper = keeper_of seat; desks = first }) (parts_of seats desks) in
+      let owns = sum_by-cons (λ (s : Seat K D g h i). k.own (keeper_of s)) seat seats in
+      let counts = sum_by-cons (λ (list : List D). sum_by desk_faults list) first desks in omega (arith, more, all, owns, counts)
+  parts_counted [] (first ∷ desks) same = absurd (omega (arith, same))
+  parts_counted (seat ∷ seats) [] same = absurd (omega (arith, same))
+
+module _ {K D : Type 0} (k : Members K D) where
+  -- parts that are handed back tell the same
+  left_told : (parts lefts : List (Part K D)) → AreLeft k parts lefts → starts_of k.told lefts ≡ starts_of k.told parts
+  left_told [] [] left = refl
+  left_told (part ∷ parts) (back ∷ lefts) left = ap (λ t. t ∷ starts_of k.told lefts) left.0.told_same ∙ ap (λ l. k.told part.keeper ∷ l) (left_told parts lefts left.1)
+  left_told [] (back ∷ lefts) left = absurd left
+  left_told (part ∷ parts) [] left = absurd left
+
+  owns_within : (desk_faults : D → ℕ) (parts : List (Part K D)) → owns_of k parts ≤ counted_of k desk_faults parts
+  owns_within desk_faults [] = omega arith
+  owns_within desk_faults (part ∷ parts) =
+      let more = owns_within desk_faults parts in
+      let owns = sum_by-cons (λ (p : Part K D). k.own p.keeper) part parts in
+      let all = sum_by-cons (λ (p : Part K D). k.own p.keeper + sum_by desk_faults p.desks) part parts in omega (arith, more, owns, all)
+
+  module _ (desk_faults : D → ℕ) (cause : OpenCause) (parts lefts : List (Part K D)) (refused : AreRefused k cause parts lefts) where
+    -- nothing was read or written, and the parts tell the same
+    pub refused_outcome : (end : Status) (first old : Option (List ℕ)) (calm : Type 0) → end ≡ unopened_status cause → Told first first (λ script left. Outcome end script left (IsFirst (starts_of k.told parts)) (MayAnswer calm 0 (counted_of k desk_faults lefts)) (λ w. contents_of w ≡ starts_of k.told lefts) old old)
+    refused_outcome end first old calm is = subst (λ (s : Status). Told first first (λ script left. Outcome s script left (IsFirst (starts_of k.told parts)) (MayAnswer calm 0 (counted_of k desk_faults lefts)) (λ w. contents_of w ≡ starts_of k.told lefts) old old)) (sym is) (by_cause cause)
+      where
+        by_cause : (cause : OpenCause) → Told first first (λ script left. Outcome (unopened_status cause) script left (IsFirst (starts_of k.told parts)) (MayAnswer calm 0 (counted_of k desk_faults lefts)) (λ w. contents_of w ≡ starts_of k.told lefts) old old)
+        by_cause causes.KeeperFault = untouched first old
+        by_cause causes.Memory = gives_up_first (IsFirst (starts_of k.told parts)) (MayAnswer calm 0 (counted_of k desk_faults lefts)) (λ w. contents_of w ≡ starts_of k.told lefts) (first_world (starts_of k.told parts)) first old
+            (is_first (starts_of k.told parts)) (nothing_said calm 0 (counted_of k desk_faults lefts) (omega arith)) (first_contents (starts_of k.told parts) ∙ sym (left_told parts lefts refused.left))
+
+    is_cause : (cause : OpenCause) → unopened_status cause ≡ status.KeeperFault → cause ≡ causes.KeeperFault
+    is_cause causes.KeeperFault e = refl
+    is_cause causes.Memory e = absurd (cc)
+
+    pub refused_told : starts_of k.told lefts ≡ starts_of k.told parts
+    refused_told = left_told parts lefts refused.left
+
+    pub refused_rose : (end : Status) → end ≡ unopened_status cause → owns_of k parts ≡ 0 → end ≡ status.KeeperFault → Rose 0 (counted_of k desk_faults lefts)
+    refused_rose end is none e = let rose = refused.rose (is_cause cause (sym is ∙ e)) in let within = owns_within desk_faults lefts in omega (arith, none, rose, within)
+
+-- what may be answered, where nothing was counted before
+pub may_fresh : (calm still : Type 0) (before armed count now : ℕ) (lines : List (List ℕ)) (answers : List (Option Answer)) → before ≡ 0 → armed ≡ 0 → now ≡ count → (calm → still) → MayAnswer still before (count + armed) lines answers → MayAnswer calm 0 now lines answers
+may_fresh calm still before armed count now lines answers none unarmed same stays may = (omega (arith, none, unarmed, same, may.0), λ c. may.1 (stays c))
+
+-- and where the keepers are given back
+pub may_lost : (calm still : Type 0) (count lost mid after : ℕ) (lines : List (List ℕ)) (answers : List (Option Answer)) → mid ≡ lost → min (mid + count) (2 ^ 64 - 1) ≤ after → (calm → still) → MayAnswer still 0 count lines answers → MayAnswer calm lost after lines answers
+may_lost calm still count lost mid after lines answers same later stays may = (omega (arith, same, later, may.0), λ c. may.1 (stays c))
+
+module _ {M K D : Type 0} (takes : M → K → List D → M → Type 0) (told : K → Option Kept) where
+  -- the keepers of the last world are given back
+  pub ends_taken : (end : Status) (starts contents : List (Option Kept)) (before last : M) (w : WorldState) → contents_of w ≡ contents → TakenFrom takes told before contents last → EndsAt takes told end starts last w
+  ends_taken end starts contents before last w same taken = inl (before, subst (λ (l : List (Option Kept)). TakenFrom takes told before l last) (sym same) taken)
+
+  -- not all keepers were made
+  pub unmade_outcome : (cause : OpenCause) (end : Status) (starts : List (Option Kept)) (last : M) (calm : Type 0) (lost lost_now : ℕ) (first old : Option (List ℕ)) → end ≡ unopened_status cause → TakesSome takes told starts last → min lost (2 ^ 64 - 1) ≤ lost_now
+      → Told first first (λ script left. Outcome end script left (IsFirst starts) (MayAnswer calm lost lost_now) (EndsAt takes told end starts last) old old)
+  unmade_outcome cause end starts last calm lost lost_now first old is taken later = subst (λ (s : Status). Told first first (λ script left. Outcome s script left (IsFirst starts) (MayAnswer calm lost lost_now) (EndsAt takes told s starts last) old old)) (sym is) (by_cause cause)
+    where
+      by_cause : (cause : OpenCause) → Told first first (λ script left. Outcome (unopened_status cause) script left (IsFirst starts) (MayAnswer calm lost lost_now) (EndsAt takes told (unopened_status cause) starts last) old old)
+      by_cause causes.KeeperFault = untouched first old
+      by_cause causes.Memory = gives_up_first (IsFirst starts) (MayAnswer calm lost lost_now) (EndsAt takes told status.Memory starts last) (first_world starts) first old (is_first starts) (nothing_said calm lost lost_now later) (inr (refl, is_first starts, taken))

@@ -1,0 +1,130 @@
+-- The keepers of a run, made and given back one after another.
+use Rattle.std.proofs.Common.{◌≡◌, ◌≤◌, ◌+◌, ◌-◌, ◌^◌, ℕ, zero, suc, Bool, true, List, [], ◌∷◌, ◌++◌, length, take, Option, refl, sym, ap, subst, ◌∙◌, arith, append_assoc}
+use Rattle.std.specs.Prelude.{min}
+use Rattle.std.specs.List.{sum_by}
+use Rattle.std.proofs.lemmas.List.{append-nil}
+use Rattle.std.proofs.lemmas.List.Folds.{list_all-append}
+use Rattle.std.proofs.lemmas.List.Sums.{sum_by-append, sum_by-cons}
+use Rattle.mc_keep.specs.Calls.{Members}
+use Rattle.mc_keep.specs.Fused.{faults_in, quiet_in, schedule_in}
+use Rattle.mc_keep.specs.declared.fuse.Fuse.{Fuse}
+use Rattle.mc_keep.specs.declared.fused.Fused.{Fused}
+use Rattle.mc_model.specs.Kept.{Kept}
+use Rattle.mc_app.specs.declared.world.Part.{Part}
+use Rattle.mc_app.specs.Keepers.{is_calm_keeper}
+use Rattle.mc_app.specs.Openings.{AreFresh, IsFresh, are_calm, owns_of, starts_of}
+use Rattle.mc_app.specs.Outcome.{TakenFrom, TakesSome, starts_from}
+use Rattle.mc_app.proofs.OpeningFacts.{both_true}
+
+-- what a fused keeper tells, by the one inside
+abbrev pub told_in : {K : Type 0} → (K → Option Kept) → Fused K → Option Kept
+told_in told fused = told fused.keeper
+
+-- the count of a part
+abbrev pub count_in : {K D : Type 0} → (K → ℕ) → (D → ℕ) → Part (Fused K) D → ℕ
+count_in faults desk_faults part = faults part.keeper.keeper + sum_by desk_faults part.desks
+
+module _ {M K D : Type 0} (takes : M → K → List D → M → Type 0) (told : K → Option Kept) where
+  taken_push : (first mid last : M) (contents : List (Option Kept)) (keeper : K) (desks : List D) → TakenFrom takes told first contents mid → takes mid keeper desks last → TakenFrom takes told first (contents ++ told keeper ∷ []) last
+  taken_push first mid last [] keeper desks from next = (keeper, desks, last, subst (λ (m : M). takes m keeper desks last) from next, refl, refl)
+  taken_push first mid last (content ∷ contents) keeper desks from next = (from.0, from.1, from.2, from.3, from.4, taken_push from.2 mid last contents keeper desks from.5 next)
+
+  module _ (faults : K → ℕ) (desk_faults : D → ℕ) (lost : M → ℕ) where
+    -- where the loop stands that gives keepers back
+    pub record IsGivingBack (first : M) (all parts : List (Part (Fused K) D)) (now : M) : Type 0 where
+      pub taken : List (Option Kept)
+      pub split : starts_of (told_in told) all ≡ taken ++ starts_of (told_in told) parts
+      pub from : TakenFrom takes told first taken now
+      pub done : ℕ
+      pub total : done + sum_by (count_in faults desk_faults) parts ≡ sum_by (count_in faults desk_faults) all
+      pub later : min (lost first + done) (2 ^ 64 - 1) ≤ lost now
+
+    pub back_begins : (first : M) (all : List (Part (Fused K) D)) → IsGivingBack first all all first
+    back_begins first all = record { taken = []; split = refl; from = refl; done = 0; total = omega arith; later = omega arith }
+
+    pub back_more : (first mid last : M) (all parts rest : List (Part (Fused K) D)) (part : Part (Fused K) D) (keeper : K) → IsGivingBack first all parts mid → parts ≡ part ∷ rest → keeper ≡ part.keeper.keeper → takes mid keeper part.desks last
+        → lost last ≡ min (lost mid + faults keeper + sum_by desk_faults part.desks) (2 ^ 64 - 1) → IsGivingBack first all rest last
+    back_more first mid last all parts rest part keeper back out is next count =
+        let sum : sum_by (count_in faults desk_faults) parts ≡ (faults part.keeper.keeper + sum_by desk_faults part.desks) + sum_by (count_in faults desk_faults) rest = ap (λ (l : List (Part (Fused K) D)). sum_by (count_in faults desk_faults) l) out ∙ sum_by-cons (count_in faults desk_faults) part rest in
+        let same : faults keeper ≡ faults part.keeper.keeper = ap faults is in
+        record {
+          taken = back.taken ++ told part.keeper.keeper ∷ [];
+          split = back.split ∙ ap (λ (l : List (Part (Fused K) D)). back.taken ++ starts_of (told_in told) l) out ∙ sym (append_assoc back.taken (told part.keeper.keeper ∷ []) (starts_of (told_in told) rest));
+          from = taken_push first mid last back.taken part.keeper.keeper part.desks back.from (subst (λ (kept : K). takes mid kept part.desks last) is next);
+          done = back.done + (faults part.keeper.keeper + sum_by desk_faults part.desks);
+          total = omega (arith, back.total, sum);
+          later = omega (arith, back.later, count, same);
+        }
+
+    pub back_taken : (first last : M) (all parts : List (Part (Fused K) D)) → IsGivingBack first all parts last → length parts ≡ 0 → TakenFrom takes told first (starts_of (told_in told) all) last
+    back_taken first last all [] back none = subst (λ (l : List (Option Kept)). TakenFrom takes told first l last) (sym (back.split ∙ append-nil back.taken)) back.from
+    back_taken first last all (part ∷ parts) back none = absurd (omega (arith, none))
+
+    pub back_lost : (first last : M) (all parts : List (Part (Fused K) D)) → IsGivingBack first all parts last → length parts ≡ 0 → min (lost first + sum_by (count_in faults desk_faults) all) (2 ^ 64 - 1) ≤ lost last
+    back_lost first last all [] back none = omega (arith, back.later, back.total)
+    back_lost first last all (part ∷ parts) back none = absurd (omega (arith, none))
+
+-- the members of a fused keeper, by those of the one inside
+abbrev pub fused_members : {K D : Type 0} → Members K D → Members (Fused K) D
+fused_members k = record {
+  faults = faults_in k.faults;
+  told = told_in k.told;
+  spare = λ fused. k.spare fused.keeper;
+  fuse = λ fused. fused.fuse;
+  own = λ fused. k.faults fused.keeper;
+  quiet = quiet_in k.fuse k.quiet;
+  quiet_desk = k.quiet_desk;
+  schedule = schedule_in k.fuse k.schedule;
+  desk_schedule = k.desk_schedule;
+}
+
+starts_push : (start : ℕ → Option Kept) (number count : ℕ) → starts_from start number (suc count) ≡ starts_from start number count ++ start (number + count) ∷ []
+starts_push start number zero = ap (λ n. start n ∷ []) (omega arith)
+starts_push start number (suc count) = ap (λ l. start number ∷ l) (starts_push start (number + 1) count ∙ ap (λ n. starts_from start (number + 1) count ++ start n ∷ []) (omega arith))
+
+starts_one_more : (start : ℕ → Option Kept) (count : ℕ) → starts_from start 0 (count + 1) ≡ starts_from start 0 count ++ start count ∷ []
+starts_one_more start count =
+    let next : suc count ≡ count + 1 = omega arith in
+    let last : 0 + count ≡ count = omega arith in
+    ap (λ n. starts_from start 0 n) (sym next) ∙ starts_push start 0 count ∙ ap (λ n. starts_from start 0 count ++ start n ∷ []) last
+
+take_starts : (start : ℕ → Option Kept) (number count some : ℕ) → some ≤ count → take some (starts_from start number count) ≡ starts_from start number some
+take_starts start number count zero few = refl
+take_starts start number zero (suc some) few = absurd (omega (arith, few))
+take_starts start number (suc count) (suc some) few = ap (λ l. start number ∷ l) (take_starts start (number + 1) count some (omega (arith, few)))
+
+starts_append : {K D : Type 0} (told : K → Option Kept) (parts : List (Part K D)) (part : Part K D) → starts_of told (parts ++ part ∷ []) ≡ starts_of told parts ++ told part.keeper ∷ []
+starts_append told [] part = refl
+starts_append told (first ∷ parts) part = ap (λ l. told first.keeper ∷ l) (starts_append told parts part)
+
+fresh_append : {K D : Type 0} (told : K → Option Kept) (fuse : K → Option Fuse) (parts : List (Part K D)) (part : Part K D) → AreFresh told fuse parts → IsFresh told fuse part → AreFresh told fuse (parts ++ part ∷ [])
+fresh_append told fuse [] part all one = (one, tt)
+fresh_append told fuse (first ∷ parts) part all one = (all.0, fresh_append told fuse parts part all.1 one)
+
+module _ {K D : Type 0} (k : Members (Fused K) D) where
+  -- where the loop stands that makes keepers
+  pub record IsMaking (start : ℕ → Option Kept) (quiet : Bool) (parts : List (Part (Fused K) D)) (count : ℕ) : Type 0 where
+    pub starts : starts_of k.told parts ≡ starts_from start 0 count
+    pub fresh : AreFresh k.told k.fuse parts
+    pub counted : owns_of k parts ≡ 0
+    pub calm : quiet ≡ true → are_calm k parts ≡ true
+
+  pub making_begins : (start : ℕ → Option Kept) (quiet : Bool) (parts : List (Part (Fused K) D)) → parts ≡ [] → IsMaking start quiet parts 0
+  making_begins start quiet parts none = subst (λ (l : List (Part (Fused K) D)). IsMaking start quiet l 0) (sym none) (record { starts = refl; fresh = tt; counted = refl; calm = λ e. refl })
+
+  pub making_more : (start start_now : ℕ → Option Kept) (quiet quiet_now : Bool) (parts : List (Part (Fused K) D)) (count : ℕ) (part : Part (Fused K) D) → IsMaking start quiet parts count → ((index : ℕ) → start_now index ≡ start index) → quiet_now ≡ quiet
+      → k.told part.keeper ≡ start_now count → IsFresh k.told k.fuse part → k.own part.keeper ≡ 0 → (quiet_now ≡ true → is_calm_keeper k part.keeper ≡ true) → IsMaking start quiet (parts ++ part ∷ []) (count + 1)
+  making_more start start_now quiet quiet_now parts count part making same same_quiet told fresh own calm = record {
+    starts = starts_append k.told parts part ∙ ap (λ l. l ++ k.told part.keeper ∷ []) making.starts ∙ ap (λ t. starts_from start 0 count ++ t ∷ []) (told ∙ same count) ∙ sym (starts_one_more start count);
+    fresh = fresh_append k.told k.fuse parts part making.fresh fresh;
+    counted = sum_by-append (λ (p : Part (Fused K) D). k.own p.keeper) parts (part ∷ []) ∙ omega (arith, making.counted, own, sum_by-cons (λ (p : Part (Fused K) D). k.own p.keeper) part []);
+    calm = λ e. list_all-append (λ (p : Part (Fused K) D). is_calm_keeper k p.keeper) parts (part ∷ []) ∙ both_true (making.calm e) (both_true (calm (same_quiet ∙ e)) refl);
+  }
+
+  -- those that were made are given back
+  pub making_ends : {M J : Type 0} (takes : M → J → List D → M → Type 0) (told : J → Option Kept) (start : ℕ → Option Kept) (quiet : Bool) (parts : List (Part (Fused K) D)) (count many : ℕ) (before last : M) → IsMaking start quiet parts count → count ≤ many
+      → TakenFrom takes told before (starts_of k.told parts) last → TakesSome takes told (starts_from start 0 many) last
+  making_ends takes told start quiet parts count many before last making few taken = (
+    count,
+    (before, subst (λ (l : List (Option Kept)). TakenFrom takes told before l last) (making.starts ∙ sym (take_starts start 0 many count few)) taken),
+  )

@@ -1,0 +1,23 @@
+use Rattle.std.proofs.Common.{arith, ◌∙◌}
+use Rattle.mc_app.specs.Outcome.{run_plan}
+use Rattle.mc_app.proofs.KeepingFacts.{making_more}
+use Rattle.mc_app.proofs.keeping.make_parts.Goals as goal
+
+pub loop-index-preserved : goal.loop-index-preserved
+loop-index-preserved g c = let inv = c.loop-index.invariant in record {
+  making = rw c.push_reserved.ensures.items (making_more _ _ _ _ _ _ _ _ inv.making (λ index. inv.starts_same run_plan index) (inv.quiet_same run_plan) c.in-Ok-make_part.ensures.told c.in-Ok-make_part.ensures.fresh c.in-Ok-make_part.ensures.counted c.in-Ok-make_part.ensures.calm);
+  starts_same = λ plan index. c.make_part.ensures.starts_same plan index ∙ inv.starts_same plan index;
+  quiet_same = λ plan. c.make_part.ensures.quiet_same plan ∙ inv.quiet_same plan;
+  lost_same = c.make_part.ensures.lost ∙ inv.lost_same;
+  later = omega (arith, inv.later, c.make_part.ensures.later);
+  room = omega (arith, inv.room, c.push_reserved.ensures.len, c.push_reserved.ensures.capacity);
+}
+
+pub returns-clause-fresh : goal.returns-clause-fresh
+returns-clause-fresh g c = rw c.from_vec-2.ensures c.loop-index.invariant.making.fresh
+
+pub returns-clause-counted : goal.returns-clause-counted
+returns-clause-counted g c = rw c.from_vec-2.ensures c.loop-index.invariant.making.counted
+
+pub returns-clause-calm : goal.returns-clause-calm
+returns-clause-calm g c = rw c.from_vec-2.ensures c.loop-index.invariant.making.calm

@@ -1,0 +1,11 @@
+use Rattle.std.proofs.Common.{length}
+use Rattle.mc_app.proofs.EndFacts.{parts_counted, parts_told}
+use Rattle.mc_app.proofs.MemberWords.{members}
+use Rattle.mc_app.proofs.OpeningFacts.{counts_of_desked}
+use Rattle.mc_app.proofs.running.close.Goals as goal
+
+pub returns-clause-told : goal.returns-clause-told
+returns-clause-told g c = rw c.end.ensures (parts_told (members g.K.Keeper g.K.Counted) g.K.Desk.Counted.faults _ _ (counts_of_desked (length c.args.world.seats.items) _ c.args.world.desked))
+
+pub returns-clause-counted : goal.returns-clause-counted
+returns-clause-counted g c = rw c.end.ensures (parts_counted (members g.K.Keeper g.K.Counted) g.K.Desk.Counted.faults _ _ (counts_of_desked (length c.args.world.seats.items) _ c.args.world.desked))

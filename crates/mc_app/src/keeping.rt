@@ -1,0 +1,100 @@
+// The keepers of a run: how they are made, and given back.
+ghost use Rattle.std.specs.Prelude.{◌≡◌, ◌≤◌, ◌+◌, ◌-◌, ◌^◌, min, ℕ, true, IfOk, IsErrOf, OnErr};
+ghost use Rattle.mc_base.specs.Causes.{Rose};
+ghost use Rattle.mc_keep.specs.Causes.{CountGoes};
+ghost use Rattle.mc_keep.specs.Plan.{is_fault};
+ghost use Rattle.mc_keep.specs.declared.keepers.KeeperPlan.{KeeperPlan as MadeBy};
+ghost use Rattle.mc_app.specs.Keepers.{is_calm_keeper};
+ghost use Rattle.mc_app.specs.Openings.{AreFresh, IsFresh, are_calm, counted_of, owns_of, starts_of};
+ghost use Rattle.mc_app.specs.Outcome.{TakenFrom, TakesSome, run_count, run_plan, starts_from};
+
+use crate::Part;
+use crate::seats::take_first;
+use mc_base::List;
+use mc_core::OpenCause;
+use mc_keep::{Fused, KeepError, Keeper, KeeperPlan, Keepers};
+use std::alloc::Global;
+
+// How many replicas a run has.
+const REPLICAS: u64 = 3;
+
+// Makes the keepers of a run, in order of its replicas. Where one is not made, those that were made are given back.
+pub(crate) fn make_parts<K: Keepers>(
+    alloc: Global,
+    keepers: &mut K,
+) -> Result<List<Part<Fused<K::K>>>, OpenCause>
+    ensures starts { IfOk result (λ parts. starts_of ⟦<Fused<K::K> as Keeper>⟧.told parts
+        ≡ starts_from (K.starts keepers.old run_plan) 0 run_count) }
+    ensures fresh { IfOk result (λ parts.
+        AreFresh ⟦<Fused<K::K> as Keeper>⟧.told ⟦<Fused<K::K> as Keeper>⟧.fuse parts) }
+    ensures counted { IfOk result (λ parts. owns_of ⟦<Fused<K::K> as Keeper>⟧ parts ≡ 0) }
+    ensures calm { K.quiet keepers.old run_plan ≡ true →
+        IfOk result (λ parts. are_calm ⟦<Fused<K::K> as Keeper>⟧ parts ≡ true) }
+    ensures lost_same { IfOk result (λ _. K.lost keepers.new ≡ K.lost keepers.old) }
+    ensures taken { OnErr result (TakesSome K.takes K.K.told
+        (starts_from (K.starts keepers.old run_plan) 0 run_count) keepers.new) }
+    ensures lost { OnErr result (min (K.lost keepers.old) (2 ^ 64 - 1) ≤ K.lost keepers.new) }
+    ensures fault { IsErrOf result OpenCause.KeeperFault → Rose (K.faults keepers.old) (K.faults keepers.new) }
+    ensures later { K.faults keepers.old ≤ K.faults keepers.new }
+{
+    let Ok(mut parts) = Vec::with_capacity(alloc, REPLICAS as usize) else {
+        return Err(OpenCause::Memory);
+    };
+    for index in 0..REPLICAS {
+        match make_part(alloc, keepers, index) {
+            Ok(part) => parts.push_reserved(part),
+            Err(cause) => {
+                give_back(keepers, List::from_vec(parts));
+                return Err(cause);
+            }
+        }
+    }
+    Ok(List::from_vec(parts))
+}
+
+// Makes the keeper of a replica, and wraps it.
+fn make_part<K: Keepers>(
+    alloc: Global,
+    keepers: &mut K,
+    index: u64,
+) -> Result<Part<Fused<K::K>>, OpenCause>
+    ensures told { IfOk result (λ part.
+        ⟦<Fused<K::K> as Keeper>⟧.told part.keeper ≡ K.starts keepers.old run_plan index) }
+    ensures fresh { IfOk result (λ part.
+        IsFresh ⟦<Fused<K::K> as Keeper>⟧.told ⟦<Fused<K::K> as Keeper>⟧.fuse part) }
+    ensures counted { IfOk result (λ part. ⟦<Fused<K::K> as Keeper>⟧.own part.keeper ≡ 0) }
+    ensures calm { K.quiet keepers.old run_plan ≡ true →
+        IfOk result (λ part. is_calm_keeper ⟦<Fused<K::K> as Keeper>⟧ part.keeper ≡ true) }
+    ensures starts_same { (plan : MadeBy) (index : ℕ) →
+        K.starts keepers.new plan index ≡ K.starts keepers.old plan index }
+    ensures quiet_same { (plan : MadeBy) → K.quiet keepers.new plan ≡ K.quiet keepers.old plan }
+    ensures lost { K.lost keepers.new ≡ K.lost keepers.old }
+    ensures fault { IsErrOf result OpenCause.KeeperFault → Rose (K.faults keepers.old) (K.faults keepers.new) }
+    ensures later { K.faults keepers.old ≤ K.faults keepers.new }
+{
+    match keepers.make(alloc, &KeeperPlan::Memory, index) {
+        Ok(keeper) => {
+            let keeper = Fused::wrap(keeper);
+            let desks = List::new(alloc);
+            Ok(Part { keeper, desks })
+        }
+        Err(KeepError::Failed) => Err(OpenCause::KeeperFault),
+        Err(KeepError::Memory) => Err(OpenCause::Memory),
+    }
+}
+
+// Gives keepers back, in order, each with its desks.
+pub(crate) fn give_back<K: Keepers>(keepers: &mut K, parts: List<Part<Fused<K::K>>>)
+    ensures taken { TakenFrom K.takes K.K.told
+        keepers.old (starts_of ⟦<Fused<K::K> as Keeper>⟧.told parts) keepers.new }
+    ensures lost { min (K.lost keepers.old + counted_of ⟦<Fused<K::K> as Keeper>⟧ K.K.Desk.faults parts) (2 ^ 64 - 1)
+        ≤ K.lost keepers.new }
+    ensures count { K.faults keepers.new ≡ K.faults keepers.old }
+{
+    let mut parts = parts.into_vec();
+    while parts.len() > 0 {
+        let Part { keeper, desks } = take_first(&mut parts);
+        keepers.end(keeper.end(), desks);
+    }
+    parts.destroy_empty();
+}
