@@ -11,14 +11,15 @@ use Rattle.std.proofs.lemmas.Slice.Eq.{bytes_eq-Decides}
 use Rattle.std.proofs.lemmas.Str.{IsUtf8-append, IsUtf8-from_ascii, IsUtf8-from_is_utf8, is_utf8-from_IsUtf8}
 use Rattle.mc_base.specs.declared.cid.Cid.{Cid}
 use Rattle.mc_cidtext.specs.CidText.{IsOneText, IsReadAgain}
-use Rattle.mc_script.specs.Arguments.{commit_words, hex_words, key_words, link_words, message_words, offer_words, pair_words, range_words, replica_words, value_words}
-use Rattle.mc_script.specs.Grammar.{CommitNumber, HasWord, Identifier, IsComment, IsLineOf, IsSilent, IsWritable, Key, Number, OtherThan, Part, Prefix, Replica, Say, Says, Value, Way, command_text, form, is_whole_word, word_of}
-use Rattle.mc_script.specs.Line.{batch_by_name, command_by_name, command_of_words, has_no_reply, line_of, line_of_text, message_by_name, on_commit, on_hex, on_key, on_link, on_message, on_offer, on_pair, on_range, on_replica, on_value, run_by_name}
-use Rattle.mc_script.specs.Words.{◌>>=◌, bytes_of_hex, commit_of, identifier_of, is_word, number_of, other_of, replica_of, way_of, words_of}
+use Rattle.mc_script.specs.Arguments.{budget_words, hex_words, key_words, link_words, message_words, offer_words, pair_words, range_words, replica_words, storm_words, up_to_words, value_words, work_words}
+use Rattle.mc_script.specs.Limits.{budget_max, commit_max, thread_max, write_max}
+use Rattle.mc_script.specs.Grammar.{HasWord, Identifier, IsComment, IsLineOf, IsSilent, IsWritable, Key, Number, OtherThan, Part, Prefix, Replica, Say, Says, UpTo, Value, Way, budget_parts, command_text, form, is_whole_word, word_of}
+use Rattle.mc_script.specs.Line.{batch_by_name, command_by_name, command_of_words, crowd_by_name, has_no_reply, line_of, line_of_text, message_by_name, on_hex, on_key, on_link, on_message, on_offer, on_pair, on_range, on_replica, on_storm, on_up_to, on_value, on_work, run_by_name}
+use Rattle.mc_script.specs.Words.{◌>>=◌, bytes_of_hex, identifier_of, is_word, number_of, other_of, replica_of, up_to_of, way_of, words_of}
 use Rattle.mc_script.specs.declared.command.Command.{Command}
-use Rattle.mc_script.specs.declared.command.Command.TheVariants.{Put, Del, Begin, BatchPut, BatchDel, Commit, Get, Has, Query, Heads, Cast, Wire, Hear, Plant, Link, Step, State, Same, Stop, Open, StopAt, StopAfter}
+use Rattle.mc_script.specs.declared.command.Command.TheVariants.{Put, Del, Begin, BatchPut, BatchDel, Commit, Get, Has, Query, Heads, Cast, Wire, Hear, Plant, Link, Step, Work, Repair, Storm, State, Same, Stop, Open, StopAt, StopAfter}
 use Rattle.mc_script.proofs.PartFacts.{number_found, number_read, plain_ascii, replica_found, replica_read, says_whole, value_found, value_read, word_is_utf8, word_says}
-use Rattle.mc_script.proofs.WordFacts.{bind_some, commit_found, commit_read, identifier_found, identifier_read, other_found, other_read, way_found, way_read}
+use Rattle.mc_script.proofs.WordFacts.{bind_some, identifier_found, identifier_read, other_found, other_read, up_to_found, up_to_read, way_found, way_read}
 
 -- ---- words and lines
 
@@ -133,11 +134,46 @@ pair_words_found (replica ∷ []) said h = cc h
 pair_words_found (replica ∷ second ∷ []) said h = two_words_found replica_of Replica replica_found replica second said h
 pair_words_found (replica ∷ second ∷ next ∷ rest) said h = cc h
 
-commit_words_found : (words : List (List ℕ)) (said : ℕ × ℕ) → commit_words words ≡ Some said → Say words (Replica said.0 ∷ CommitNumber said.1 ∷ [])
-commit_words_found [] said h = cc h
-commit_words_found (replica ∷ []) said h = cc h
-commit_words_found (replica ∷ commit ∷ []) said h = two_words_found commit_of CommitNumber commit_found replica commit said h
-commit_words_found (replica ∷ commit ∷ next ∷ rest) said h = cc h
+up_to_words_found : (most : ℕ) (words : List (List ℕ)) (said : ℕ × ℕ) → up_to_words most words ≡ Some said → Say words (Replica said.0 ∷ UpTo most said.1 ∷ [])
+up_to_words_found most [] said h = cc h
+up_to_words_found most (replica ∷ []) said h = cc h
+up_to_words_found most (replica ∷ number ∷ []) said h = two_words_found (up_to_of most) (UpTo most) (up_to_found most) replica number said h
+up_to_words_found most (replica ∷ number ∷ next ∷ rest) said h = cc h
+
+budget_words_found : (words : List (List ℕ)) (budget : Option ℕ) → budget_words words ≡ Some budget → Say words (budget_parts budget)
+budget_words_found [] None h = tt
+budget_words_found [] (Some budget) h = cc h
+budget_words_found (word ∷ []) None h = cc (map_some Some (up_to_of budget_max word) None h).2
+budget_words_found (word ∷ []) (Some budget) h =
+    let said = map_some Some (up_to_of budget_max word) (Some budget) h in
+    let same : said.0 ≡ budget = is said.0 budget (sym said.2) in
+    (up_to_found budget_max word budget (said.1 ∙ ap Some same), tt)
+  where
+    is : (number other : ℕ) → Some number ≡ Some other → number ≡ other
+    is number other h = cc h
+budget_words_found (word ∷ next ∷ rest) budget h = cc h
+
+work_words_found : (words : List (List ℕ)) (said : ℕ × ℕ × Option ℕ) → work_words words ≡ Some said → Say words (Replica said.0 ∷ UpTo thread_max said.1 ∷ budget_parts said.2)
+work_words_found [] said h = cc h
+work_words_found (replica ∷ []) said h = cc h
+work_words_found (replica ∷ workers ∷ budget) said h =
+    let first = bind_some (replica_of replica) _ said h in
+    let next = bind_some (up_to_of thread_max workers) _ said first.2 in
+    let third = bind_some (budget_words budget) _ said next.2 in
+    let same : (first.0, next.0, third.0) ≡ said = cc in
+    subst (λ (said : ℕ × ℕ × Option ℕ). Say (replica ∷ workers ∷ budget) (Replica said.0 ∷ UpTo thread_max said.1 ∷ budget_parts said.2)) same (replica_found replica first.0 first.1, (up_to_found thread_max workers next.0 next.1, budget_words_found budget third.0 third.1))
+
+storm_words_found : (words : List (List ℕ)) (said : ℕ × ℕ × ℕ) → storm_words words ≡ Some said → Say words (Replica said.0 ∷ UpTo thread_max said.1 ∷ UpTo write_max said.2 ∷ [])
+storm_words_found [] said h = cc h
+storm_words_found (replica ∷ []) said h = cc h
+storm_words_found (replica ∷ writers ∷ []) said h = cc h
+storm_words_found (replica ∷ writers ∷ writes ∷ []) said h =
+    let first = bind_some (replica_of replica) _ said h in
+    let next = bind_some (up_to_of thread_max writers) _ said first.2 in
+    let third = bind_some (up_to_of write_max writes) _ said next.2 in
+    let same : (first.0, next.0, third.0) ≡ said = cc in
+    subst (λ (said : ℕ × ℕ × ℕ). Say (replica ∷ writers ∷ writes ∷ []) (Replica said.0 ∷ UpTo thread_max said.1 ∷ UpTo write_max said.2 ∷ [])) same (replica_found replica first.0 first.1, (up_to_found thread_max writers next.0 next.1, (up_to_found write_max writes third.0 third.1, tt)))
+storm_words_found (replica ∷ writers ∷ writes ∷ next ∷ rest) said h = cc h
 
 offer_words_found : IsOneText → (words : List (List ℕ)) (said : ℕ × Cid × List ℕ) → list_all is_whole_word words ≡ true → offer_words words ≡ Some said → Say words (Replica said.0 ∷ Identifier said.1 ∷ Value said.2 ∷ [])
 offer_words_found one [] said all h = cc h
@@ -200,6 +236,18 @@ module _ (name : List ℕ) (words : List (List ℕ)) (command : Command) (all : 
       by_test true is h = inl ((bytes_eq-Decides name wanted).0 is, h)
       by_test false is h = inr h
 
+  crowd_found : crowd_by_name name words ≡ Some command → IsNamed name words command
+  crowd_found h = elim (went (codes "work") (on_work Work words) _ h) [
+    | inl at ↦ said_found (λ (said : ℕ × ℕ × Option ℕ). Work said.0 said.1 said.2) work_words (codes "work") (λ (said : ℕ × ℕ × Option ℕ). Replica said.0 ∷ UpTo thread_max said.1 ∷ budget_parts said.2) (λ said. refl) (work_words_found words) at.0 at.1
+    | inr h ↦ elim (went (codes "repair") (on_up_to thread_max Repair words) _ h) [
+      | inl at ↦ said_found (λ (said : ℕ × ℕ). Repair said.0 said.1) (up_to_words thread_max) (codes "repair") (λ (said : ℕ × ℕ). Replica said.0 ∷ UpTo thread_max said.1 ∷ []) (λ said. refl) (up_to_words_found thread_max words) at.0 at.1
+      | inr h ↦ elim (went (codes "storm") (on_storm Storm words) None h) [
+        | inl at ↦ said_found (λ (said : ℕ × ℕ × ℕ). Storm said.0 said.1 said.2) storm_words (codes "storm") (λ (said : ℕ × ℕ × ℕ). Replica said.0 ∷ UpTo thread_max said.1 ∷ UpTo write_max said.2 ∷ []) (λ said. refl) (storm_words_found words) at.0 at.1
+        | inr h ↦ cc h
+      ]
+    ]
+  ]
+
   run_found : run_by_name name words ≡ Some command → IsNamed name words command
   run_found h = elim (went (codes "state") (on_replica State words) _ h) [
     | inl at ↦ on_replica_found State (codes "state") (λ r. refl) at.0 at.1
@@ -209,11 +257,11 @@ module _ (name : List ℕ) (words : List (List ℕ)) (command : Command) (all : 
         | inl at ↦ on_replica_found Stop (codes "stop") (λ r. refl) at.0 at.1
         | inr h ↦ elim (went (codes "open") (on_replica Open words) _ h) [
           | inl at ↦ on_replica_found Open (codes "open") (λ r. refl) at.0 at.1
-          | inr h ↦ elim (went (codes "stopat") (on_commit StopAt words) _ h) [
-            | inl at ↦ said_found (λ (said : ℕ × ℕ). StopAt said.0 said.1) commit_words (codes "stopat") (λ (said : ℕ × ℕ). Replica said.0 ∷ CommitNumber said.1 ∷ []) (λ said. refl) (commit_words_found words) at.0 at.1
-            | inr h ↦ elim (went (codes "stopafter") (on_commit StopAfter words) None h) [
-              | inl at ↦ said_found (λ (said : ℕ × ℕ). StopAfter said.0 said.1) commit_words (codes "stopafter") (λ (said : ℕ × ℕ). Replica said.0 ∷ CommitNumber said.1 ∷ []) (λ said. refl) (commit_words_found words) at.0 at.1
-              | inr h ↦ cc h
+          | inr h ↦ elim (went (codes "stopat") (on_up_to commit_max StopAt words) _ h) [
+            | inl at ↦ said_found (λ (said : ℕ × ℕ). StopAt said.0 said.1) (up_to_words commit_max) (codes "stopat") (λ (said : ℕ × ℕ). Replica said.0 ∷ UpTo commit_max said.1 ∷ []) (λ said. refl) (up_to_words_found commit_max words) at.0 at.1
+            | inr h ↦ elim (went (codes "stopafter") (on_up_to commit_max StopAfter words) _ h) [
+              | inl at ↦ said_found (λ (said : ℕ × ℕ). StopAfter said.0 said.1) (up_to_words commit_max) (codes "stopafter") (λ (said : ℕ × ℕ). Replica said.0 ∷ UpTo commit_max said.1 ∷ []) (λ said. refl) (up_to_words_found commit_max words) at.0 at.1
+              | inr h ↦ crowd_found h
             ]
           ]
         ]
@@ -311,6 +359,13 @@ said_hex make bytes [] say = absurd say
 said_hex make bytes (hex ∷ []) say = ap (option_map make) (value_read hex bytes say.0)
 said_hex make bytes (hex ∷ next ∷ rest) say = absurd say.1
 
+-- what is read of words that are read one after another
+two_read : {A B : Type 0} (first : Option A) (second : Option B) (a : A) (b : B) → first ≡ Some a → second ≡ Some b → ◌>>=◌ {B = A × B} first (λ a. ◌>>=◌ {B = A × B} second (λ b. Some (a, b))) ≡ Some (a, b)
+two_read first second a b is also = rw (is, also) refl
+
+three_read : {A B C : Type 0} (first : Option A) (second : Option B) (third : Option C) (a : A) (b : B) (c : C) → first ≡ Some a → second ≡ Some b → third ≡ Some c → ◌>>=◌ {B = A × B × C} first (λ a. ◌>>=◌ {B = A × B × C} second (λ b. ◌>>=◌ {B = A × B × C} third (λ c. Some (a, b, c)))) ≡ Some (a, b, c)
+three_read first second third a b c is also last = rw (is, also, last) refl
+
 said_message : (make : ℕ → ℕ → Command) (r message : ℕ) (words : List (List ℕ)) → Say words (Replica r ∷ Number message ∷ []) → on_message make words ≡ Some (make r message)
 said_message make r message [] say = absurd say
 said_message make r message (replica ∷ []) say = absurd say.1
@@ -323,11 +378,30 @@ said_pair make r other (replica ∷ []) say = absurd say.1
 said_pair make r other (replica ∷ word ∷ []) say = rw (replica_read replica r say.0, replica_read word other say.1.0) refl
 said_pair make r other (replica ∷ word ∷ next ∷ rest) say = absurd say.1.1
 
-said_commit : (make : ℕ → ℕ → Command) (r commit : ℕ) (words : List (List ℕ)) → Say words (Replica r ∷ CommitNumber commit ∷ []) → on_commit make words ≡ Some (make r commit)
-said_commit make r commit [] say = absurd say
-said_commit make r commit (replica ∷ []) say = absurd say.1
-said_commit make r commit (replica ∷ word ∷ []) say = rw (replica_read replica r say.0, commit_read word commit say.1.0) refl
-said_commit make r commit (replica ∷ word ∷ next ∷ rest) say = absurd say.1.1
+said_up_to : (most : ℕ) (make : ℕ → ℕ → Command) (r number : ℕ) (words : List (List ℕ)) → Say words (Replica r ∷ UpTo most number ∷ []) → on_up_to most make words ≡ Some (make r number)
+said_up_to most make r number [] say = absurd say
+said_up_to most make r number (replica ∷ []) say = absurd say.1
+said_up_to most make r number (replica ∷ word ∷ []) say = ap (option_map (λ said. make said.0 said.1)) (two_read (replica_of replica) (up_to_of most word) r number (replica_read replica r say.0) (up_to_read most word number say.1.0))
+said_up_to most make r number (replica ∷ word ∷ next ∷ rest) say = absurd say.1.1
+
+said_budget : (budget : Option ℕ) (words : List (List ℕ)) → Say words (budget_parts budget) → budget_words words ≡ Some budget
+said_budget None [] say = refl
+said_budget None (word ∷ words) say = absurd say
+said_budget (Some budget) [] say = absurd say
+said_budget (Some budget) (word ∷ []) say = ap (option_map Some) (up_to_read budget_max word budget say.0)
+said_budget (Some budget) (word ∷ next ∷ rest) say = absurd say.1
+
+said_work : (r workers : ℕ) (budget : Option ℕ) (words : List (List ℕ)) → Say words (Replica r ∷ UpTo thread_max workers ∷ budget_parts budget) → on_work Work words ≡ Some (Work r workers budget)
+said_work r workers budget [] say = absurd say
+said_work r workers budget (replica ∷ []) say = absurd say.1
+said_work r workers budget (replica ∷ word ∷ words) say = ap (option_map (λ said. Work said.0 said.1 said.2)) (three_read (replica_of replica) (up_to_of thread_max word) (budget_words words) r workers budget (replica_read replica r say.0) (up_to_read thread_max word workers say.1.0) (said_budget budget words say.1.1))
+
+said_storm : (r writers writes : ℕ) (words : List (List ℕ)) → Say words (Replica r ∷ UpTo thread_max writers ∷ UpTo write_max writes ∷ []) → on_storm Storm words ≡ Some (Storm r writers writes)
+said_storm r writers writes [] say = absurd say
+said_storm r writers writes (replica ∷ []) say = absurd say.1
+said_storm r writers writes (replica ∷ word ∷ []) say = absurd say.1.1
+said_storm r writers writes (replica ∷ word ∷ second ∷ []) say = ap (option_map (λ said. Storm said.0 said.1 said.2)) (three_read (replica_of replica) (up_to_of thread_max word) (up_to_of write_max second) r writers writes (replica_read replica r say.0) (up_to_read thread_max word writers say.1.0) (up_to_read write_max second writes say.1.1.0))
+said_storm r writers writes (replica ∷ word ∷ second ∷ next ∷ rest) say = absurd say.1.1.1
 
 said_offer : (make : ℕ → Cid → List ℕ → Command) (r : ℕ) (cid : Cid) (bytes : List ℕ) (words : List (List ℕ)) → Say words (Replica r ∷ Identifier cid ∷ Value bytes ∷ []) → on_offer make words ≡ Some (make r cid bytes)
 said_offer make r cid bytes [] say = absurd say
@@ -360,12 +434,15 @@ command_said (Hear r message) words say = said_message Hear r message words say
 command_said (Plant r cid bytes) words say = said_offer Plant r cid bytes words say
 command_said (Link r other up) words say = said_link Link r other up words say
 command_said (Step r) words say = said_replica Step r words say
+command_said (Work r workers budget) words say = said_work r workers budget words say
+command_said (Repair r workers) words say = said_up_to thread_max Repair r workers words say
+command_said (Storm r writers writes) words say = said_storm r writers writes words say
 command_said (State r) words say = said_replica State r words say
 command_said (Same r other) words say = said_pair Same r other words say
 command_said (Stop r) words say = said_replica Stop r words say
 command_said (Open r) words say = said_replica Open r words say
-command_said (StopAt r commit) words say = said_commit StopAt r commit words say
-command_said (StopAfter r commit) words say = said_commit StopAfter r commit words say
+command_said (StopAt r commit) words say = said_up_to commit_max StopAt r commit words say
+command_said (StopAfter r commit) words say = said_up_to commit_max StopAfter r commit words say
 
 -- a name is a word that doesn't begin with `#`
 abbrev is_name : List ℕ → Bool
@@ -389,6 +466,9 @@ form_has_name (Hear r message) = refl
 form_has_name (Plant r cid bytes) = refl
 form_has_name (Link r other up) = refl
 form_has_name (Step r) = refl
+form_has_name (Work r workers budget) = refl
+form_has_name (Repair r workers) = refl
+form_has_name (Storm r writers writes) = refl
 form_has_name (State r) = refl
 form_has_name (Same r other) = refl
 form_has_name (Stop r) = refl
@@ -534,6 +614,9 @@ form_is_plain (Hear r message) = refl
 form_is_plain (Plant r cid bytes) = refl
 form_is_plain (Link r other up) = refl
 form_is_plain (Step r) = refl
+form_is_plain (Work r workers budget) = refl
+form_is_plain (Repair r workers) = refl
+form_is_plain (Storm r writers writes) = refl
 form_is_plain (State r) = refl
 form_is_plain (Same r other) = refl
 form_is_plain (Stop r) = refl

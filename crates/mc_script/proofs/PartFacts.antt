@@ -21,7 +21,7 @@ use Rattle.hex.specs.declared.error.FromHexError.{FromHexError}
 use Rattle.hex.proofs.HexLemmas.{decode_of-encode_lower, decode_of-even, decode_of-ok, IsAscii-encode_with, length-encode_with}
 use Rattle.hex.proofs.Pairs.{cons_byte, decode_pairs-ok_pair}
 use Rattle.mc_cidtext.specs.CidText.{IsReadAgain, cid_text}
-use Rattle.mc_script.specs.Grammar.{Part, Replica, Key, Prefix, Value, Number, Identifier, OtherThan, Way, CommitNumber, HasWord, Says, is_whole_word, word_of}
+use Rattle.mc_script.specs.Grammar.{Part, Replica, Key, Prefix, Value, Number, Identifier, OtherThan, Way, UpTo, HasWord, Says, is_whole_word, word_of}
 use Rattle.mc_script.specs.ReplyText.{hex_text}
 use Rattle.mc_script.proofs.CidFacts.{cid_passes}
 use Rattle.mc_script.specs.Words.{bytes_of_hex, is_number, number_of, replica_of}
@@ -136,12 +136,6 @@ number_said word number says =
 
 pub number_read : (word : List ℕ) (number : ℕ) → Says word (Number number) → number_of word ≡ Some number
 number_read word number says = let said = number_said word number says in rw (said.0, said.1) refl
-
--- the number of a commit is a number
-pub commit_is_number : (word : List ℕ) (commit : ℕ) → Says word (CommitNumber commit) → Says word (Number commit)
-commit_is_number word commit says =
-    let few : commit ≤ 1000000 = says.1 in
-    (omega (arith, few), says.2, says.3)
 
 -- ---- a value
 
@@ -313,7 +307,7 @@ says_whole word (Identifier cid) says = says.2
 says_whole word (OtherThan r other) says = rw says.2 (letter_is_whole (97 + other) other refl)
 says_whole word (Way true) says = rw says refl
 says_whole word (Way false) says = rw says refl
-says_whole word (CommitNumber commit) says = number_is_whole word commit (commit_is_number word commit says)
+says_whole word (UpTo most number) says = number_is_whole word number says.1
 says_whole word (Number number) says = number_is_whole word number says
 
 -- ---- a written word says its part
@@ -327,9 +321,6 @@ written_hex (byte ∷ bytes) are =
 number_says : (number : ℕ) → number < 2 ^ 64 → Says (decimal number) (Number number)
 number_says number small = (small, length-decimal-le 20 number (omega arith) (omega (arith, small)) small, (0, refl))
 
-commit_small : (commit : ℕ) → commit ≤ 1000000 → commit < 2 ^ 64
-commit_small commit few = omega arith
-
 some_whole : (word : List ℕ) → 0 < length word → list_all (λ byte. not (byte == 32)) word ≡ true → is_whole_word word ≡ true
 some_whole word some none = rw (lt-ltb 0 (length word) some, none) refl
 
@@ -342,9 +333,7 @@ word_says again (Number number) has = number_says number has
 word_says again (Identifier cid) has = (refl, again cid.0 has.0 has.1, some_whole (cid_text cid.0) (omega arith) (cid_passes (λ byte. not (byte == 32)) refl refl cid has))
 word_says again (OtherThan r other) has = (has.0, has.1, refl)
 word_says again (Way up) has = refl
-word_says again (CommitNumber commit) has =
-    let number = number_says commit (commit_small commit has.1) in
-    (has.0, has.1, number.1, number.2)
+word_says again (UpTo most number) has = (has.0, number_says number has.1)
 
 -- ---- words are UTF-8
 
@@ -371,4 +360,4 @@ word_is_utf8 (Identifier cid) has = IsUtf8-from_ascii (cid_text cid.0) (plain_as
 word_is_utf8 (OtherThan r other) has = letter_is_utf8 other has.1
 word_is_utf8 (Way true) has = IsUtf8-from_ascii (codes "up") (plain_ascii (codes "up") refl)
 word_is_utf8 (Way false) has = IsUtf8-from_ascii (codes "down") (plain_ascii (codes "down") refl)
-word_is_utf8 (CommitNumber commit) has = IsUtf8-from_ascii (decimal commit) (IsAscii-decimal commit (commit_small commit has.1))
+word_is_utf8 (UpTo most number) has = IsUtf8-from_ascii (decimal number) (IsAscii-decimal number has.1)

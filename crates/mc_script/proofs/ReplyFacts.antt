@@ -22,7 +22,7 @@ use Rattle.mc_script.specs.Replies.{IsDigest, IsTyped, IsWide}
 use Rattle.mc_script.specs.ReplyText.{clear_or_set, count_words, head_text, hex_text, mark_words, number_line, pair_line, reply_text, row_text, yes_or_no}
 use Rattle.mc_script.specs.Words.{bytes_of_hex, words_of}
 use Rattle.mc_script.specs.declared.reply.Reply.{Reply}
-use Rattle.mc_script.specs.declared.reply.Reply.TheVariants.{Done, Priority, Deleted, Value, Has, Rows, Heads, Message, Queued, Processed, Missing, Bad, Idle, State, Same, Stopped, FaultKeeper, FaultPeer, RefusedKey, RefusedValue, RefusedSize, RefusedPriority, RefusedClash, RefusedBatch, RefusedCast, RefusedOpen}
+use Rattle.mc_script.specs.declared.reply.Reply.TheVariants.{Done, Priority, Deleted, Value, Has, Rows, Heads, Message, Queued, Processed, Missing, Bad, Idle, Worked, Again, Clean, OpenGaps, Stormed, State, Same, Stopped, FaultKeeper, FaultPeer, RefusedKey, RefusedValue, RefusedSize, RefusedPriority, RefusedClash, RefusedBatch, RefusedCast, RefusedOpen}
 use Rattle.mc_script.proofs.CidFacts.{cid_passes}
 use Rattle.mc_script.proofs.GrammarFacts.{joined_is_split}
 use Rattle.mc_script.proofs.PartFacts.{written_hex}
@@ -296,7 +296,8 @@ of_one_word None word =
     else (if bytes_eq word (codes "processed") then Processed
     else (if bytes_eq word (codes "missing") then Missing
     else (if bytes_eq word (codes "idle") then Idle
-    else Stopped))))))
+    else (if bytes_eq word (codes "clean") then Clean
+    else Stopped)))))))
 
 -- the two words of a refusal or a fault
 abbrev of_second : List ℕ → Reply
@@ -315,6 +316,11 @@ of_state (processed ∷ stored_name ∷ stored ∷ waiting_name ∷ waiting ∷ 
     State (digits_value 10 processed) (digits_value 10 stored) (digits_value 10 waiting) (digits_value 10 missing) (digits_value 10 bad) (bytes_eq mark (codes "set")) (bytes_eq whole (codes "yes"))
 of_state words = Done
 
+-- the numbers of finished work
+abbrev of_worked : List ℕ → List ℕ → List (List ℕ) → Reply
+of_worked processed missing (bad ∷ []) = Worked (digits_value 10 processed) (digits_value 10 missing) (digits_value 10 bad)
+of_worked processed missing words = Done
+
 abbrev of_words : List (List ℕ) → List ℕ → Reply × List ℕ
 of_words [] rest = (Done, rest)
 of_words (word ∷ []) rest = (of_one_word (bytes_of_hex word) word, rest)
@@ -326,13 +332,17 @@ of_words (word ∷ second ∷ []) rest =
     else (if bytes_eq word (codes "message") then (Message (digits_value 10 second), rest)
     else (if bytes_eq word (codes "queued") then (Queued (digits_value 10 second), rest)
     else (if bytes_eq word (codes "bad") then (Bad (digits_value 10 second), rest)
+    else (if bytes_eq word (codes "again") then (Again (digits_value 10 second), rest)
+    else (if bytes_eq word (codes "open") then (OpenGaps (digits_value 10 second), rest)
     else (if bytes_eq word (codes "same") then (Same (bytes_eq second (codes "yes")), rest)
-    else (of_second second, rest))))))))
+    else (of_second second, rest))))))))))
 of_words (word ∷ second ∷ third ∷ words) rest =
-    if bytes_eq second (codes "key") then (RefusedKey (digits_value 10 third), rest)
+    if bytes_eq word (codes "worked") then (of_worked second third words, rest)
+    else (if bytes_eq word (codes "stormed") then (Stormed (digits_value 10 second) (digits_value 10 third), rest)
+    else (if bytes_eq second (codes "key") then (RefusedKey (digits_value 10 third), rest)
     else (if bytes_eq second (codes "size") then (RefusedSize (digits_value 10 third), rest)
     else (if bytes_eq second (codes "clash") then (RefusedClash (cid_of third), rest)
-    else (of_state (third ∷ words), rest)))
+    else (of_state (third ∷ words), rest)))))
 
 -- the reply at the front of a text, and what follows it
 abbrev told : List ℕ → Reply × List ℕ
@@ -402,6 +412,28 @@ told_state processed stored waiting missing bad mark whole rest typed =
     state_is_read : of_words (count_words processed stored waiting missing bad ++ mark_words mark whole) rest ≡ (State processed stored waiting missing bad mark whole, rest)
     state_is_read = rw (number_is_read processed typed.0, number_is_read stored typed.1, number_is_read waiting typed.2, number_is_read missing typed.3, number_is_read bad typed.4, mark_is_read mark, yes_is_read whole) refl
 
+told_worked : (processed missing bad : ℕ) (rest : List ℕ) → IsTyped (Worked processed missing bad) → told (reply_text (Worked processed missing bad) ++ rest) ≡ (Worked processed missing bad, rest)
+told_worked processed missing bad rest typed =
+    let words : List (List ℕ) = decimal processed ∷ decimal missing ∷ decimal bad ∷ [] in
+    let graphic : list_all is_graphic words ≡ true = rw (graphic_decimal processed typed.0, graphic_decimal missing typed.1, graphic_decimal bad typed.2) refl in
+    ap told (append_assoc (join_with_byte 32 (codes "worked" ∷ words)) (10 ∷ []) rest)
+    ∙ told_words (codes "worked") words rest refl graphic
+    ∙ worked_is_read
+  where
+    worked_is_read : of_words (codes "worked" ∷ decimal processed ∷ decimal missing ∷ decimal bad ∷ []) rest ≡ (Worked processed missing bad, rest)
+    worked_is_read = rw (number_is_read processed typed.0, number_is_read missing typed.1, number_is_read bad typed.2) refl
+
+told_stormed : (made same : ℕ) (rest : List ℕ) → IsTyped (Stormed made same) → told (reply_text (Stormed made same) ++ rest) ≡ (Stormed made same, rest)
+told_stormed made same rest typed =
+    let words : List (List ℕ) = decimal made ∷ decimal same ∷ [] in
+    let graphic : list_all is_graphic words ≡ true = rw (graphic_decimal made typed.0, graphic_decimal same typed.1) refl in
+    ap told (append_assoc (join_with_byte 32 (codes "stormed" ∷ words)) (10 ∷ []) rest)
+    ∙ told_words (codes "stormed") words rest refl graphic
+    ∙ stormed_is_read
+  where
+    stormed_is_read : of_words (codes "stormed" ∷ decimal made ∷ decimal same ∷ []) rest ≡ (Stormed made same, rest)
+    stormed_is_read = rw (number_is_read made typed.0, number_is_read same typed.1) refl
+
 told_reply : (reply : Reply) (rest : List ℕ) → IsReadAgain → IsTyped reply → told (reply_text reply ++ rest) ≡ (reply, rest)
 unfolding decode_pairs
 told_reply Done rest again typed = refl
@@ -432,6 +464,13 @@ told_reply Missing rest again typed = refl
 told_reply (Bad damage) rest again typed =
     told_of_one (codes "bad") (decimal damage) rest refl refl (graphic_decimal damage typed) ∙ ap (λ (n : ℕ). (Bad n, rest)) (number_is_read damage typed)
 told_reply Idle rest again typed = refl
+told_reply (Worked processed missing bad) rest again typed = told_worked processed missing bad rest typed
+told_reply (Again processed) rest again typed =
+    told_of_one (codes "again") (decimal processed) rest refl refl (graphic_decimal processed typed) ∙ ap (λ (n : ℕ). (Again n, rest)) (number_is_read processed typed)
+told_reply Clean rest again typed = refl
+told_reply (OpenGaps gaps) rest again typed =
+    told_of_one (codes "open") (decimal gaps) rest refl refl (graphic_decimal gaps typed) ∙ ap (λ (n : ℕ). (OpenGaps n, rest)) (number_is_read gaps typed)
+told_reply (Stormed made same) rest again typed = told_stormed made same rest typed
 told_reply (State processed stored waiting missing bad mark whole) rest again typed = told_state processed stored waiting missing bad mark whole rest typed
 told_reply (Same true) rest again typed = refl
 told_reply (Same false) rest again typed = refl
@@ -477,6 +516,11 @@ has_bytes Processed rest h = cc h
 has_bytes Missing rest h = cc h
 has_bytes (Bad damage) rest h = cc h
 has_bytes Idle rest h = cc h
+has_bytes (Worked processed missing bad) rest h = cc h
+has_bytes (Again processed) rest h = cc h
+has_bytes Clean rest h = cc h
+has_bytes (OpenGaps gaps) rest h = cc h
+has_bytes (Stormed made same) rest h = cc h
 has_bytes (State processed stored waiting missing bad mark whole) rest h = cc h
 has_bytes (Same true) rest h = cc h
 has_bytes (Same false) rest h = cc h

@@ -1,4 +1,4 @@
--- Which words say the other replica of a link, its way, the number of a commit and an identifier.
+-- Which words say the other replica of a link, its way, a number up to a greatest one and an identifier.
 use Rattle.std.proofs.Common.{◌≡◌, ◌≢◌, ℕ, ◌==◌, inl, inr, Bool, true, false, List, Option, Some, None, Result, Ok, Err, codes, refl, sym, ap, ◌∙◌, subst}
 use Rattle.std.specs.Prelude.{if◌then◌else◌, nat_le}
 use Rattle.std.specs.Option.{option_map}
@@ -10,9 +10,9 @@ use Rattle.std.proofs.lemmas.Slice.Eq.{bytes_eq-Decides}
 use Rattle.mc_base.specs.declared.cid.Cid.{Cid}
 use Rattle.mc_cidtext.specs.CidText.{IsOneText, read_cid_text}
 use Rattle.mc_cidtext.specs.declared.fault.CidTextFault.{CidTextFault}
-use Rattle.mc_script.specs.Grammar.{CommitNumber, Identifier, OtherThan, Replica, Says, Way, is_whole_word, way_word}
-use Rattle.mc_script.specs.Words.{◌>>=◌, cid_of, commit_of, identifier_of, is_commit, number_of, other_of, replica_of, way_of}
-use Rattle.mc_script.proofs.PartFacts.{chosen, commit_is_number, no_other, number_found, number_read, replica_found, replica_read}
+use Rattle.mc_script.specs.Grammar.{Identifier, OtherThan, Replica, Says, UpTo, Way, is_whole_word, way_word}
+use Rattle.mc_script.specs.Words.{◌>>=◌, cid_of, identifier_of, is_up_to, number_of, other_of, replica_of, up_to_of, way_of}
+use Rattle.mc_script.proofs.PartFacts.{chosen, no_other, number_found, number_read, replica_found, replica_read}
 
 pub bind_some : {A B : Type 0} (o : Option A) (f : A → Option B) (b : B) → (o >>= f) ≡ Some b → (a : A) × (o ≡ Some a) × (f a ≡ Some b)
 bind_some (Some a) f b h = (a, refl, h)
@@ -57,21 +57,21 @@ pub way_read : (word : List ℕ) (up : Bool) → Says word (Way up) → way_of w
 way_read word true is = rw is refl
 way_read word false is = rw is refl
 
--- ---- the number of a commit
+-- ---- a number up to a greatest one
 
-pub commit_found : (word : List ℕ) (commit : ℕ) → commit_of word ≡ Some commit → Says word (CommitNumber commit)
-commit_found word commit h =
-    let first = bind_some (number_of word) _ commit h in
-    elim (chosen (is_commit first.0) first.0 None commit first.2) [
+pub up_to_found : (most : ℕ) (word : List ℕ) (wanted : ℕ) → up_to_of most word ≡ Some wanted → Says word (UpTo most wanted)
+up_to_found most word wanted h =
+    let first = bind_some (number_of word) _ wanted h in
+    elim (chosen (is_up_to most first.0) first.0 None wanted first.2) [
       | inl went ↦
           let number = number_found word first.0 first.1 in
-          let parts = and_parts (nat_le 1 first.0) (nat_le first.0 1000000) went.0 in
-          subst (λ (commit : ℕ). Says word (CommitNumber commit)) went.1 (leb-true 1 first.0 parts.0, leb-true first.0 1000000 parts.1, number.1, number.2)
+          let parts = and_parts (nat_le 1 first.0) (nat_le first.0 most) went.0 in
+          subst (λ (wanted : ℕ). Says word (UpTo most wanted)) went.1 ((leb-true 1 first.0 parts.0, leb-true first.0 most parts.1), number)
       | inr other ↦ no_other other.1
     ]
 
-pub commit_read : (word : List ℕ) (commit : ℕ) → Says word (CommitNumber commit) → commit_of word ≡ Some commit
-commit_read word commit says = rw (number_read word commit (commit_is_number word commit says), le-leb 1 commit says.0, le-leb commit 1000000 says.1) refl
+pub up_to_read : (most : ℕ) (word : List ℕ) (wanted : ℕ) → Says word (UpTo most wanted) → up_to_of most word ≡ Some wanted
+up_to_read most word wanted says = rw (number_read word wanted says.1, le-leb 1 wanted says.0.0, le-leb wanted most says.0.1) refl
 
 -- ---- an identifier
 

@@ -1,7 +1,9 @@
 -- What the words behind a command's name say. A key and a prefix are any word.
 use Rattle.std.specs.Prelude.{ℕ, List, [], ◌∷◌, Option, Some, None, Bool}
+use Rattle.std.specs.Option.{option_map}
 use Rattle.mc_base.specs.declared.cid.Cid.{Cid}
-use Rattle.mc_script.specs.Words.{◌>>=◌, replica_of, number_of, bytes_of_hex, other_of, way_of, commit_of, identifier_of}
+use Rattle.mc_script.specs.Limits.{budget_max, thread_max, write_max}
+use Rattle.mc_script.specs.Words.{◌>>=◌, replica_of, number_of, bytes_of_hex, other_of, way_of, up_to_of, identifier_of}
 
 -- `R`
 abbrev pub replica_words : List (List ℕ) → Option ℕ
@@ -71,10 +73,34 @@ pair_words (replica ∷ second ∷ []) = do
   Some (r, other)
 pair_words words = None
 
--- `R K`
-abbrev pub commit_words : List (List ℕ) → Option (ℕ × ℕ)
-commit_words (replica ∷ commit ∷ []) = do
+-- `R N`, with a number from 1 to `most`
+abbrev pub up_to_words : ℕ → List (List ℕ) → Option (ℕ × ℕ)
+up_to_words most (replica ∷ number ∷ []) = do
   r ← replica_of replica
-  commit ← commit_of commit
-  Some (r, commit)
-commit_words words = None
+  number ← up_to_of most number
+  Some (r, number)
+up_to_words most words = None
+
+-- nothing, or `B`
+abbrev pub budget_words : List (List ℕ) → Option (Option ℕ)
+budget_words [] = Some None
+budget_words (budget ∷ []) = option_map Some (up_to_of budget_max budget)
+budget_words words = None
+
+-- `R N` or `R N B`
+abbrev pub work_words : List (List ℕ) → Option (ℕ × ℕ × Option ℕ)
+work_words (replica ∷ workers ∷ budget) = do
+  r ← replica_of replica
+  workers ← up_to_of thread_max workers
+  budget ← budget_words budget
+  Some (r, workers, budget)
+work_words words = None
+
+-- `R T M`
+abbrev pub storm_words : List (List ℕ) → Option (ℕ × ℕ × ℕ)
+storm_words (replica ∷ writers ∷ writes ∷ []) = do
+  r ← replica_of replica
+  writers ← up_to_of thread_max writers
+  writes ← up_to_of write_max writes
+  Some (r, writers, writes)
+storm_words words = None

@@ -1,15 +1,16 @@
 -- The commands, one row for each: its name and the words behind it; and which lines are lines of a command.
-use Rattle.std.specs.Prelude.{◌≡◌, ◌≢◌, ℕ, ◌+◌, ◌<◌, ◌≤◌, ◌^◌, ◌==◌, ◌&&◌, ◌++◌, not, nat_lt, Bool, true, false, List, [], ◌∷◌, length, map, codes, Ok, ⊤}
+use Rattle.std.specs.Prelude.{◌≡◌, ◌≢◌, ℕ, ◌+◌, ◌<◌, ◌≤◌, ◌^◌, ◌==◌, ◌&&◌, ◌++◌, not, nat_lt, Bool, true, false, List, [], ◌∷◌, length, map, codes, Option, Some, None, Ok, ⊤}
 use Rattle.std.specs.Fmt.{decimal}
 use Rattle.std.specs.List.{AllByRecursion, join_with_byte, list_all, repeat}
 use Rattle.std.specs.Str.{IsUtf8, str_to_ascii_lowercase}
 use Rattle.hex.specs.Hex.{IsBytes}
 use Rattle.mc_base.specs.declared.cid.Cid.{Cid}
 use Rattle.mc_cidtext.specs.CidText.{cid_text, read_cid_text}
+use Rattle.mc_script.specs.Limits.{IsUpTo, budget_max, commit_max, thread_max, write_max}
 use Rattle.mc_script.specs.Replies.{IsDigest}
 use Rattle.mc_script.specs.ReplyText.{hex_text}
 use Rattle.mc_script.specs.declared.command.Command.{Command}
-use Rattle.mc_script.specs.declared.command.Command.TheVariants.{Put, Del, Begin, BatchPut, BatchDel, Commit, Get, Has, Query, Heads, Cast, Wire, Hear, Plant, Link, Step, State, Same, Stop, Open, StopAt, StopAfter}
+use Rattle.mc_script.specs.declared.command.Command.TheVariants.{Put, Del, Begin, BatchPut, BatchDel, Commit, Get, Has, Query, Heads, Cast, Wire, Hear, Plant, Link, Step, Work, Repair, Storm, State, Same, Stop, Open, StopAt, StopAfter}
 
 -- what a word behind a command's name says
 pub data Part : Type 0 where
@@ -21,7 +22,12 @@ pub data Part : Type 0 where
   Identifier : Cid → Part
   OtherThan : ℕ → ℕ → Part
   Way : Bool → Part
-  CommitNumber : ℕ → Part
+  UpTo : ℕ → ℕ → Part
+
+-- the word of a budget, where there is one
+abbrev pub budget_parts : Option ℕ → List Part
+budget_parts None = []
+budget_parts (Some budget) = UpTo budget_max budget ∷ []
 
 -- each command's name, and the words behind it
 abbrev pub form : Command → List ℕ × List Part
@@ -41,12 +47,15 @@ form (Hear r message) = (codes "hear", Replica r ∷ Number message ∷ [])
 form (Plant r cid bytes) = (codes "plant", Replica r ∷ Identifier cid ∷ Value bytes ∷ [])
 form (Link r other up) = (codes "link", Replica r ∷ OtherThan r other ∷ Way up ∷ [])
 form (Step r) = (codes "step", Replica r ∷ [])
+form (Work r workers budget) = (codes "work", Replica r ∷ UpTo thread_max workers ∷ budget_parts budget)
+form (Repair r workers) = (codes "repair", Replica r ∷ UpTo thread_max workers ∷ [])
+form (Storm r writers writes) = (codes "storm", Replica r ∷ UpTo thread_max writers ∷ UpTo write_max writes ∷ [])
 form (State r) = (codes "state", Replica r ∷ [])
 form (Same r other) = (codes "same", Replica r ∷ Replica other ∷ [])
 form (Stop r) = (codes "stop", Replica r ∷ [])
 form (Open r) = (codes "open", Replica r ∷ [])
-form (StopAt r commit) = (codes "stopat", Replica r ∷ CommitNumber commit ∷ [])
-form (StopAfter r commit) = (codes "stopafter", Replica r ∷ CommitNumber commit ∷ [])
+form (StopAt r commit) = (codes "stopat", Replica r ∷ UpTo commit_max commit ∷ [])
+form (StopAfter r commit) = (codes "stopafter", Replica r ∷ UpTo commit_max commit ∷ [])
 
 -- at least one byte, and no space
 abbrev pub is_whole_word : List ℕ → Bool
@@ -68,10 +77,10 @@ word_of (Number number) = decimal number
 word_of (Identifier cid) = cid_text cid.0
 word_of (OtherThan r other) = (97 + other) ∷ []
 word_of (Way up) = way_word up
-word_of (CommitNumber commit) = decimal commit
+word_of (UpTo most number) = decimal number
 
--- whether a part has a word: the other replica of a link differs from the first, and the number of a commit is from 1
--- to 1,000,000
+-- whether a part has a word: the other replica of a link differs from the first, and a number with a greatest one is
+-- from 1 to it
 abbrev pub HasWord : Part → Type 0
 HasWord (Replica r) = r < 8
 HasWord (Key key) = IsUtf8 key × (is_whole_word key ≡ true)
@@ -81,23 +90,25 @@ HasWord (Number number) = number < 2 ^ 64
 HasWord (Identifier cid) = IsDigest cid
 HasWord (OtherThan r other) = (r ≢ other) × (other < 8)
 HasWord (Way up) = ⊤
-HasWord (CommitNumber commit) = (1 ≤ commit) × (commit ≤ 1000000)
+HasWord (UpTo most number) = IsUpTo most number × (number < 2 ^ 64)
 
--- whether a word says a part: hexadecimal digits may be of either case, and zeros may lead a number of up to 20 digits;
--- the one text of an identifier is read as it
+-- zeros may lead a number of up to 20 digits
+abbrev pub SaysNumber : List ℕ → ℕ → Type 0
+SaysNumber word number =
+    (number < 2 ^ 64) × (length word ≤ 20) × ((zeros : ℕ) × (word ≡ repeat zeros (48 ∷ []) ++ decimal number))
+
+-- whether a word says a part: hexadecimal digits may be of either case, and zeros may lead a number; the one text of an
+-- identifier is read as it
 abbrev pub Says : List ℕ → Part → Type 0
 Says word (Replica r) = (r < 8) × (word ≡ (97 + r) ∷ [])
 Says word (Key key) = (word ≡ key) × (is_whole_word key ≡ true)
 Says word (Prefix prefix) = (word ≡ prefix) × (is_whole_word prefix ≡ true)
 Says word (Value bytes) = IsBytes bytes × (str_to_ascii_lowercase word ≡ hex_text bytes)
-Says word (Number number) =
-    (number < 2 ^ 64) × (length word ≤ 20) × ((zeros : ℕ) × (word ≡ repeat zeros (48 ∷ []) ++ decimal number))
+Says word (Number number) = SaysNumber word number
 Says word (Identifier cid) = (word ≡ cid_text cid.0) × (read_cid_text word ≡ Ok cid.0) × (is_whole_word word ≡ true)
 Says word (OtherThan r other) = (r ≢ other) × (other < 8) × (word ≡ (97 + other) ∷ [])
 Says word (Way up) = word ≡ way_word up
-Says word (CommitNumber commit) =
-    (1 ≤ commit) × (commit ≤ 1000000) × (length word ≤ 20)
-    × ((zeros : ℕ) × (word ≡ repeat zeros (48 ∷ []) ++ decimal commit))
+Says word (UpTo most number) = IsUpTo most number × SaysNumber word number
 
 abbrev pub Say : List (List ℕ) → List Part → Type 0
 Say [] [] = ⊤

@@ -4,7 +4,7 @@ use Rattle.std.specs.List.{AllByRecursion}
 use Rattle.hex.specs.Hex.{IsBytes}
 use Rattle.mc_base.specs.declared.cid.Cid.{Cid}
 use Rattle.mc_script.specs.declared.reply.Reply.{Reply}
-use Rattle.mc_script.specs.declared.reply.Reply.TheVariants.{Priority, Deleted, Value, Rows, Heads, Message, Queued, Bad, State, RefusedKey, RefusedSize, RefusedClash}
+use Rattle.mc_script.specs.declared.reply.Reply.TheVariants.{Priority, Deleted, Value, Rows, Heads, Message, Queued, Bad, Worked, Again, OpenGaps, Stormed, State, RefusedKey, RefusedSize, RefusedClash}
 
 -- a number of 64 bits
 abbrev pub IsWide : ℕ → Type 0
@@ -24,6 +24,10 @@ IsTyped (Heads heads) = IsWide (length heads) × AllByRecursion (λ head. IsDige
 IsTyped (Message number) = IsWide number
 IsTyped (Queued count) = IsWide count
 IsTyped (Bad damage) = IsWide damage
+IsTyped (Worked processed missing bad) = IsWide processed × IsWide missing × IsWide bad
+IsTyped (Again processed) = IsWide processed
+IsTyped (OpenGaps gaps) = IsWide gaps
+IsTyped (Stormed made same) = IsWide made × IsWide same
 IsTyped (State processed stored waiting missing bad mark whole) =
     IsWide processed × IsWide stored × IsWide waiting × IsWide missing × IsWide bad
 IsTyped (RefusedKey number) = IsWide number

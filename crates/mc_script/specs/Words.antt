@@ -58,14 +58,14 @@ way_of word =
     if bytes_eq word (codes "up") then Some true
     else (if bytes_eq word (codes "down") then Some false else None)
 
--- the number of a commit that is told to fail, from 1 to 1,000,000
-abbrev pub is_commit : ℕ → Bool
-is_commit commit = nat_le 1 commit && nat_le commit 1000000
+-- a number from 1 to `most`
+abbrev pub is_up_to : ℕ → ℕ → Bool
+is_up_to most number = nat_le 1 number && nat_le number most
 
-abbrev pub commit_of : List ℕ → Option ℕ
-commit_of word = do
-  commit ← number_of word
-  if is_commit commit then Some commit else None
+abbrev pub up_to_of : ℕ → List ℕ → Option ℕ
+up_to_of most word = do
+  number ← number_of word
+  if is_up_to most number then Some number else None
 
 -- the identifier of a digest
 abbrev pub cid_of : List ℕ → Cid

@@ -1,14 +1,24 @@
 // The words behind a command's name.
-ghost use Rattle.std.specs.Prelude.{◌≡◌, ◌≢◌, ◌≤◌, IfOk, IfErr, IsErrOf, Some, None};
-ghost use Rattle.mc_script.specs.Arguments.{replica_words, key_words, value_words, range_words, hex_words, message_words, offer_words, link_words, pair_words, commit_words};
+ghost use Rattle.std.specs.Prelude.{◌≡◌, ◌≢◌, IfOk, IfErr, IfSome, IsErrOf, Some, None};
+ghost use Rattle.mc_script.specs.Arguments.{replica_words, key_words, value_words, range_words, hex_words, message_words, offer_words, link_words, pair_words, up_to_words, budget_words, work_words, storm_words};
+ghost use Rattle.mc_script.specs.Limits.{IsUpTo, budget_max, thread_max, write_max};
 ghost use Rattle.mc_script.specs.Words.{texts_of};
 
 use crate::LineError;
 use crate::words::{
-    read_cid, read_commit, read_hex, read_number, read_other, read_replica, read_way,
+    read_cid, read_hex, read_number, read_other, read_replica, read_up_to, read_way,
 };
 use mc_base::{Bytes, Cid, Text};
 use std::alloc::Global;
+
+// The greatest number of workers, and of writers.
+pub const THREAD_MAX: u64 = 16;
+
+// How many blocks workers may process at most.
+const BUDGET_MAX: u64 = 1_048_576;
+
+// The most writes of one writer.
+const WRITE_MAX: u64 = 10_000;
 
 // `R`
 pub fn read_replica_words(words: &[&str]) -> Result<u64, LineError>
@@ -129,16 +139,62 @@ pub fn read_pair_words(words: &[&str]) -> Result<(u64, u64), LineError>
     Ok((r, other))
 }
 
-// `R K`
-pub fn read_commit_words(words: &[&str]) -> Result<(u64, u64), LineError>
-    ensures ok { IfOk result (λ said. commit_words (texts_of words.now) ≡ Some said) }
-    ensures limits { IfOk result (λ said. (1 ≤ said.1) × (said.1 ≤ 1000000)) }
-    ensures err { IfErr result (λ e. (e ≡ LineError.Bad) × (commit_words (texts_of words.now) ≡ None)) }
+// `R N`, with a number from 1 to `most`
+pub fn read_up_to_words(most: u64, words: &[&str]) -> Result<(u64, u64), LineError>
+    ensures ok { IfOk result (λ said. up_to_words most (texts_of words.now) ≡ Some said) }
+    ensures limits { IfOk result (λ said. IsUpTo most said.1) }
+    ensures err { IfErr result (λ e. (e ≡ LineError.Bad) × (up_to_words most (texts_of words.now) ≡ None)) }
 {
-    let [replica, commit] = words else {
+    let [replica, number] = words else {
         return Err(LineError::Bad);
     };
     let r = read_replica(replica)?;
-    let commit = read_commit(commit)?;
-    Ok((r, commit))
+    let number = read_up_to(most, number)?;
+    Ok((r, number))
+}
+
+// `R N` or `R N B`
+pub fn read_work_words(words: &[&str]) -> Result<(u64, u64, Option<u64>), LineError>
+    ensures ok { IfOk result (λ said. work_words (texts_of words.now) ≡ Some said) }
+    ensures limits { IfOk result (λ said. IsUpTo thread_max said.1 × IfSome said.2 (IsUpTo budget_max)) }
+    ensures err { IfErr result (λ e. (e ≡ LineError.Bad) × (work_words (texts_of words.now) ≡ None)) }
+{
+    let [replica, workers, budget @ ..] = words else {
+        return Err(LineError::Bad);
+    };
+    let r = read_replica(replica)?;
+    let workers = read_up_to(THREAD_MAX, workers)?;
+    let budget = read_budget_words(budget)?;
+    Ok((r, workers, budget))
+}
+
+// nothing, or `B`
+fn read_budget_words(words: &[&str]) -> Result<Option<u64>, LineError>
+    ensures ok { IfOk result (λ budget. budget_words (texts_of words.now) ≡ Some budget) }
+    ensures limits { IfOk result (λ budget. IfSome budget (IsUpTo budget_max)) }
+    ensures err { IfErr result (λ e. (e ≡ LineError.Bad) × (budget_words (texts_of words.now) ≡ None)) }
+{
+    if words.is_empty() {
+        return Ok(None);
+    }
+    let [budget] = words else {
+        return Err(LineError::Bad);
+    };
+    let budget = read_up_to(BUDGET_MAX, budget)?;
+    Ok(Some(budget))
+}
+
+// `R T M`
+pub fn read_storm_words(words: &[&str]) -> Result<(u64, u64, u64), LineError>
+    ensures ok { IfOk result (λ said. storm_words (texts_of words.now) ≡ Some said) }
+    ensures limits { IfOk result (λ said. IsUpTo thread_max said.1 × IsUpTo write_max said.2) }
+    ensures err { IfErr result (λ e. (e ≡ LineError.Bad) × (storm_words (texts_of words.now) ≡ None)) }
+{
+    let [replica, writers, writes] = words else {
+        return Err(LineError::Bad);
+    };
+    let r = read_replica(replica)?;
+    let writers = read_up_to(THREAD_MAX, writers)?;
+    let writes = read_up_to(WRITE_MAX, writes)?;
+    Ok((r, writers, writes))
 }

@@ -3,16 +3,20 @@ ghost use Rattle.std.specs.Prelude.{◌≡◌, IfOk, IfSome, IsErrOf, Some, None
 ghost use Rattle.std.specs.List.{list_all};
 ghost use Rattle.mc_script.specs.Words.{words_of, texts_of, is_word};
 ghost use Rattle.mc_script.specs.Limits.{IsInLimits};
-ghost use Rattle.mc_script.specs.Line.{batch_by_name, command_by_name, command_of_words, has_no_reply, line_of, line_of_text, message_by_name, run_by_name};
+ghost use Rattle.mc_script.specs.Line.{batch_by_name, command_by_name, command_of_words, has_no_reply, crowd_by_name, line_of, line_of_text, message_by_name, run_by_name};
 ghost use Rattle.mc_script.specs.declared.line.LineError.TheVariants.{Memory};
 
 use crate::Command;
 use crate::arguments::{
-    read_commit_words, read_hex_words, read_key_words, read_link_words, read_message_words,
-    read_offer_words, read_pair_words, read_range_words, read_replica_words, read_value_words,
+    THREAD_MAX, read_hex_words, read_key_words, read_link_words, read_message_words,
+    read_offer_words, read_pair_words, read_range_words, read_replica_words, read_storm_words,
+    read_up_to_words, read_value_words, read_work_words,
 };
 use std::alloc::{AllocError, Global};
 use thiserror::Error;
+
+// The greatest number of a commit that may be told to fail.
+const COMMIT_MAX: u64 = 1_000_000;
 
 /// Why a line gave no command.
 #[derive(Clone, Copy, Debug, PartialEq, Eq, Error)]
@@ -38,7 +42,8 @@ impl From<AllocError> for LineError {
 /// them and none at either end. Only the space parts words: a tab, a carriage return or a NUL is part of one.
 /// `Bad` comes exactly where the line is not UTF-8, or its words are no command.
 ///
-/// The two replicas of a link differ, and the number of a commit is from 1 to 1,000,000 (`limits`). No limit on a line or
+/// The two replicas of a link differ, the number of a commit is from 1 to 1,000,000, those of workers and writers are from
+/// 1 to 16, that of a writer's writes from 1 to 10,000, and a budget from 1 to 1,048,576 (`limits`). No limit on a line or
 /// a script is looked at here: how long they may be is the caller's.
 pub fn read_line(alloc: Global, line: &[u8]) -> Result<Option<Command>, LineError>
     ensures ok { IfOk result (λ read. line_of line.now ≡ Some read) }
@@ -229,12 +234,35 @@ fn read_of_runs(name: &str, words: &[&str]) -> Result<Command, LineError>
             Ok(Command::Open { r })
         }
         "stopat" => {
-            let (r, commit) = read_commit_words(words)?;
+            let (r, commit) = read_up_to_words(COMMIT_MAX, words)?;
             Ok(Command::StopAt { r, commit })
         }
         "stopafter" => {
-            let (r, commit) = read_commit_words(words)?;
+            let (r, commit) = read_up_to_words(COMMIT_MAX, words)?;
             Ok(Command::StopAfter { r, commit })
+        }
+        _ => read_of_crowds(name, words),
+    }
+}
+
+// The commands of workers and writers.
+fn read_of_crowds(name: &str, words: &[&str]) -> Result<Command, LineError>
+    ensures ok { IfOk result (λ command. crowd_by_name name.now (texts_of words.now) ≡ Some command) }
+    ensures limits { IfOk result IsInLimits }
+    ensures bad { IsErrOf result LineError.Bad → crowd_by_name name.now (texts_of words.now) ≡ None }
+{
+    match name {
+        "work" => {
+            let (r, workers, budget) = read_work_words(words)?;
+            Ok(Command::Work { r, workers, budget })
+        }
+        "repair" => {
+            let (r, workers) = read_up_to_words(THREAD_MAX, words)?;
+            Ok(Command::Repair { r, workers })
+        }
+        "storm" => {
+            let (r, writers, writes) = read_storm_words(words)?;
+            Ok(Command::Storm { r, writers, writes })
         }
         _ => Err(LineError::Bad),
     }

@@ -139,6 +139,42 @@ fn lines_that_are_no_command_of_a_run(rt: HostRuntime) -> Result<(), Fail> {
     Ok(())
 }
 
+#[test]
+fn lines_that_are_no_command_of_a_crowd(rt: HostRuntime) -> Result<(), Fail> {
+    let alloc = rt.alloc();
+    let bad: [&[u8]; 24] = [
+        b"work",
+        b"work a",
+        b"work a 0",
+        b"work a 17",
+        b"work i 1",
+        b"work a 1 0",
+        b"work a 1 1048577",
+        b"work a 1 -",
+        b"work a 1 2 3",
+        b"work a b",
+        b"repair a",
+        b"repair a 0",
+        b"repair a 17",
+        b"repair a 1 1",
+        b"repair i 1",
+        b"storm a",
+        b"storm a 8",
+        b"storm a 0 1",
+        b"storm a 17 1",
+        b"storm a 1 0",
+        b"storm a 1 10001",
+        b"storm a 1 1 1",
+        b"storm i 1 1",
+        b"Storm a 1 1",
+    ];
+    for line in bad {
+        let answer = read_line(alloc, line);
+        assert!(rt; matches!(answer, Err(LineError::Bad)), "at {line:?}");
+    }
+    Ok(())
+}
+
 // The parts of a command: its name, its replica, its key or prefix or the word of a link, its bytes, and its numbers.
 fn parts(command: &Command) -> (&str, u64, &str, &[u8], u64, u64) {
     match command {
@@ -171,6 +207,18 @@ fn parts_of_a_run(command: &Command) -> (&str, u64, &str, &[u8], u64, u64) {
             ("link", *r, if *up { "up" } else { "down" }, b"", *other, 0)
         }
         Command::Step { r } => ("step", *r, "", b"", 0, 0),
+        Command::Work {
+            r,
+            workers,
+            budget: None,
+        } => ("work", *r, "", b"", *workers, 0),
+        Command::Work {
+            r,
+            workers,
+            budget: Some(budget),
+        } => ("work with a budget", *r, "", b"", *workers, *budget),
+        Command::Repair { r, workers } => ("repair", *r, "", b"", *workers, 0),
+        Command::Storm { r, writers, writes } => ("storm", *r, "", b"", *writers, *writes),
         Command::State { r } => ("state", *r, "", b"", 0, 0),
         Command::Same { r, other } => ("same", *r, "", b"", *other, 0),
         Command::Stop { r } => ("stop", *r, "", b"", 0, 0),
@@ -231,7 +279,16 @@ fn lines_that_are_commands(rt: HostRuntime) -> Result<(), Fail> {
 #[test]
 fn lines_that_are_commands_of_a_run(rt: HostRuntime) -> Result<(), Fail> {
     let alloc = rt.alloc();
-    let rows: [(&[u8], (&str, u64, &str, &[u8], u64, u64)); 22] = [
+    let rows: [(&[u8], (&str, u64, &str, &[u8], u64, u64)); 28] = [
+        (b"work a 1", ("work", 0, "", b"", 1, 0)),
+        (b"work h 016", ("work", 7, "", b"", 16, 0)),
+        (
+            b"work b 4 1048576",
+            ("work with a budget", 1, "", b"", 4, 1_048_576),
+        ),
+        (b"repair c 16", ("repair", 2, "", b"", 16, 0)),
+        (b"storm a 16 10000", ("storm", 0, "", b"", 16, 10_000)),
+        (b"storm d 1 1", ("storm", 3, "", b"", 1, 1)),
         (b"cast a", ("cast", 0, "", b"", 0, 0)),
         (b"wire 0aFf", ("wire", 0, "", b"\x0a\xff", 0, 0)),
         (b"wire -", ("wire", 0, "", b"", 0, 0)),
@@ -340,7 +397,25 @@ fn replies_of_one_line(rt: HostRuntime) -> Result<(), Fail> {
 #[test]
 fn replies_of_a_run(rt: HostRuntime) -> Result<(), Fail> {
     let alloc = rt.alloc();
-    let rows: [(Reply, &[u8]); 16] = [
+    let rows: [(Reply, &[u8]); 21] = [
+        (
+            Reply::Worked {
+                processed: 1,
+                missing: u64::MAX,
+                bad: 0,
+            },
+            b"\nworked 1 18446744073709551615 0\n",
+        ),
+        (Reply::Again { processed: 2 }, b"\nagain 2\n"),
+        (Reply::Clean, b"\nclean\n"),
+        (Reply::OpenGaps { gaps: 1 }, b"\nopen 1\n"),
+        (
+            Reply::Stormed {
+                made: 800,
+                same: 799,
+            },
+            b"\nstormed 800 799\n",
+        ),
         (Reply::Message { number: 1 }, b"\nmessage 1\n"),
         (Reply::Queued { count: 0 }, b"\nqueued 0\n"),
         (

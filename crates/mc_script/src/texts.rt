@@ -1,6 +1,6 @@
 // The lines of a reply. A refusal leaves the bytes that are written to as they were.
 ghost use Rattle.std.specs.Prelude.{◌≡◌, ◌++◌, IfOk, OnOk, OnErr, string_bytes};
-ghost use Rattle.mc_script.specs.ReplyText.{clear_or_set, count_words, hex_text, joined, line, mark_words, number_line, pair_line, state_text, yes_or_no};
+ghost use Rattle.mc_script.specs.ReplyText.{clear_or_set, count_words, hex_text, joined, line, mark_words, number_line, pair_line, state_text, stormed_text, worked_text, yes_or_no};
 
 use mc_base::Bytes;
 use std::alloc::{AllocError, Global};
@@ -40,6 +40,30 @@ pub fn write_pair(
     ensures err { OnErr result (out.new ≡ out.old) }
 {
     let text = format!(in alloc; "{first} {second}\n")?;
+    out.extend_from_slice(text.as_bytes())
+}
+
+// How many blocks were processed, and are missing and bad.
+pub fn write_worked(
+    alloc: Global,
+    processed: u64,
+    missing: u64,
+    bad: u64,
+    out: &mut Bytes,
+) -> Result<(), AllocError>
+    ensures ok { OnOk result (out.new ≡ out.old ++ line (worked_text processed missing bad)) }
+    ensures err { OnErr result (out.new ≡ out.old) }
+{
+    let text = format!(in alloc; "worked {processed} {missing} {bad}\n")?;
+    out.extend_from_slice(text.as_bytes())
+}
+
+// How many puts made a block, and gave the bytes that were put.
+pub fn write_stormed(alloc: Global, made: u64, same: u64, out: &mut Bytes) -> Result<(), AllocError>
+    ensures ok { OnOk result (out.new ≡ out.old ++ line (stormed_text made same)) }
+    ensures err { OnErr result (out.new ≡ out.old) }
+{
+    let text = format!(in alloc; "stormed {made} {same}\n")?;
     out.extend_from_slice(text.as_bytes())
 }
 

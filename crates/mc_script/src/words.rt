@@ -1,7 +1,8 @@
 // The words of a command.
 ghost use Rattle.std.specs.Prelude.{◌≡◌, ◌≢◌, ◌≤◌, IfOk, IfErr, IsErrOf, Some, None};
 ghost use Rattle.std.specs.Str.{all_ascii_digits};
-ghost use Rattle.mc_script.specs.Words.{replica_of, number_of, bytes_of_hex, other_of, way_of, commit_of, identifier_of};
+ghost use Rattle.mc_script.specs.Limits.{IsUpTo};
+ghost use Rattle.mc_script.specs.Words.{replica_of, number_of, bytes_of_hex, other_of, way_of, up_to_of, identifier_of};
 
 use crate::LineError;
 use mc_base::{Bytes, Cid};
@@ -10,9 +11,6 @@ use std::alloc::Global;
 
 // The most digits of a number.
 const DIGITS_MAX: usize = 20;
-
-// The greatest number of a commit that may be told to fail.
-const COMMIT_MAX: u64 = 1_000_000;
 
 // The number of a replica.
 pub fn read_replica(word: &str) -> Result<u64, LineError>
@@ -50,7 +48,7 @@ pub fn read_way(word: &str) -> Result<bool, LineError>
     }
 }
 
-// The value of decimal digits.
+/// The value of one to twenty decimal digits, below 2^64. Every other word is `Bad`.
 pub fn read_number(word: &str) -> Result<u64, LineError>
     ensures ok { IfOk result (λ number. number_of word.now ≡ Some number) }
     ensures err { IfErr result (λ e. (e ≡ LineError.Bad) × (number_of word.now ≡ None)) }
@@ -61,17 +59,17 @@ pub fn read_number(word: &str) -> Result<u64, LineError>
     }
 }
 
-// The number of a commit that is told to fail.
-pub fn read_commit(word: &str) -> Result<u64, LineError>
-    ensures ok { IfOk result (λ commit. commit_of word.now ≡ Some commit) }
-    ensures limits { IfOk result (λ commit. (1 ≤ commit) × (commit ≤ 1000000)) }
-    ensures err { IfErr result (λ e. (e ≡ LineError.Bad) × (commit_of word.now ≡ None)) }
+// A number from 1 to `most`.
+pub fn read_up_to(most: u64, word: &str) -> Result<u64, LineError>
+    ensures ok { IfOk result (λ number. up_to_of most word.now ≡ Some number) }
+    ensures limits { IfOk result (IsUpTo most) }
+    ensures err { IfErr result (λ e. (e ≡ LineError.Bad) × (up_to_of most word.now ≡ None)) }
 {
-    let commit = read_number(word)?;
-    if commit < 1 || commit > COMMIT_MAX {
+    let number = read_number(word)?;
+    if number < 1 || number > most {
         return Err(LineError::Bad);
     }
-    Ok(commit)
+    Ok(number)
 }
 
 fn value_of_digits(word: &str) -> Option<u64>
