@@ -1,0 +1,18 @@
+//! Workers: each one takes jobs from a shop, looks their blocks up, and delivers what was found.
+#![tactic(auto)]
+
+mod ends;
+mod gate;
+mod hands;
+mod lookup;
+mod shop;
+mod turns;
+
+pub use ends::{HandEnd, ShopError};
+pub use gate::{Gate, Open};
+pub use hands::{Hand, run_workers};
+pub use lookup::look_up;
+pub use shop::Shop;
+
+#[cfg(test)]
+mod tests;
