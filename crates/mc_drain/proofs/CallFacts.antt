@@ -1,0 +1,215 @@
+-- What each call of a replica leads to.
+use Rattle.std.proofs.Common.{◌≡◌, ◌≤◌, ◌+◌, ℕ, Bool, true, false, cond, List, [], ◌∷◌, map, find, Option, Some, None, Result, Ok, Err, refl, sym, ap, ◌∙◌, subst, arith, inl, inr}
+use Rattle.std.specs.Prelude.{IfSome, is_some}
+use Rattle.std.specs.Option.{option_map}
+use Rattle.std.proofs.lemmas.Bool.{false≢true}
+use Rattle.mc_base.specs.Told.{Told}
+use Rattle.mc_base.specs.declared.cid.Cid.{Cid}
+use Rattle.mc_fetch.specs.Fits.{Map, OwnFits}
+use Rattle.mc_fetch.specs.Offers.{HasDigest}
+use Rattle.mc_fetch.specs.declared.job.Delivered.{Delivered}
+use Rattle.mc_fetch.specs.declared.job.Job.{Job}
+use Rattle.mc_keep.specs.Causes.{Kind, Refusal, Fault, Shortage, is_fault_kind}
+use Rattle.mc_model.specs.declared.block.Block.{Block}
+use Rattle.mc_model.specs.declared.block.Stored.{Stored}
+use Rattle.mc_model.specs.Draining.{AllSayRight, HasDrained, IsFoundFor, Takes, TakesAll, all_given_back, bytes_in, delivery, offers_of, queue_in, taken_up}
+use Rattle.mc_model.specs.Events.{Event, Want, GiveBack, Requeue, MayCome, happens}
+use Rattle.mc_model.specs.Found.{Offers}
+use Rattle.mc_model.specs.Front.{same_cid}
+use Rattle.mc_model.specs.Graph.{Vertex, has, in_graph}
+use Rattle.mc_model.specs.Kept.{bytes_at}
+use Rattle.mc_model.specs.Offer.{Damage, offer}
+use Rattle.mc_model.specs.State.{Durable, IsSound, Running, stored_of}
+use Rattle.mc_core.specs.declared.error.CoreError.{CoreError}
+use Rattle.mc_core.specs.Calls.{Call, Faults, IsRefused}
+use Rattle.mc_core.specs.Events.{ReplicaState, Goes, HappensIn}
+use Rattle.mc_core.specs.Jobs.{DeliverPlan, DeliverShort, DeliversIn, NextPlan, NextShort}
+use Rattle.mc_core.specs.Reads.{read_refusal}
+use Rattle.mc_core.specs.Refusals.{ByKind, Is, is_fault, kind_of}
+use Rattle.mc_drain.specs.Leads.{Always, Leads, all_processes, count}
+use Rattle.mc_drain.specs.Words.{IsNoBlock}
+use Rattle.mc_drain.proofs.EventFacts.{Asked, GoesLaw, StayLaw, breaks_leads, goes_leads, stays_leads}
+
+-- what is told at two moments, and what is known of the first
+pub told_with : {A B : Type 0} (P : A → B → Type 0) (Q : A → Type 0) (R : A → B → Type 0) → ((x : A) (y : B) → P x y → Q x → R x y) → (a : Option A) (b : Option B) → Told a b P → IfSome a Q → Told a b R
+told_with P Q R join None b p q = tt
+told_with P Q R join (Some x) None p q = absurd p
+told_with P Q R join (Some x) (Some y) p q = join x y p q
+
+pub some_with : {A : Type 0} (P Q : A → Type 0) → ((x : A) → P x → Q x) → (a : Option A) → IfSome a P → IfSome a Q
+some_with P Q weaker None p = tt
+some_with P Q weaker (Some x) p = weaker x p
+
+-- the stored bytes of a block, as the keeper and as the state have them
+pub bytes_same : (graph : List Vertex) (c : Cid) → bytes_at (map stored_of graph) c ≡ bytes_in graph c
+bytes_same [] c = refl
+bytes_same (vertex ∷ graph) c =
+    elim (same_cid c vertex.cid) as (λ t. option_map (λ (stored : Stored). stored.bytes) (cond t (Some (stored_of vertex)) (find (λ (stored : Stored). same_cid c stored.cid) (map stored_of graph)))
+    ≡ option_map (λ (v : Vertex). v.bytes) (cond t (Some vertex) (find (λ (v : Vertex). same_cid c v.cid) graph))) [
+      | true ↦ refl
+      | false ↦ bytes_same graph c
+    ]
+
+-- own bytes fit, where a drain has come here
+pub own_fits : (known : Map) (kept : List Cid) (graph : List Vertex) (cid : Cid) (own : Option (List ℕ)) → ((c : Cid) (bytes : List ℕ) → bytes_in graph c ≡ Some bytes → known c ≡ Some bytes)
+    → ((c : Cid) → has c kept ≡ true → is_some (bytes_in graph c) ≡ true) → own ≡ bytes_in graph cid → IfSome own (HasDigest cid) → OwnFits (Some known) kept cid own
+own_fits known kept graph cid None stored here is digest = (elim (has cid kept) as (λ b. has cid kept ≡ b → b ≡ false) [ true ↦ λ e. absurd (false≢true (ap is_some is ∙ here cid e)) | false ↦ λ e. refl ]) refl
+own_fits known kept graph cid (Some bytes) stored here is digest = (digest, stored cid bytes (sym is))
+
+-- the laws on deliveries and on a recall
+abbrev pub TakesLaw : Type 0
+TakesLaw = (bytes_of : Map) (durable : Durable) (run : Running) (c : Cid) (found : Option (List ℕ)) → has c run.queue.flight ≡ true → IsFoundFor bytes_of c found
+    → TakesAll bytes_of (record { durable = durable; run = Some run }) (delivery durable.graph c found)
+
+abbrev pub SaysLaw : Type 0
+SaysLaw = (bytes_of : Map) (durable : Durable) (c : Cid) (found : Option (List ℕ)) → bytes_of c ≡ found → AllSayRight (offers_of bytes_of) (delivery durable.graph c found)
+
+abbrev pub RecallTakesLaw : Type 0
+RecallTakesLaw = (bytes_of : Map) (durable : Durable) (run : Running) (cids : List Cid) → TakesAll bytes_of (record { durable = durable; run = Some run }) (all_given_back cids)
+
+abbrev pub RecallSaysLaw : Type 0
+RecallSaysLaw = (found : Offers) (cids : List Cid) → AllSayRight found (all_given_back cids)
+
+takes_want : (known : Map) (run : Option Running) → is_some run ≡ true → Takes known run Want
+takes_want known None up = absurd (false≢true up)
+takes_want known (Some run) up = tt
+
+takes_back : (known : Map) (c : Cid) (durable : Durable) (run : Option Running) → MayCome durable run (GiveBack c) → Takes known run (GiveBack c)
+takes_back known c durable None may = absurd may
+takes_back known c durable (Some run) may = tt
+
+found_for : (known : Map) (c : Cid) (found : Option (List ℕ)) → known c ≡ found → IsFoundFor known c found
+found_for known c None e = tt
+found_for known c (Some bytes) e = e
+
+-- a delivery processes one block at the most
+taken_processes : (stored : Bool) (c : Cid) (bytes : List ℕ) (reading : Result Block Damage) → all_processes (taken_up stored c bytes reading) ≤ 1
+taken_processes stored c bytes (Err damage) = omega arith
+taken_processes true c bytes (Ok block) = omega arith
+taken_processes false c bytes (Ok block) = omega arith
+
+pub delivery_processes : (graph : List Vertex) (c : Cid) (found : Option (List ℕ)) → all_processes (delivery graph c found) ≤ 1
+delivery_processes graph c None = omega arith
+delivery_processes graph c (Some bytes) = taken_processes (in_graph graph c) c bytes (offer c bytes)
+
+pub no_block_processes : (graph : List Vertex) (c : Cid) (found : Option (List ℕ)) → IsNoBlock c found → all_processes (delivery graph c found) ≤ 0
+no_block_processes graph c None h = omega arith
+no_block_processes graph c (Some bytes) h = subst (λ (r : Result Block Damage). all_processes (taken_up (in_graph graph c) c bytes r) ≤ 0) (sym h.1) (omega arith)
+
+module _ (goes_law : GoesLaw) (stay_law : StayLaw) where
+  next_asked : (s : ReplicaState) → is_some s.state.run ≡ true → Asked Always s.state (Want ∷ [])
+  next_asked s up known kept p = ((takes_want known s.state.run up, tt), (tt, tt))
+
+  next_fault : (rose : Type 0) (s new : ReplicaState) → is_some s.state.run ≡ true → IsSound s.state → Faults (NextPlan s) rose s new → Leads true (count s) Always s new
+  next_fault rose s new up sound faults = elim faults.begins [
+    | inl none ↦ nothing none
+    | inr (answer, plan) ↦ some answer plan
+  ]
+    where
+      nothing : faults.events ≡ [] → Leads true (count s) Always s new
+      nothing e = breaks_leads goes_law stay_law Always faults.events rose s new (count s) faults.breaks sound (let l = ap all_processes e in omega (arith, l)) (λ known kept p. subst (λ events. TakesAll known s.state events × AllSayRight (offers_of known) events) (sym e) (tt, tt))
+
+      some : (answer : Option Job) → NextPlan s faults.events answer → Leads true (count s) Always s new
+      some None plan = nothing plan.1
+      some (Some job) plan = breaks_leads goes_law stay_law Always faults.events rose s new (count s) faults.breaks sound (let l = ap all_processes plan.2 in omega (arith, l)) (subst (Asked Always s.state) (sym plan.2) (next_asked s up))
+
+  pub next_leads : (rose : Type 0) (result : Result (Option Job) CoreError) (s new : ReplicaState) → is_some s.state.run ≡ true → IsSound s.state → Call (Is (read_refusal s)) (NextPlan s) (NextShort s) rose result s new → Leads (is_fault result) (count s) Always s new
+  next_leads rose (Ok None) s new up sound call = goes_leads goes_law stay_law Always [] s new (count s) (subst (λ events. Goes events s new) call.plan.1 call.goes) sound (omega arith) (λ known kept p. (tt, tt))
+  next_leads rose (Ok (Some job)) s new up sound call = goes_leads goes_law stay_law Always (Want ∷ []) s new (count s) (subst (λ events. Goes events s new) call.plan.2 call.goes) sound (omega arith) (next_asked s up)
+  next_leads rose (Err error) s new up sound call = over (kind_of error) call
+    where
+      over : (kind : Kind) → ByKind (IsRefused (Is (read_refusal s)) error s new) (Faults (NextPlan s) rose s new) (NextShort s new) kind → Leads (is_fault_kind kind) (count s) Always s new
+      over Refusal refused = stays_leads goes_law stay_law Always s new (count s) refused.1 (omega arith)
+      over Fault faults = next_fault rose s new up sound faults
+      over Shortage short = goes_leads goes_law stay_law Always (Want ∷ GiveBack short.0 ∷ []) s new (count s) short.2 sound (omega arith)
+          (λ known kept p. ((takes_want known s.state.run up, (takes_back known short.0 (happens s.state Want).durable (happens s.state Want).run short.2.may.2.0, tt)), (tt, (tt, tt))))
+
+  happens_leads : (s new : ReplicaState) (events : Running → List Event) → HappensIn s.state.run events s new → IsSound s.state
+      → ((run : Running) → s.state.run ≡ Some run → (all_processes (events run) ≤ 0) × ((goes : Goes (events run) s new) → Asked Always s.state (events run))) → Leads false (count s) Always s new
+  happens_leads s new events = over s.state.run refl
+    where
+      over : (run : Option Running) → s.state.run ≡ run → HappensIn run events s new → IsSound s.state → ((run : Running) → s.state.run ≡ Some run → (all_processes (events run) ≤ 0) × ((goes : Goes (events run) s new) → Asked Always s.state (events run)))
+          → Leads false (count s) Always s new
+      over None e same sound each = stays_leads goes_law stay_law Always s new (count s) same (omega arith)
+      over (Some run) e goes sound each = let here = each run e in goes_leads goes_law stay_law Always (events run) s new (count s) goes sound (omega (arith, here.0)) (here.1 goes)
+
+  pub back_leads : (c : Cid) (s new : ReplicaState) → HappensIn s.state.run (λ run. cond (has c run.queue.flight) (GiveBack c ∷ []) []) s new → IsSound s.state → Leads false (count s) Always s new
+  back_leads c s new happens_ sound = happens_leads s new (λ run. cond (has c run.queue.flight) (GiveBack c ∷ []) []) happens_ sound (λ run e. (none (has c run.queue.flight), asked (has c run.queue.flight)))
+    where
+      none : (t : Bool) → all_processes (cond t (GiveBack c ∷ []) []) ≤ 0
+      none true = omega arith
+      none false = omega arith
+
+      asked : (t : Bool) → Goes (cond t (GiveBack c ∷ []) []) s new → Asked Always s.state (cond t (GiveBack c ∷ []) [])
+      asked true goes known kept p = ((takes_back known c s.state.durable s.state.run goes.may.0, tt), (tt, tt))
+      asked false goes known kept p = (tt, tt)
+
+  pub requeue_leads : (s new : ReplicaState) → HappensIn s.state.run (λ run. Requeue ∷ []) s new → IsSound s.state → Leads false (count s) Always s new
+  requeue_leads s new happens_ sound = happens_leads s new (λ run. Requeue ∷ []) happens_ sound (λ run e. (omega arith, λ goes known kept p. ((subst (λ (r : Option Running). Takes known r Requeue) (sym e) tt, tt), (tt, tt))))
+
+  back_processes : (cids : List Cid) → all_processes (all_given_back cids) ≤ 0
+  back_processes [] = omega arith
+  back_processes (c ∷ cids) = let e = back_processes cids in omega (arith, e)
+
+  pub recall_leads : RecallTakesLaw → RecallSaysLaw → (s new : ReplicaState) → HappensIn s.state.run (λ run. all_given_back run.queue.flight) s new → IsSound s.state → Leads false (count s) Always s new
+  recall_leads takes says s new happens_ sound = happens_leads s new (λ run. all_given_back run.queue.flight) happens_ sound
+      (λ run e. (
+        back_processes run.queue.flight,
+        λ goes known kept p.
+            (subst (λ (r : Option Running). TakesAll known (record { durable = s.state.durable; run = r }) (all_given_back run.queue.flight)) (sym e) (takes known s.state.durable run run.queue.flight), says (offers_of known) run.queue.flight),
+      ))
+
+  module _ (takes_law : TakesLaw) (says_law : SaysLaw) where
+    delivers_asked : (c : Cid) (found : Option (List ℕ)) (durable : Durable) (run : Option Running) (events : List Event) (answer : Delivered) → DeliversIn (has c (queue_in run).flight) durable c found events answer
+        → Asked (λ known kept. known c ≡ found) (record { durable = durable; run = run }) events × (all_processes events ≤ all_processes (delivery durable.graph c found))
+    delivers_asked c found durable None events answer plan =
+        (λ known kept is. subst (λ events. TakesAll known (record { durable = durable; run = None }) events × AllSayRight (offers_of known) events) (sym plan.1) (tt, tt), let l = ap all_processes plan.1 in omega (arith, l))
+    delivers_asked c found durable (Some run) events answer plan =
+        elim (has c run.queue.flight) as (λ t. has c run.queue.flight ≡ t → DeliversIn t durable c found events answer
+        → Asked (λ known kept. known c ≡ found) (record { durable = durable; run = Some run }) events × (all_processes events ≤ all_processes (delivery durable.graph c found))) [
+          | true ↦ λ e plan. (
+            λ known kept is. subst (λ events. TakesAll known (record { durable = durable; run = Some run }) events × AllSayRight (offers_of known) events) (sym plan.0)
+                (takes_law known durable run c found e (found_for known c found is), says_law known durable c found is),
+            let l = ap all_processes plan.0 in omega (arith, l),
+          )
+          | false ↦ λ e plan. (λ known kept is. subst (λ events. TakesAll known (record { durable = durable; run = Some run }) events × AllSayRight (offers_of known) events) (sym plan.1) (tt, tt), let l = ap all_processes plan.1 in omega (arith, l))
+        ] refl plan
+
+    pub deliver_leads : (c : Cid) (found : Option (List ℕ)) (more : ℕ) (rose : Type 0) (result : Result Delivered CoreError) (s new : ReplicaState) → IsSound s.state → all_processes (delivery s.state.durable.graph c found) ≤ more
+        → Call (Is (read_refusal s)) (DeliverPlan s c found) (DeliverShort s c) rose result s new → Leads (is_fault result) (count s + more) (λ known kept. known c ≡ found) s new
+    deliver_leads c found more rose (Ok answer) s new sound few call =
+        let asked = delivers_asked c found s.state.durable s.state.run call.events answer call.plan in
+        goes_leads goes_law stay_law (λ known kept. known c ≡ found) call.events s new (count s + more) call.goes sound (omega (arith, asked.1, few)) asked.0
+    deliver_leads c found more rose (Err error) s new sound few call = over (kind_of error) call
+      where
+        over : (kind : Kind) → ByKind (IsRefused (Is (read_refusal s)) error s new) (Faults (DeliverPlan s c found) rose s new) (DeliverShort s c new) kind → Leads (is_fault_kind kind) (count s + more) (λ known kept. known c ≡ found) s new
+        over Refusal refused = stays_leads goes_law stay_law (λ known kept. known c ≡ found) s new (count s + more) refused.1 (omega arith)
+        over Fault faults = elim faults.begins [
+          | inl none ↦ breaks_leads goes_law stay_law (λ known kept. known c ≡ found) faults.events rose s new (count s + more) faults.breaks sound (let l = ap all_processes none in omega (arith, l))
+              (λ known kept p. subst (λ events. TakesAll known s.state events × AllSayRight (offers_of known) events) (sym none) (tt, tt))
+          | inr (answer, plan) ↦ (let asked = delivers_asked c found s.state.durable s.state.run faults.events answer plan in
+              breaks_leads goes_law stay_law (λ known kept. known c ≡ found) faults.events rose s new (count s + more) faults.breaks sound (omega (arith, asked.1, few)) asked.0)
+        ]
+        over Shortage short = goes_leads goes_law stay_law (λ known kept. known c ≡ found) (GiveBack c ∷ []) s new (count s + more) short.1 sound (omega arith)
+            (λ known kept p. ((takes_back known c s.state.durable s.state.run short.1.may.0, tt), (tt, tt)))
+
+-- two parts of a call
+pub leads_then : (failed : Bool) (first most : ℕ) (P Q R : Map → List Cid → Type 0) (s mid new : ReplicaState) → Leads false first P s mid → Leads failed most Q mid new
+    → ((known : Map) (kept : List Cid) (old : Durable) (start : List Cid) → R known kept → HasDrained known kept old start s.state → P known kept × Q known kept) → Leads failed most R s new
+leads_then failed first most P Q R s mid new a b join = record {
+  grows = omega (arith, a.grows, b.grows);
+  few = b.few;
+  goes = λ e known kept r old start h. let both = join known kept old start r h in b.goes e known kept both.1 old start (a.goes refl known kept both.0 old start h);
+  parts = λ e known kept r old start h f. let both = join known kept old start r h in b.parts e known kept both.1 old start (a.goes refl known kept both.0 old start h) (a.parts refl known kept both.0 old start h f);
+  breaks = λ e known kept r old start h. let both = join known kept old start r h in b.breaks e known kept both.1 old start (a.goes refl known kept both.0 old start h);
+}
+
+-- a part of a call that allows more, for less
+pub leads_weaker : (failed : Bool) (few most : ℕ) (P Q : Map → List Cid → Type 0) (s new : ReplicaState) → Leads failed few P s new → few ≤ most → ((known : Map) (kept : List Cid) → Q known kept → P known kept) → Leads failed most Q s new
+leads_weaker failed few most P Q s new a more weaker = record {
+  grows = a.grows;
+  few = omega (arith, a.few, more);
+  goes = λ e known kept q. a.goes e known kept (weaker known kept q);
+  parts = λ e known kept q. a.parts e known kept (weaker known kept q);
+  breaks = λ e known kept q. a.breaks e known kept (weaker known kept q);
+}

@@ -1,0 +1,9 @@
+pub mod CallFacts
+pub mod EndFacts
+pub mod EventFacts
+pub mod QueueFacts
+pub mod RepairFacts
+pub mod SortFacts
+pub mod TurnFacts
+pub mod WalkFacts
+pub mod WorkFacts

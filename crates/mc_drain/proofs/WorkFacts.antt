@@ -1,0 +1,206 @@
+-- From a drain's end to the answer of a work.
+use Rattle.std.proofs.Common.{◌≡◌, ◌≢◌, length, ◌+◌, ◌-◌, ℕ, Bool, true, false, cond, ◌||◌, find, List, [], ◌∷◌, Option, Some, None, Result, Ok, Err, refl, sym, ap, ◌∙◌, subst, arith}
+use Rattle.std.specs.Prelude.{IfSome, is_some, unwrap_or}
+use Rattle.std.specs.Option.{option_map}
+use Rattle.std.proofs.lemmas.Bool.{false≢true}
+use Rattle.mc_base.specs.Told.{Told}
+use Rattle.mc_base.specs.declared.cid.Cid.{Cid}
+use Rattle.mc_fetch.specs.Fits.{Map}
+use Rattle.mc_model.specs.Drain.{IsClosure, IsDrained, IsSoFar, PartsFit}
+use Rattle.mc_model.specs.Draining.{HasDrained, bytes_in, offers_of, queue_in}
+use Rattle.mc_model.specs.Found.{Offers, is_found}
+use Rattle.mc_model.specs.Front.{same_cid}
+use Rattle.mc_model.specs.Graph.{Vertex, cids_in, has}
+use Rattle.mc_model.specs.State.{Durable, IsSound, Running, State, wanted_in}
+use Rattle.mc_model.specs.Wanted.{Queue, wanted}
+use Rattle.mc_keep.specs.declared.fuse.Fuse.{Fuse}
+use Rattle.mc_model.specs.Kept.{Kept}
+use Rattle.mc_core.specs.Counted.{capped, run_of}
+use Rattle.mc_core.specs.Events.{ReplicaState, state_of}
+use Rattle.mc_drain.specs.declared.end.DrainEnd.{DrainEnd}
+use Rattle.mc_drain.specs.declared.end.DrainEnd.TheVariants as end
+use Rattle.mc_drain.specs.declared.working.WorkError.{WorkError}
+use Rattle.mc_drain.specs.declared.working.WorkError.TheVariants as error
+use Rattle.mc_drain.specs.declared.working.Worked.{Worked}
+use Rattle.mc_drain.specs.declared.working.Worked.TheVariants as worked
+use Rattle.mc_drain.specs.Finds.{first_bytes, found_from}
+use Rattle.mc_drain.specs.Leads.{count}
+use Rattle.mc_drain.specs.Words.{DrainLeads, Fetched, is_keeper, is_peer}
+use Rattle.mc_drain.specs.Works.{AnswerIs, WorkLeads, WorkWants, keeper_broke, peer_broke}
+
+-- what is stored has bytes, and nothing else has
+kept_bytes : (graph : List Vertex) (c : Cid) → has c (cids_in graph) ≡ true → is_some (bytes_in graph c) ≡ true
+kept_bytes [] c e = absurd (false≢true e)
+kept_bytes (v ∷ graph) c e = (elim (same_cid c v.cid) as (λ b. same_cid c v.cid ≡ b → (b || has c (cids_in graph)) ≡ true
+    → is_some (option_map (λ (w : Vertex). w.bytes) (cond b (Some v) (find (λ (w : Vertex). same_cid c w.cid) graph))) ≡ true) [
+      | true ↦ λ s h. refl
+      | false ↦ λ s h. kept_bytes graph c h
+    ]) refl e
+
+no_bytes : (graph : List Vertex) (c : Cid) → has c (cids_in graph) ≡ false → bytes_in graph c ≡ None
+no_bytes [] c e = refl
+no_bytes (v ∷ graph) c e = (elim (same_cid c v.cid) as (λ b. same_cid c v.cid ≡ b → (b || has c (cids_in graph)) ≡ false
+    → option_map (λ (w : Vertex). w.bytes) (cond b (Some v) (find (λ (w : Vertex). same_cid c w.cid) graph)) ≡ None) [
+      | true ↦ λ s h. absurd (false≢true (sym h))
+      | false ↦ λ s h. no_bytes graph c h
+    ]) refl e
+
+-- the laws of a drain that are used at its beginning and its end
+abbrev pub BeginsLaw : Type 0
+BeginsLaw = (bytes_of : Map) (kept : List Cid) (state : State) → ((c : Cid) (bytes : List ℕ) → bytes_in state.durable.graph c ≡ Some bytes → bytes_of c ≡ Some bytes) → ((c : Cid) → has c kept ≡ true → is_some (bytes_in state.durable.graph c) ≡ true)
+    → HasDrained bytes_of kept state.durable (wanted (queue_in state.run)) state
+
+abbrev pub ClosedLaw : Type 0
+ClosedLaw = (bytes_of : Map) (kept : List Cid) (old : Durable) (start : List Cid) (state : State) → IsSound state → IsDrained (offers_of bytes_of) state → HasDrained bytes_of kept old start state → IsClosure (offers_of bytes_of) old start state.durable (wanted_in state.run)
+
+abbrev pub SoFarLaw : Type 0
+SoFarLaw = (bytes_of : Map) (kept : List Cid) (old : Durable) (start : List Cid) (state : State) → IsSound state → HasDrained bytes_of kept old start state → IsSoFar (offers_of bytes_of) old start state.durable (wanted_in state.run)
+
+abbrev pub DrainedLaw : Type 0
+DrainedLaw = (found : Offers) (q : Queue) → PartsFit found q → q.waiting ≡ [] → q.flight ≡ [] → (c : Cid) → has c (wanted q) ≡ true → is_found (found c) ≡ false
+
+-- what is wanted, as both have it
+pub wanted_same : (run : Option Running) → wanted (queue_in run) ≡ wanted_in run
+wanted_same None = refl
+wanted_same (Some run) = refl
+
+none_some : {A : Type 0} {P : Type 0} (x : A) → None ≡ Some x → P
+none_some x e = absurd (cc e)
+
+some_is : (x y : Map) → Some x ≡ Some y → x ≡ y
+some_is x y e = ap (λ o. unwrap_or o x) e
+
+-- where the fetch tells, a drain has begun at every state, and the fetch finds what the drain's map has
+pub begun : BeginsLaw → (s : ReplicaState) (offers : Option Map) (map : Map) → found_from s.state.durable.graph offers ≡ Some map
+    → HasDrained map (cids_in s.state.durable.graph) s.state.durable (wanted_in s.state.run) s.state × Fetched offers map (cids_in s.state.durable.graph)
+begun begins s None map is = none_some map is
+begun begins s (Some offered) map is =
+    let graph : List Vertex = s.state.durable.graph in
+    let same : (λ c. first_bytes (bytes_in graph c) (offered c)) ≡ map = some_is (λ c. first_bytes (bytes_in graph c) (offered c)) map is in
+    let first : HasDrained (λ c. first_bytes (bytes_in graph c) (offered c)) (cids_in graph) s.state.durable (wanted_in s.state.run) s.state =
+    subst (λ (start : List Cid). HasDrained (λ c. first_bytes (bytes_in graph c) (offered c)) (cids_in graph) s.state.durable start s.state) (wanted_same s.state.run)
+    (begins (λ c. first_bytes (bytes_in graph c) (offered c)) (cids_in graph) s.state (λ c bytes e. ap (λ o. first_bytes o (offered c)) e) (kept_bytes graph)) in (
+      subst (λ (m : Map). HasDrained m (cids_in graph) s.state.durable (wanted_in s.state.run) s.state) same first,
+      λ c e. ap (λ o. first_bytes o (offered c)) (sym (no_bytes graph c e)) ∙ ap (λ (m : Map). m c) same,
+    )
+
+-- nothing that is wanted has a good offer
+pub drained_at : DrainedLaw → (map : Map) (run : Option Running) → PartsFit (offers_of map) (queue_in run) → (queue_in run).waiting ≡ [] → (queue_in run).flight ≡ [] → (c : Cid) → has c (wanted_in run) ≡ true → is_found (offers_of map c) ≡ false
+drained_at drained map run parts waiting flight c e = drained (offers_of map) (queue_in run) parts waiting flight c (subst (λ (cids : List Cid). has c cids ≡ true) (sym (wanted_same run)) e)
+
+-- what is left at the end that is no fault of the keeper's: nothing is in flight, and where it is idle nothing waits
+pub record Leaves (stop : DrainEnd) (s : ReplicaState) : Type 0 where
+  pub sound : IsSound s.state
+  pub flight : is_keeper stop ≡ false → (queue_in s.state.run).flight ≡ []
+  pub waiting : stop ≡ end.Idle → (queue_in s.state.run).waiting ≡ []
+
+module _ (begins : BeginsLaw) (closed : ClosedLaw) (so_far : SoFarLaw) (drained : DrainedLaw) where
+  partly : (offers : Option Map) (map : Map) (s new : ReplicaState) → found_from s.state.durable.graph offers ≡ Some map → IsSound new.state
+      → ((map : Map) (kept : List Cid) → Fetched offers map kept → (old : Durable) (start : List Cid) → HasDrained map kept old start s.state → HasDrained map kept old start new.state)
+      → IsSoFar (offers_of map) s.state.durable (wanted_in s.state.run) new.state.durable (wanted_in new.state.run)
+  partly offers map s new is sound goes =
+      let first = begun begins s offers map is in
+      so_far map (cids_in s.state.durable.graph) s.state.durable (wanted_in s.state.run) new.state sound (goes map (cids_in s.state.durable.graph) first.1 s.state.durable (wanted_in s.state.run) first.0)
+
+  work_is : (stop : DrainEnd) (budget limit before : ℕ) (offers : Option Map) (q : Queue) (result : Result Worked WorkError) (s new : ReplicaState) → limit ≡ capped (before + budget) → before ≡ capped (count s) → AnswerIs stop before (Some new) q result
+      → Leaves stop new → DrainLeads stop limit offers s new → WorkLeads budget offers result s new
+  work_is end.Idle budget limit before offers q result s new is first answer leaves leads = subst (λ (r : Result Worked WorkError). WorkLeads budget offers r s new) (sym answer.1) (record {
+    grows = leads.grows;
+    within = omega (arith, leads.within, leads.grows, is, first);
+    counts = answer.2 ∙ ap (λ (n : ℕ). capped (count new) - n) first;
+    is = λ map here. let start = begun begins s offers map here in
+        let parts = leads.parts refl map (cids_in s.state.durable.graph) start.1 s.state.durable (wanted_in s.state.run) start.0 in
+        record {
+          closure = closed map (cids_in s.state.durable.graph) s.state.durable (wanted_in s.state.run) new.state leaves.sound
+              (drained_at drained map new.state.run parts (leaves.waiting refl) (leaves.flight refl)) (leads.goes refl map (cids_in s.state.durable.graph) start.1 s.state.durable (wanted_in s.state.run) start.0);
+          parts = parts;
+        };
+  })
+  work_is end.Spent budget limit before offers q result s new is first answer leaves leads = subst (λ (r : Result Worked WorkError). WorkLeads budget offers r s new) (sym answer.1) (record {
+    grows = leads.grows;
+    within = omega (arith, leads.within, leads.grows, is, first);
+    counts = (answer.2 ∙ ap (λ (n : ℕ). capped (count new) - n) first, let spent = leads.spent refl in omega (arith, spent, is, first));
+    is = λ map here. let start = begun begins s offers map here in record {
+      so_far = partly offers map s new here leaves.sound (leads.goes refl);
+      parts = leads.parts refl map (cids_in s.state.durable.graph) start.1 s.state.durable (wanted_in s.state.run) start.0;
+      good = leads.good refl map (cids_in s.state.durable.graph) start.1 s.state.durable (wanted_in s.state.run) start.0;
+    };
+  })
+  work_is end.KeeperFault budget limit before offers q result s new is first answer leaves leads = subst (λ (r : Result Worked WorkError). WorkLeads budget offers r s new) (sym answer) (record {
+    grows = leads.grows;
+    within = omega (arith, leads.within, leads.grows, is, first);
+    counts = tt;
+    is = λ map here. let start = begun begins s offers map here in leads.breaks refl map (cids_in s.state.durable.graph) start.1 s.state.durable (wanted_in s.state.run) start.0;
+  })
+  work_is end.PeerFault budget limit before offers q result s new is first answer leaves leads = subst (λ (r : Result Worked WorkError). WorkLeads budget offers r s new) (sym answer) (record {
+    grows = leads.grows;
+    within = omega (arith, leads.within, leads.grows, is, first);
+    counts = tt;
+    is = λ map here. partly offers map s new here leaves.sound (leads.goes refl);
+  })
+  work_is end.Memory budget limit before offers q result s new is first answer leaves leads = subst (λ (r : Result Worked WorkError). WorkLeads budget offers r s new) (sym answer) (record {
+    grows = leads.grows;
+    within = omega (arith, leads.within, leads.grows, is, first);
+    counts = tt;
+    is = λ map here. partly offers map s new here leaves.sound (leads.goes refl);
+  })
+
+  pub work_told : (stop : DrainEnd) (budget limit before : ℕ) (offers : Option Map) (q : Queue) (result : Result Worked WorkError) (a b : Option ReplicaState) → limit ≡ capped (before + budget) → IfSome a (λ s. before ≡ capped (count s)) → AnswerIs stop before b q result
+      → IfSome b (Leaves stop) → Told a b (λ s new. DrainLeads stop limit offers s new) → Told a b (λ s new. WorkLeads budget offers result s new)
+  work_told stop budget limit before offers q result None b is first answer leaves leads = tt
+  work_told stop budget limit before offers q result (Some s) None is first answer leaves leads = absurd leads
+  work_told stop budget limit before offers q result (Some s) (Some new) is first answer leaves leads = work_is stop budget limit before offers q result s new is first answer leaves leads
+
+abbrev is_stopped : Result Worked WorkError → Bool
+is_stopped (Ok value) = false
+is_stopped (Err error.KeeperFault) = false
+is_stopped (Err error.PeerFault) = false
+is_stopped (Err error.Stopped) = true
+is_stopped (Err error.Memory) = false
+
+-- an answer fails as its drain does
+pub answer_keeper : (stop : DrainEnd) (before : ℕ) (state : Option ReplicaState) (q : Queue) (result : Result Worked WorkError) → AnswerIs stop before state q result → keeper_broke result ≡ is_keeper stop
+answer_keeper end.Idle before state q result answer = ap keeper_broke answer.1
+answer_keeper end.Spent before state q result answer = ap keeper_broke answer.1
+answer_keeper end.KeeperFault before state q result answer = ap keeper_broke answer
+answer_keeper end.PeerFault before state q result answer = ap keeper_broke answer
+answer_keeper end.Memory before state q result answer = ap keeper_broke answer
+
+pub answer_peer : (stop : DrainEnd) (before : ℕ) (state : Option ReplicaState) (q : Queue) (result : Result Worked WorkError) → AnswerIs stop before state q result → peer_broke result ≡ is_peer stop
+answer_peer end.Idle before state q result answer = ap peer_broke answer.1
+answer_peer end.Spent before state q result answer = ap peer_broke answer.1
+answer_peer end.KeeperFault before state q result answer = ap peer_broke answer
+answer_peer end.PeerFault before state q result answer = ap peer_broke answer
+answer_peer end.Memory before state q result answer = ap peer_broke answer
+
+-- what is wanted then
+pub answer_wants : (stop : DrainEnd) (before : ℕ) (state : Option ReplicaState) (q : Queue) (result : Result Worked WorkError) → AnswerIs stop before state q result → (is_keeper stop ≡ false → q.flight ≡ []) → (stop ≡ end.Idle → q.waiting ≡ []) → (stop ≡ end.Spent → q.waiting ≢ [])
+    → WorkWants result q
+answer_wants end.Idle before state q result answer flight idle spent = subst (λ (r : Result Worked WorkError). WorkWants r q) (sym answer.1) (idle refl, flight refl, refl, refl)
+answer_wants end.Spent before state q result answer flight idle spent = subst (λ (r : Result Worked WorkError). WorkWants r q) (sym answer.1) (spent refl, flight refl)
+answer_wants end.KeeperFault before state q result answer flight idle spent = subst (λ (r : Result Worked WorkError). WorkWants r q) (sym answer) tt
+answer_wants end.PeerFault before state q result answer flight idle spent = subst (λ (r : Result Worked WorkError). WorkWants r q) (sym answer) (flight refl)
+answer_wants end.Memory before state q result answer flight idle spent = subst (λ (r : Result Worked WorkError). WorkWants r q) (sym answer) (flight refl)
+
+-- it is not that the replica had stopped
+pub answer_runs : (stop : DrainEnd) (before : ℕ) (state : Option ReplicaState) (q : Queue) (result : Result Worked WorkError) → AnswerIs stop before state q result → result ≢ Err error.Stopped
+answer_runs end.Idle before state q result answer e = let f : Ok (worked.Done answer.0 (length q.missing) (length q.bad)) ≡ Err error.Stopped = sym answer.1 ∙ e in cc f
+answer_runs end.Spent before state q result answer e = let f : Ok (worked.Again answer.0) ≡ Err error.Stopped = sym answer.1 ∙ e in cc f
+answer_runs end.KeeperFault before state q result answer e = let f : is_stopped (Err error.KeeperFault) ≡ is_stopped (Err error.Stopped) = ap is_stopped (sym answer ∙ e) in absurd (false≢true f)
+answer_runs end.PeerFault before state q result answer e = let f : is_stopped (Err error.PeerFault) ≡ is_stopped (Err error.Stopped) = ap is_stopped (sym answer ∙ e) in absurd (false≢true f)
+answer_runs end.Memory before state q result answer e = let f : is_stopped (Err error.Memory) ≡ is_stopped (Err error.Stopped) = ap is_stopped (sym answer ∙ e) in absurd (false≢true f)
+
+-- what a drain leaves, as its state has it
+pub leaves_shown : (stop : DrainEnd) (told : Option Kept) (fuse : Option Fuse) (down : Bool) (run : Running) → (is_keeper stop ≡ false → down ≡ false) → IfSome (state_of told fuse (run_of down run)) (λ s. IsSound s.state) → (is_keeper stop ≡ false → run.queue.flight ≡ []) → (stop ≡ end.Idle → run.queue.waiting ≡ [])
+    → IfSome (state_of told fuse (run_of down run)) (Leaves stop)
+leaves_shown stop None fuse down run up sound flight idle = tt
+leaves_shown stop (Some kept) fuse down run up sound flight idle = record {
+  sound = sound;
+  flight = λ e. subst (λ (b : Bool). (queue_in (run_of b run)).flight ≡ []) (sym (up e)) (flight e);
+  waiting = λ e. subst (λ (b : Bool). (queue_in (run_of b run)).waiting ≡ []) (sym (up (ap is_keeper e))) (idle e);
+}
+
+-- what is not true is false
+pub not_true : (b : Bool) → (b ≡ true → ⊥) → b ≡ false
+not_true true never = absurd (never refl)
+not_true false never = refl

@@ -1,0 +1,32 @@
+use Rattle.std.proofs.Common.{◌≡◌, ◌≤◌, ◌||◌, ◌∙◌, Some, None, refl, ap}
+use Rattle.mc_core.proofs.Keeps.{continues_more}
+use Rattle.mc_fetch.specs.Offers.{found_by}
+use Rattle.mc_fetch.proofs.AskFacts.{asks_more}
+use Rattle.mc_queue.specs.Views.{shown}
+use Rattle.mc_core.specs.Events.{ReplicaState}
+use Rattle.mc_drain.specs.declared.end.DrainEnd.{DrainEnd}
+use Rattle.mc_drain.specs.Leads.{count}
+use Rattle.mc_drain.specs.Words.{is_keeper}
+use Rattle.mc_drain.proofs.CallFacts.{some_with}
+use Rattle.mc_drain.proofs.EndFacts.{drain_ended, drain_parted, waiting_shown}
+use Rattle.mc_drain.proofs.draining.drain.Goals as goal
+
+pub returns-in-Some-clause-leads : goal.returns-in-Some-clause-leads
+returns-in-Some-clause-leads g c = drain_ended c.in-Some.end c.args.limit (found_by (g.F.Fetch.offers c.args.fetch.now)) _ _ _ (λ e. c.in-Some.ensures.unspent (ap Some e)) c.restart.ensures.leads c.restart.ensures.fresh c.in-Some.ensures.leads
+
+pub returns-in-Some-clause-keeps : goal.returns-in-Some-clause-keeps
+returns-in-Some-clause-keeps g c = continues_more c.restart.ensures.keeps c.in-Some.ensures.keeps
+
+pub returns-in-None-clause-leads : goal.returns-in-None-clause-leads
+returns-in-None-clause-leads g c =
+    let same = c.in-None.ensures.asks.offers_same in
+    let spent = some_with (λ (s : ReplicaState). None ≡ None → c.args.limit ≤ count s) (λ (s : ReplicaState). c.args.limit ≤ count s) (λ s h. h refl) _ c.in-None.ensures.spent in
+    drain_parted c.part.result c.args.limit (found_by (g.F.Fetch.offers c.args.fetch.now)) (shown c.part.new.replica.queue).waiting _ _ _ _ c.restart.ensures.leads c.restart.ensures.fresh c.in-None.ensures.leads spent
+    (rw same at c.part.ensures.leads) (rw same at c.part.ensures.good)
+    (λ e. waiting_shown _ _ _ _ (c.part.ensures.keeps.stops ∙ ap (λ (x : DrainEnd). is_keeper x || c.take_turns.new.replica.stopped) e ∙ c.in-None.ensures.keeps.stops ∙ c.restart.ensures.keeps.stops ∙ c.requires.runs))
+
+pub returns-in-None-clause-keeps : goal.returns-in-None-clause-keeps
+returns-in-None-clause-keeps g c = continues_more (continues_more c.restart.ensures.keeps c.in-None.ensures.keeps) c.part.ensures.keeps
+
+pub returns-in-None-clause-asks : goal.returns-in-None-clause-asks
+returns-in-None-clause-asks g c = asks_more g.met.F.Fetch.follows_on c.in-None.ensures.asks c.part.ensures.asks

@@ -1,0 +1,26 @@
+use Rattle.std.proofs.Common.{false, arith}
+use Rattle.mc_core.proofs.Keeps.{continues_more}
+use Rattle.mc_fetch.specs.Offers.{found_by}
+use Rattle.mc_queue.specs.Views.{shown}
+use Rattle.mc_drain.specs.Leads.{Always, count}
+use Rattle.mc_drain.specs.Words.{Fetched, is_keeper, keeper_failed}
+use Rattle.mc_drain.proofs.TurnFacts.{turn_told, weaker_told}
+use Rattle.mc_drain.proofs.SortFacts.{first_sorts, tells_on}
+use Rattle.mc_drain.proofs.sorting.sort_turn.Goals as goal
+
+pub returns-in-Ok-Some-clause-leads : goal.returns-in-Ok-Some-clause-leads
+returns-in-Ok-Some-clause-leads g c = let digest = rw c.in-Ok-Some.field-0-is at c.in-Ok-Some.ensures.digest in let own = rw c.in-Ok-Some.field-0-is at c.in-Ok-Some.ensures.own in
+    turn_told (keeper_failed c.sort_job.result) count (found_by (g.F.Fetch.offers c.args.fetch.now)) c.in-Ok-Some.job.cid c.in-Ok-Some.job.own _ _ _ (λ s mid e. e) digest c.in-Ok-Some.ensures.leads c.sort_job.ensures.leads own
+
+pub returns-in-Ok-Some-clause-keeps : goal.returns-in-Ok-Some-clause-keeps
+returns-in-Ok-Some-clause-keeps g c = continues_more c.in-Ok-Some.ensures.keeps c.sort_job.ensures.keeps
+
+pub returns-in-Ok-None-clause-leads : goal.returns-in-Ok-None-clause-leads
+returns-in-Ok-None-clause-leads g c = weaker_told false count count Always (Fetched (found_by (g.F.Fetch.offers c.args.fetch.now))) _ _ (λ s. omega arith) (λ known kept f. tt) c.in-Ok-None.ensures.leads
+
+pub returns-in-Err-clause-leads : goal.returns-in-Err-clause-leads
+returns-in-Err-clause-leads g c = weaker_told (is_keeper c.in-Err.end) count count Always (Fetched (found_by (g.F.Fetch.offers c.args.fetch.now))) _ _ (λ s. omega arith) (λ known kept f. tt) c.in-Err.ensures.leads
+
+pub returns-in-Ok-Some-clause-sorts : goal.returns-in-Ok-Some-clause-sorts
+returns-in-Ok-Some-clause-sorts g c = let digest = rw c.in-Ok-Some.field-0-is at c.in-Ok-Some.ensures.digest in let own = rw c.in-Ok-Some.field-0-is at c.in-Ok-Some.ensures.own in let begins = rw c.in-Ok-Some.field-0-is at c.in-Ok-Some.ensures.begins in
+    first_sorts (found_by (g.F.Fetch.offers c.args.fetch.now)) c.in-Ok-Some.job.cid c.in-Ok-Some.job.own c.sort_job.result (shown c.args.replica.now.queue) (shown c.begin.new.replica.queue) (shown c.sort_job.new.replica.queue) _ _ begins.0 begins.1 digest own (tells_on _ _ _ c.in-Ok-Some.ensures.leads) c.sort_job.ensures.sorts

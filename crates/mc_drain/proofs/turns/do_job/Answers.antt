@@ -1,0 +1,16 @@
+use Rattle.std.proofs.Common.{◌+◌, arith}
+use Rattle.mc_fetch.specs.Offers.{found_by}
+use Rattle.mc_model.specs.Draining.{delivery}
+use Rattle.mc_core.specs.Jobs.{found_in}
+use Rattle.mc_drain.specs.Leads.{all_processes, count}
+use Rattle.mc_drain.specs.Words.{FetchedFor, keeper_failed}
+use Rattle.mc_drain.proofs.CallFacts.{delivery_processes}
+use Rattle.mc_drain.proofs.TurnFacts.{fetch_told, job_told}
+use Rattle.mc_drain.proofs.turns.do_job.Goals as goal
+
+pub returns-in-Ok-clause-leads : goal.returns-in-Ok-clause-leads
+returns-in-Ok-clause-leads g c = job_told (keeper_failed c.deliver.result) (λ s. count s + all_processes (delivery s.state.durable.graph c.look_up.new.job.cid (found_in c.in-Ok.found))) (λ s. count s + 1) (found_by (g.F.Fetch.offers c.args.fetch.now)) c.args.job.cid c.look_up.new.job.cid c.args.job.own c.in-Ok.found _ _
+    (λ s. let d = delivery_processes s.state.durable.graph c.look_up.new.job.cid (found_in c.in-Ok.found) in omega (arith, d)) c.look_up.ensures.cid c.in-Ok.ensures.found c.deliver.ensures.leads
+
+pub returns-in-Err-clause-leads : goal.returns-in-Err-clause-leads
+returns-in-Err-clause-leads g c = fetch_told c.in-Err.error c.end_by.result (λ s. count s + 1) (FetchedFor (found_by (g.F.Fetch.offers c.args.fetch.now)) c.args.job.cid c.args.job.own) _ _ c.end_by.ensures (λ s. omega arith) c.back.ensures.leads

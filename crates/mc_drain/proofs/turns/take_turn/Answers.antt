@@ -1,0 +1,20 @@
+use Rattle.std.proofs.Common.{◌+◌, false, arith}
+use Rattle.mc_core.proofs.Keeps.{continues_more}
+use Rattle.mc_fetch.specs.Offers.{found_by}
+use Rattle.mc_drain.specs.Leads.{Always, count}
+use Rattle.mc_drain.specs.Words.{Fetched, is_keeper, keeper_failed}
+use Rattle.mc_drain.proofs.TurnFacts.{turn_told, weaker_told}
+use Rattle.mc_drain.proofs.turns.take_turn.Goals as goal
+
+pub returns-in-Ok-Some-clause-leads : goal.returns-in-Ok-Some-clause-leads
+returns-in-Ok-Some-clause-leads g c = let digest = rw c.in-Ok-Some.field-0-is at c.in-Ok-Some.ensures.digest in let own = rw c.in-Ok-Some.field-0-is at c.in-Ok-Some.ensures.own in
+    turn_told (keeper_failed c.do_job.result) (λ s. count s + 1) (found_by (g.F.Fetch.offers c.args.fetch.now)) c.in-Ok-Some.job.cid c.in-Ok-Some.job.own _ _ _ (λ s mid e. omega (arith, e)) digest c.in-Ok-Some.ensures.leads c.do_job.ensures.leads own
+
+pub returns-in-Ok-Some-clause-keeps : goal.returns-in-Ok-Some-clause-keeps
+returns-in-Ok-Some-clause-keeps g c = continues_more c.in-Ok-Some.ensures.keeps c.do_job.ensures.keeps
+
+pub returns-in-Ok-None-clause-leads : goal.returns-in-Ok-None-clause-leads
+returns-in-Ok-None-clause-leads g c = weaker_told false count (λ s. count s + 1) Always (Fetched (found_by (g.F.Fetch.offers c.args.fetch.now))) _ _ (λ s. omega arith) (λ known kept f. tt) c.in-Ok-None.ensures.leads
+
+pub returns-in-Err-clause-leads : goal.returns-in-Err-clause-leads
+returns-in-Err-clause-leads g c = weaker_told (is_keeper c.in-Err.end) count (λ s. count s + 1) Always (Fetched (found_by (g.F.Fetch.offers c.args.fetch.now))) _ _ (λ s. omega arith) (λ known kept f. tt) c.in-Err.ensures.leads

@@ -1,0 +1,68 @@
+-- What the calls of a drain of the wanted set lead to, as facts about two states of a replica.
+use Rattle.std.specs.Prelude.{◌≡◌, ◌≤◌, ◌+◌, ◌-◌, ⊤, ℕ, Bool, true, false, ◌&&◌, ◌||◌, List, [], ◌∷◌, ◌++◌, length, Some}
+use Rattle.mc_base.specs.declared.cid.Cid.{Cid}
+use Rattle.mc_model.specs.Drain.{PartsFit, is_in_order, is_new, offered_links}
+use Rattle.mc_model.specs.Draining.{HasDrained, bytes_in, came, offers_of, queue_in}
+use Rattle.mc_model.specs.Events.{Event, Process}
+use Rattle.mc_model.specs.Found.{is_found}
+use Rattle.mc_model.specs.Graph.{has, in_graph}
+use Rattle.mc_model.specs.State.{Durable}
+use Rattle.mc_fetch.specs.Fits.{Map}
+use Rattle.mc_core.specs.Events.{ReplicaState}
+
+-- whether a drain may have left the block stored where it broke off: it was before, or it is added, or it has a good
+-- offer, and was wanted at the start or is linked by a block added
+abbrev pub may_be_left : Map → Durable → List Cid → List Cid → Cid → Bool
+may_be_left map old start added c =
+    in_graph old.graph c
+    || (has c added || ((has c start || has c (offered_links (offers_of map) added)) && is_found (offers_of map c)))
+
+-- From the durable state `old`, where `start` was wanted, a drain has left this behind, where a fault of the keeper broke
+-- it off. Nothing is wanted any more.
+pub record HasBrokenOff (map : Map) (old : Durable) (start : List Cid) (now : Durable) : Type 0 where
+  -- the added blocks follow those that were processed
+  pub grown : now.order ≡ old.order ++ came old.order now.order
+  -- each has a good offer, and was not processed
+  pub good : (c : Cid) → has c (came old.order now.order) ≡ true → is_new (offers_of map) old.order c ≡ true
+  -- each was wanted at the start, or is linked by one before it
+  pub in_order : is_in_order (offers_of map) start [] (came old.order now.order) ≡ true
+  -- each stored block has the bytes that are found
+  pub stored : (c : Cid) (bytes : List ℕ) → bytes_in now.graph c ≡ Some bytes → map c ≡ Some bytes
+  -- nothing was stored but what the drain takes
+  pub taken : (c : Cid) → in_graph now.graph c ≡ true → may_be_left map old start (came old.order now.order) c ≡ true
+
+-- how many blocks an event processes, and all of some
+abbrev pub processes : Event → ℕ
+processes (Process cids) = length cids
+processes event = 0
+
+abbrev pub all_processes : List Event → ℕ
+all_processes [] = 0
+all_processes (event ∷ events) = processes event + all_processes events
+
+-- how many blocks are processed
+abbrev pub count : ReplicaState → ℕ
+count s = length s.state.durable.order
+
+-- how many may be processed where so many are, and a limit is set
+abbrev pub up_to : ℕ → ReplicaState → ℕ
+up_to limit s = count s + (limit - count s)
+
+-- What some calls lead to, of which the last alone may have failed, and did so where `failed` is true: no more than `most`
+-- blocks are processed then; and where P holds of what is found and of the blocks that were stored at a drain's
+-- beginning, a drain that had come to the first state has come to the second, or has broken off there, and missing and
+-- bad go on holding what their names say.
+pub record Leads (failed : Bool) (most : ℕ) (P : Map → List Cid → Type 0) (s new : ReplicaState) : Type 0 where
+  pub grows : count s ≤ count new
+  pub few : count new ≤ most
+  pub goes : failed ≡ false → (map : Map) (kept : List Cid) → P map kept → (old : Durable) (start : List Cid)
+      → HasDrained map kept old start s.state → HasDrained map kept old start new.state
+  pub parts : failed ≡ false → (map : Map) (kept : List Cid) → P map kept → (old : Durable) (start : List Cid)
+      → HasDrained map kept old start s.state → PartsFit (offers_of map) (queue_in s.state.run)
+      → PartsFit (offers_of map) (queue_in new.state.run)
+  pub breaks : failed ≡ true → (map : Map) (kept : List Cid) → P map kept → (old : Durable) (start : List Cid)
+      → HasDrained map kept old start s.state → HasBrokenOff map old start new.state.durable
+
+-- whatever is found
+abbrev pub Always : Map → List Cid → Type 0
+Always map kept = ⊤

@@ -1,0 +1,5 @@
+pub mod Finds
+pub mod Leads
+pub mod Repairs
+pub mod Words
+pub mod Works

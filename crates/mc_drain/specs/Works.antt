@@ -1,0 +1,107 @@
+-- What a work of the wanted blocks, and a repair, lead to.
+use Rattle.std.specs.Prelude.{◌≡◌, ◌≢◌, ◌≤◌, ◌+◌, ◌-◌, ⊤, ℕ, Bool, true, false, List, [], length, Option, Some, Result, Ok, Err, IfSome}
+use Rattle.mc_base.specs.declared.cid.Cid.{Cid}
+use Rattle.mc_fetch.specs.Fits.{Map}
+use Rattle.mc_model.specs.Drain.{IsClosure, IsSoFar, PartsFit}
+use Rattle.mc_model.specs.Draining.{offers_of, queue_in}
+use Rattle.mc_model.specs.Found.{Offers, is_found}
+use Rattle.mc_model.specs.Graph.{has}
+use Rattle.mc_model.specs.State.{wanted_in}
+use Rattle.mc_model.specs.Wanted.{Queue}
+use Rattle.mc_core.specs.Counted.{capped}
+use Rattle.mc_core.specs.Events.{ReplicaState}
+use Rattle.mc_drain.specs.declared.end.DrainEnd.{DrainEnd}
+use Rattle.mc_drain.specs.declared.end.DrainEnd.TheVariants as end
+use Rattle.mc_drain.specs.declared.working.WorkError.{WorkError}
+use Rattle.mc_drain.specs.declared.working.WorkError.TheVariants.{KeeperFault, PeerFault, Stopped, Memory}
+use Rattle.mc_drain.specs.declared.working.Worked.{Worked}
+use Rattle.mc_drain.specs.declared.working.Worked.TheVariants.{Done, Again}
+use Rattle.mc_drain.specs.Finds.{found_from}
+use Rattle.mc_drain.specs.Leads.{HasBrokenOff, count}
+
+-- how many blocks came between two states, of the first 2 ^ 64 - 1 of them
+abbrev pub came_between : ReplicaState → ReplicaState → ℕ
+came_between s new = capped (count new) - capped (count s)
+
+-- the processed blocks that a work of this budget ends at, if not before
+abbrev pub limit_of : ℕ → ReplicaState → ℕ
+limit_of budget s = capped (capped (count s) + budget)
+
+-- all that wait have good offers
+abbrev pub AllFound : Offers → List Cid → Type 0
+AllFound found cids = (c : Cid) → has c cids ≡ true → is_found (found c) ≡ true
+
+-- the drain of these blocks is at its end: the closure is reached, and missing and bad hold what their names say
+pub record IsAtEnd (map : Map) (start : List Cid) (s new : ReplicaState) : Type 0 where
+  pub closure : IsClosure (offers_of map) s.state.durable start new.state.durable (wanted_in new.state.run)
+  pub parts : PartsFit (offers_of map) (queue_in new.state.run)
+
+-- it is not: a block that waits has a good offer, as all have that wait, and missing and bad hold what their names say
+pub record IsBefore (map : Map) (start : List Cid) (s new : ReplicaState) : Type 0 where
+  pub so_far : IsSoFar (offers_of map) s.state.durable start new.state.durable (wanted_in new.state.run)
+  pub parts : PartsFit (offers_of map) (queue_in new.state.run)
+  pub good : AllFound (offers_of map) (queue_in new.state.run).waiting
+
+-- what came is within the closure
+abbrev pub IsPartOf : Map → List Cid → ReplicaState → ReplicaState → Type 0
+IsPartOf map start s new = IsSoFar (offers_of map) s.state.durable start new.state.durable (wanted_in new.state.run)
+
+-- what a work leads to, by its answer, where it is known what is found
+abbrev pub WorkIs : Map → Result Worked WorkError → ReplicaState → ReplicaState → Type 0
+WorkIs map (Ok (Done processed missing bad)) s new = IsAtEnd map (wanted_in s.state.run) s new
+WorkIs map (Ok (Again processed)) s new = IsBefore map (wanted_in s.state.run) s new
+WorkIs map (Err KeeperFault) s new = HasBrokenOff map s.state.durable (wanted_in s.state.run) new.state.durable
+WorkIs map (Err PeerFault) s new = IsPartOf map (wanted_in s.state.run) s new
+WorkIs map (Err Stopped) s new = new ≡ s
+WorkIs map (Err Memory) s new = IsPartOf map (wanted_in s.state.run) s new
+
+-- the numbers of an answer: how many blocks came, and where there are to come again the limit is reached
+abbrev pub WorkCounts : ℕ → Result Worked WorkError → ReplicaState → ReplicaState → Type 0
+WorkCounts budget (Ok (Done processed missing bad)) s new = processed ≡ came_between s new
+WorkCounts budget (Ok (Again processed)) s new = (processed ≡ came_between s new) × (limit_of budget s ≤ count new)
+WorkCounts budget (Err error) s new = ⊤
+
+-- What a work of this budget leads to, where the keeper tells: no block is lost, no more come than the budget, and where
+-- it is known what is found, the answer is that of the closure of what was wanted.
+pub record WorkLeads (budget : ℕ) (offers : Option Map) (result : Result Worked WorkError) (s new : ReplicaState) : Type 0 where
+  pub grows : count s ≤ count new
+  pub within : count new ≤ count s + budget
+  pub counts : WorkCounts budget result s new
+  pub is : (map : Map) → found_from s.state.durable.graph offers ≡ Some map → WorkIs map result s new
+
+-- whether a keeper failed, and whether a fetch did
+abbrev pub keeper_broke : {T : Type 0} → Result T WorkError → Bool
+keeper_broke (Ok value) = false
+keeper_broke (Err KeeperFault) = true
+keeper_broke (Err PeerFault) = false
+keeper_broke (Err Stopped) = false
+keeper_broke (Err Memory) = false
+
+abbrev pub peer_broke : {T : Type 0} → Result T WorkError → Bool
+peer_broke (Ok value) = false
+peer_broke (Err KeeperFault) = false
+peer_broke (Err PeerFault) = true
+peer_broke (Err Stopped) = false
+peer_broke (Err Memory) = false
+
+-- what is wanted after a work, over every keeper: nothing is in flight, unless the replica has stopped; where it is done
+-- nothing waits, and the numbers are those of the missing and the bad ones
+abbrev pub WorkWants : Result Worked WorkError → Queue → Type 0
+WorkWants (Ok (Done processed missing bad)) q =
+    (q.waiting ≡ []) × (q.flight ≡ []) × (missing ≡ length q.missing) × (bad ≡ length q.bad)
+WorkWants (Ok (Again processed)) q = (q.waiting ≢ []) × (q.flight ≡ [])
+WorkWants (Err KeeperFault) q = ⊤
+WorkWants (Err PeerFault) q = q.flight ≡ []
+WorkWants (Err Stopped) q = ⊤
+WorkWants (Err Memory) q = q.flight ≡ []
+
+-- the answer where a drain came to this end, before which so many blocks were processed
+abbrev pub AnswerIs : DrainEnd → ℕ → Option ReplicaState → Queue → Result Worked WorkError → Type 0
+AnswerIs end.Idle before state q result =
+    (processed : ℕ) × (result ≡ Ok (Done processed (length q.missing) (length q.bad)))
+    × IfSome state (λ s. processed ≡ capped (count s) - before)
+AnswerIs end.Spent before state q result =
+    (processed : ℕ) × (result ≡ Ok (Again processed)) × IfSome state (λ s. processed ≡ capped (count s) - before)
+AnswerIs end.KeeperFault before state q result = result ≡ Err KeeperFault
+AnswerIs end.PeerFault before state q result = result ≡ Err PeerFault
+AnswerIs end.Memory before state q result = result ≡ Err Memory

@@ -1,0 +1,52 @@
+// Why a drain ended.
+ghost use Rattle.std.specs.Prelude.{◌≡◌};
+ghost use Rattle.mc_keep.specs.Causes.{is_fault_kind};
+ghost use Rattle.mc_core.specs.Refusals.{kind_of};
+ghost use Rattle.mc_drain.specs.Words.{end_by};
+
+use mc_core::CoreError;
+use mc_fetch::FetchError;
+
+/// Why a drain ended.
+#[derive(Clone, Copy, Debug, PartialEq, Eq)]
+pub enum DrainEnd {
+    /// Nothing waits.
+    Idle,
+    /// The limit is reached, and a block that waits has a good offer.
+    Spent,
+    /// The keeper failed, and the replica has stopped.
+    KeeperFault,
+    /// A place that the fetch asked failed. The job was given back.
+    PeerFault,
+    /// Want of memory. The job was given back.
+    Memory,
+}
+
+// Whether an error of a replica says that its keeper failed.
+pub(crate) fn is_fault(error: CoreError) -> bool
+    ensures { result ≡ is_fault_kind (kind_of error) }
+{
+    match error {
+        CoreError::KeeperFault => true,
+        CoreError::Stopped
+        | CoreError::BadKey { .. }
+        | CoreError::ValueTooLong
+        | CoreError::BlockTooLarge { .. }
+        | CoreError::PriorityFull
+        | CoreError::Clash { .. }
+        | CoreError::BadCast { .. }
+        | CoreError::NoBatch
+        | CoreError::BatchOpen
+        | CoreError::Memory => false,
+    }
+}
+
+// The end where a fetch gave none.
+pub(crate) fn end_by(error: FetchError) -> DrainEnd
+    ensures { result ≡ end_by error }
+{
+    match error {
+        FetchError::Failed => DrainEnd::PeerFault,
+        FetchError::Memory => DrainEnd::Memory,
+    }
+}
