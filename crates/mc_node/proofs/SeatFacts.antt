@@ -1,0 +1,36 @@
+-- What a seat knows after a call.
+use Rattle.std.proofs.Common.{◌≡◌, ℕ, Bool, true, List, [], ◌∷◌, refl, sym, ap, ◌∙◌, subst, Option, Some, append-nil}
+use Rattle.std.proofs.lemmas.Bool.{false≢true}
+use Rattle.mc_base.specs.declared.counted.Counted as counted
+use Rattle.mc_keep.specs.declared.keeper.Keeper as keeper
+use Rattle.mc_turn.specs.declared.view.View.{View}
+use Rattle.mc_turn.specs.Lists.{Begins}
+use Rattle.mc_turn.specs.Views.{Extends, held_view, given_view, IsTaken}
+use Rattle.mc_node.specs.declared.entry.Entry.{Entry}
+use Rattle.mc_node.specs.declared.note.Note.{Note}
+use Rattle.mc_node.specs.Entries.{begins_so, is_open}
+use Rattle.mc_node.specs.Items.{is_unsealed}
+use Rattle.mc_node.specs.Views.{Turned}
+
+module _ {E : Type 0} where
+  -- a value that was not changed extends itself
+  pub extends_itself : (held : Option (List E)) (log : List E) → held ≡ Some log → Extends held log
+  extends_itself held log is = subst (λ (h : Option (List E)). Extends h log) (sym is) ([], append-nil log)
+
+  pub turned : (before held after : View E) (words : List ℕ) (old new : List E) (P : List E → List E → Type 0) → IsTaken before old → held ≡ held_view before words old → after ≡ given_view held new → Begins old new → P old new → Turned before after P
+  turned before held after words old new P taken h a begins fits =
+      let F : View E → View E = λ x. given_view x new in let is : after ≡ F (held_view before words old) = a ∙ ap F h in
+      subst (λ (w : View E). Turned before w P) (sym is) (record { taken = old; known = taken; extends = begins; mine = refl; parts_same = refl; base_same = refl; fits = fits })
+
+module _ {K D : Type 0} {g : keeper.Ghosts K D} {h : counted.Ghosts K} {i : counted.Ghosts D} where
+  -- what a log begins with stays
+  pub begins_on : (test : Note → Bool) (xs ys : List (Entry K D g h i)) → begins_so test xs ≡ true → Begins xs ys → begins_so test ys ≡ true
+  begins_on test [] ys r b = absurd (false≢true r)
+  begins_on test (x ∷ xs) ys r b = ap (begins_so test) (sym b.1) ∙ r
+
+  pub open_on : (xs ys zs : List (Entry K D g h i)) → Begins xs ys → Begins ys zs → is_open xs ≡ true → is_open zs ≡ true
+  open_on xs ys zs a b r = begins_on is_unsealed ys zs (begins_on is_unsealed xs ys r a) b
+
+  -- and over a call of a node
+  pub open_given : (before old new after : List (Entry K D g h i)) → Begins before old → Begins old new → after ≡ new → is_open before ≡ true → is_open after ≡ true
+  open_given before old new after a b is o = subst (λ (l : List (Entry K D g h i)). is_open l ≡ true) (sym is) (open_on before old new a b o)

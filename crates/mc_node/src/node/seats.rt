@@ -1,0 +1,102 @@
+// How a node begins and ends, and its seats.
+ghost use Rattle.std.specs.Prelude.{◌≡◌, ◌<◌, true, false, IfOk, IfErr};
+ghost use Rattle.mc_turn.specs.Lists.{Begins};
+ghost use Rattle.mc_turn.specs.Seats.{IsSeatOf};
+ghost use Rattle.mc_turn.specs.Views.{first_view, left_view, right_view, joined_view, AreApart, IsTaken};
+ghost use Rattle.mc_core.specs.Replica.{replica_state};
+ghost use Rattle.mc_node.specs.Entries.{IsRootLog, StaysOpen, is_open, items, shown};
+ghost use Rattle.mc_node.specs.Seats.{knows};
+ghost use Rattle.mc_node.specs.Ties.{IsTied, IsWithin, StoresFound};
+
+use super::{Node, NodeRefused, NodeSeat};
+use crate::stored::Stored;
+use mc_core::Replica;
+use mc_fetch::Naming;
+use mc_keep::Keeper;
+use mc_turn::{Refused, Turn};
+use std::alloc::Global;
+use std::sync::Wait;
+
+impl<K: Keeper, J: Naming> Node<Stored<K, J>> {
+    /// A node over a replica that runs, and a seat with all its parts, which has seen the root. A sealed node is for
+    /// workers alone: nobody puts, deletes or hears there. `NodeRefused` comes for want of memory alone.
+    ///
+    /// Conditions of a sealed node: no more is processed than `J.most`; and where `J.found` is known, each stored
+    /// block is found there, and all of `J.kept` are stored.
+    pub fn new(
+        alloc: Global,
+        replica: Replica<K>,
+        sealed: bool,
+    ) -> Result<(Node<Stored<K, J>>, NodeSeat<Stored<K, J>, K>), NodeRefused<K>>
+        requires runs { replica.stopped ≡ false }
+        requires most { sealed ≡ true → IsWithin J.most (replica_state K.told K.fuse replica) }
+        requires found { sealed ≡ true → StoresFound (record {
+          walks = J.walks;
+          most = J.most;
+          found = J.found;
+          kept = J.kept;
+        })
+            (replica_state K.told K.fuse replica) }
+        ensures own { IfOk result (λ made. IsSeatOf made.0.turn made.1.seat) }
+        ensures root { IfOk result (λ made. (log : _) × IsRootLog sealed replica log
+            × (knows made.1 ≡ first_view log)) }
+        ensures open { sealed ≡ false → IfOk result (λ made. is_open (knows made.1).seen ≡ true) }
+        ensures err { IfErr result (λ refused. refused.replica ≡ replica) }
+    {
+        let stored = match Stored::new(alloc, replica, sealed) {
+            Ok(stored) => stored,
+            Err(replica) => return Err(NodeRefused { replica }),
+        };
+        match Turn::new(alloc, stored) {
+            Ok((turn, seat)) => Ok((Node { turn }, NodeSeat { seat })),
+            Err(refused) => {
+                let Refused { value } = refused;
+                Err(NodeRefused {
+                    replica: value.into_replica(),
+                })
+            }
+        }
+    }
+
+    /// A new seat, which has seen what this seat has seen, with half of its parts, rounded down. Takes no memory.
+    /// Condition: the seat has at least 2 parts.
+    pub fn split(&self, seat: &mut NodeSeat<Stored<K, J>, K>) -> NodeSeat<Stored<K, J>, K>
+        requires own { IsSeatOf self.now.turn seat.old.seat }
+        requires parts { 1 < (knows seat.old).parts }
+        ensures own { IsSeatOf self.now.turn seat.new.seat × IsSeatOf self.now.turn result.seat }
+        ensures left { knows seat.new ≡ left_view (knows seat.old) }
+        ensures right { knows result ≡ right_view (knows seat.old) }
+    {
+        NodeSeat {
+            seat: self.turn.split(&mut seat.seat),
+        }
+    }
+
+    /// The seat takes in another one, and has then seen the longer of both logs, which the shorter begins. No place
+    /// stands in the `mine` of both. Takes no memory.
+    pub fn join(&self, seat: &mut NodeSeat<Stored<K, J>, K>, other: NodeSeat<Stored<K, J>, K>)
+        requires own { IsSeatOf self.now.turn seat.old.seat × IsSeatOf self.now.turn other.seat }
+        ensures own { IsSeatOf self.now.turn seat.new.seat }
+        ensures joined { knows seat.new ≡ joined_view (knows seat.old) (knows other) }
+        ensures one { Begins (knows seat.old).seen (knows seat.new).seen
+            × Begins (knows other).seen (knows seat.new).seen }
+        ensures open { StaysOpen (knows seat.old).seen (knows seat.new).seen }
+        ensures apart { AreApart (knows seat.old) (knows other) }
+    {
+        let NodeSeat { seat: other } = other;
+        self.turn.join(&mut seat.seat, other);
+    }
+
+    /// Ends the node and hands its replica out, tied to a log that begins with all that the seat has seen. The `mine`
+    /// of a seat with all parts has every place after the root. Takes no memory.
+    pub fn close<W: Wait>(self, seat: NodeSeat<Stored<K, J>, K>, wait: &W) -> Replica<K>
+        requires own { IsSeatOf self.turn seat.seat }
+        ensures log { (log : _) × IsTaken (knows seat) log
+            × IsTied (record { walks = J.walks; most = J.most; found = J.found; kept = J.kept })
+            (shown K.Keeper result) (items K.Keeper log) }
+    {
+        let Node { turn } = self;
+        let NodeSeat { seat } = seat;
+        turn.close(seat, wait).into_replica()
+    }
+}

@@ -1,0 +1,37 @@
+// The value of a node: a replica beside its log.
+ghost use Rattle.std.specs.Prelude.{◌≡◌, false};
+ghost use Rattle.mc_node.specs.Entries.{items_at, shown_at};
+ghost use Rattle.mc_node.specs.Ties.{IsTied};
+
+use crate::entry::Entry;
+use mc_core::Replica;
+use mc_fetch::Naming;
+use mc_keep::Keeper;
+use mc_turn::Story;
+use std::marker::PhantomData;
+
+mod calls;
+mod entries;
+mod making;
+mod reads;
+
+/// A replica beside the log of what was done with it. Its list is the log.
+#[derive(Drop)]
+pub struct Stored<K: Keeper, J: Naming> {
+    pub(crate) replica: Replica<K>,
+    pub(crate) log: Vec<Entry<K>>,
+    of: PhantomData<J>,
+    ghost tied: { IsTied (record { walks = J.walks; most = J.most; found = J.found; kept = J.kept })
+        (shown_at K.told K.fuse K.own K.faults K.quiet K.schedule replica)
+        (items_at K.told K.fuse K.own K.faults K.quiet K.schedule log.items) },
+}
+
+impl<K: Keeper, J: Naming> Story for Stored<K, J> {
+    type Entry = Entry<K>;
+
+    ghost list = { λ stored. stored.log.items };
+
+    fn length(&self) -> u64 {
+        self.log.len() as u64
+    }
+}
