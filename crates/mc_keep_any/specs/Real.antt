@@ -1,0 +1,25 @@
+-- What is known of the program's keepers.
+use Rattle.std.specs.Prelude.{refl, Bool, true, false, Option, Some, None, IfSome}
+use Rattle.mc_model.specs.Kept.{Kept, nothing_kept}
+use Rattle.mc_model.specs.State.{HasSoundMark}
+use Rattle.mc_keep.specs.Plan.{MakeSchedule}
+use Rattle.mc_keep.specs.declared.keepers.KeeperPlan.{KeeperPlan}
+use Rattle.mc_keep.specs.declared.keepers.KeeperPlan.TheVariants.{Memory, Sqlite}
+
+-- a keeper in memory begins with nothing; what a file holds is not told
+abbrev pub starts_of : KeeperPlan → Option Kept
+starts_of Memory = Some nothing_kept
+starts_of (Sqlite dir) = None
+
+abbrev pub is_memory : KeeperPlan → Bool
+is_memory Memory = true
+is_memory (Sqlite dir) = false
+
+-- no faults are planned
+abbrev pub never_told : Option MakeSchedule
+never_told = None
+
+-- what they begin with has a sound mark
+pub starts_marked : (plan : KeeperPlan) → IfSome (starts_of plan) HasSoundMark
+starts_marked Memory = λ clear. refl
+starts_marked (Sqlite dir) = tt

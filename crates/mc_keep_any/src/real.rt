@@ -1,0 +1,125 @@
+// Who makes the keepers of the program, and takes them back.
+ghost use Rattle.std.specs.Prelude.{◌≡◌, ◌+◌, ◌-◌, ◌^◌, ℕ, min};
+ghost use Rattle.std.specs.List.{sum_by};
+ghost use Rattle.mc_keep.specs.Causes.{CountGoes};
+ghost use Rattle.mc_keep.specs.Plan.{is_fault};
+ghost use Rattle.mc_keep.specs.declared.keepers.KeeperPlan.{KeeperPlan};
+ghost use Rattle.mc_keep_any.specs.Real.{starts_of, starts_marked, is_memory, never_told};
+
+use crate::any::AnyKeeper;
+use crate::desk::AnyDesk;
+use mc_base::{Counted, List};
+use mc_keep::{KeepError, Keeper, KeeperPlan, Keepers};
+use mc_keep_mem::{FaultPlan, MemDesk, MemKeeper};
+use mc_keep_sql::{FileKeeper, SqlDesk, add_faults};
+use std::alloc::Global;
+use std::rt::HostRuntime;
+
+/// Makes the keepers of the program, by the plan: in memory, without faults, or in SQLite files.
+#[derive(Drop)]
+pub struct RealKeepers {
+    rt: HostRuntime,
+    faults: u64,
+    lost: u64,
+}
+
+impl RealKeepers {
+    /// No keeper yet.
+    pub fn new(rt: &HostRuntime) -> RealKeepers
+        ensures count { (result.faults ≡ 0) × (result.lost ≡ 0) }
+    {
+        RealKeepers {
+            rt: *rt,
+            faults: 0,
+            lost: 0,
+        }
+    }
+
+    // Counts what a call of `make` came to.
+    fn count<T>(&mut self, answer: Result<T, KeepError>) -> Result<T, KeepError>
+        ensures count { CountGoes (is_fault result) self.old.faults self.new.faults }
+        ensures same { result ≡ answer }
+        ensures lost { self.new.lost ≡ self.old.lost }
+    {
+        if let Err(KeepError::Failed) = answer {
+            self.faults = self.faults.saturating_add(1);
+        }
+        answer
+    }
+}
+
+impl Counted for RealKeepers {
+    ghost faults = { λ keepers. keepers.faults };
+
+    fn faults(&self) -> u64 {
+        self.faults
+    }
+}
+
+impl Keepers for RealKeepers {
+    type K = AnyKeeper<MemKeeper, FileKeeper>;
+
+    ghost starts = { λ keepers plan index. starts_of plan };
+
+    ghost quiet = { λ keepers plan. is_memory plan };
+
+    ghost schedule = { λ keepers. never_told };
+
+    ghost lost = { λ keepers. keepers.lost };
+
+    ghost takes = { λ old keeper desks new. new ≡ record old {
+      lost = min (old.lost + ⟦<AnyKeeper<MemKeeper, FileKeeper> as Counted>⟧.faults keeper + sum_by ⟦<AnyDesk<MemDesk, SqlDesk> as Counted>⟧.faults desks) (2 ^ 64 - 1);
+    } };
+
+    fn make(
+        &mut self,
+        alloc: Global,
+        plan: &KeeperPlan,
+        index: u64,
+    ) -> Result<AnyKeeper<MemKeeper, FileKeeper>, KeepError> {
+        match plan {
+            KeeperPlan::Memory => {
+                let keeper = MemKeeper::new(alloc, FaultPlan::nothing(alloc))?;
+                Ok(AnyKeeper::Memory(keeper))
+            }
+            KeeperPlan::Sqlite { dir } => {
+                let opened = FileKeeper::open(&self.rt, dir.as_str(), index);
+                let keeper = self.count(opened)?;
+                Ok(AnyKeeper::File(keeper))
+            }
+        }
+    }
+
+    fn end(
+        &mut self,
+        keeper: AnyKeeper<MemKeeper, FileKeeper>,
+        desks: List<AnyDesk<MemDesk, SqlDesk>>,
+    )
+        ensures taken { self.new ≡ record self.old {
+          lost = min (self.old.lost + ⟦<AnyKeeper<MemKeeper, FileKeeper> as Counted>⟧.faults keeper + sum_by ⟦<AnyDesk<MemDesk, SqlDesk> as Counted>⟧.faults desks) (2 ^ 64 - 1);
+        } }
+        ensures lost { self.new.lost
+            ≡ min (self.old.lost + ⟦<AnyKeeper<MemKeeper, FileKeeper> as Counted>⟧.faults keeper + sum_by ⟦<AnyDesk<MemDesk, SqlDesk> as Counted>⟧.faults desks) (2 ^ 64 - 1) }
+        ensures starts_same { (plan : KeeperPlan) (index : ℕ) → starts_of plan ≡ starts_of plan }
+        ensures quiet_same { (plan : KeeperPlan) → is_memory plan ≡ is_memory plan }
+        ensures planned { never_told ≡ never_told }
+        ensures count { self.new.faults ≡ self.old.faults }
+    {
+        let lost = self.lost.saturating_add(keeper.faults());
+        self.lost = add_faults(lost, desks.as_slice());
+        close(keeper);
+    }
+
+    fn lost(&self) -> u64 {
+        self.lost
+    }
+
+    ghost marked = { λ keepers plan index. starts_marked plan };
+}
+
+// Closes the file of a keeper that has one. Where that fails, what was committed stands in the file and its log.
+fn close(keeper: AnyKeeper<MemKeeper, FileKeeper>) {
+    if let AnyKeeper::File(keeper) = keeper {
+        keeper.close();
+    }
+}

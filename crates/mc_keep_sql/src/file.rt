@@ -1,0 +1,150 @@
+// The keeper over a SQLite file.
+ghost use Rattle.std.specs.Prelude.{◌≡◌, ◌-◌, ◌^◌, false, None, IfOk};
+
+use crate::desk::SqlDesk;
+use crate::keeper::SqlKeeper;
+use mc_base::{Bytes, Cid, Counted, Failed, List};
+use mc_keep::{Changes, ElementRow, HeadRow, KeepError, Keeper, Summary, ValueRow};
+use std::alloc::{AllocError, Global};
+use std::rt::HostRuntime;
+use std::sync::Wait;
+
+/// A keeper whose tables stand in a SQLite file: `SqlKeeper` as a type without parameters. A call that is generic over
+/// keepers can then name it, which it can't name the other: the check would compare the parts of its connection.
+#[derive(Drop)]
+pub struct FileKeeper {
+    inner: SqlKeeper,
+}
+
+impl FileKeeper {
+    /// Opens the file of the replica with this index in a folder, and makes it where it is not there. The folder must exist.
+    pub fn open(rt: &HostRuntime, dir: &str, index: u64) -> Result<FileKeeper, KeepError>
+        ensures fresh { IfOk result (λ keeper. keeper.inner.faults ≡ 0) }
+    {
+        match SqlKeeper::open(rt, dir, index) {
+            Ok(inner) => Ok(FileKeeper { inner }),
+            Err(error) => Err(error),
+        }
+    }
+}
+
+impl FileKeeper {
+    /// Copies the log into the file, and closes both. Where that fails the log stays beside the file, with all commits.
+    pub fn close(self) {
+        let FileKeeper { inner } = self;
+        let _ = inner.into_connection().close();
+    }
+}
+
+impl Counted for FileKeeper {
+    ghost faults = { λ keeper. keeper.inner.faults };
+
+    fn faults(&self) -> u64 {
+        self.inner.faults()
+    }
+}
+
+impl Keeper for FileKeeper {
+    type Desk = SqlDesk;
+
+    ghost told = { λ keeper. None };
+
+    ghost spare = { λ keeper. 2 ^ 64 - 1 };
+
+    ghost fuse = { λ keeper. None };
+
+    ghost own = { λ keeper. keeper.inner.faults };
+
+    ghost quiet = { λ keeper. false };
+
+    ghost quiet_desk = { λ desk. false };
+
+    ghost schedule = { λ keeper. None };
+
+    ghost desk_schedule = { λ desk. None };
+
+    ghost sound = { λ keeper. tt };
+
+    fn own_faults(&self) -> u64 {
+        self.inner.own_faults()
+    }
+
+    fn desk(&mut self, alloc: Global) -> Result<SqlDesk, KeepError> {
+        self.inner.desk(alloc)
+    }
+
+    fn peer_block<W: Wait>(
+        &self,
+        alloc: Global,
+        desk: &mut SqlDesk,
+        cid: &Cid,
+        wait: &W,
+    ) -> Result<Option<Bytes>, KeepError> {
+        self.inner.peer_block(alloc, desk, cid, wait)
+    }
+
+    fn summary(&mut self) -> Result<Summary, Failed> {
+        self.inner.summary()
+    }
+
+    fn block(&mut self, alloc: Global, cid: &Cid) -> Result<Option<Bytes>, KeepError> {
+        self.inner.block(alloc, cid)
+    }
+
+    fn stored(&mut self, cid: &Cid) -> Result<bool, Failed> {
+        self.inner.stored(cid)
+    }
+
+    fn position(&mut self, cid: &Cid) -> Result<Option<u64>, Failed> {
+        self.inner.position(cid)
+    }
+
+    fn at(&mut self, position: u64) -> Result<Option<Cid>, Failed> {
+        self.inner.at(position)
+    }
+
+    fn linked(&mut self, cid: &Cid) -> Result<bool, Failed> {
+        self.inner.linked(cid)
+    }
+
+    fn heads(&mut self, alloc: Global) -> Result<List<HeadRow>, KeepError> {
+        self.inner.heads(alloc)
+    }
+
+    fn elements(&mut self, alloc: Global, key: &str) -> Result<List<ElementRow>, KeepError> {
+        self.inner.elements(alloc, key)
+    }
+
+    fn hidden(&mut self, key: &str, id: &str) -> Result<bool, Failed> {
+        self.inner.hidden(key, id)
+    }
+
+    fn value(&mut self, alloc: Global, key: &str) -> Result<Option<ValueRow>, KeepError> {
+        self.inner.value(alloc, key)
+    }
+
+    fn holder(&mut self, alloc: Global, key: &str) -> Result<Option<Cid>, KeepError> {
+        self.inner.holder(alloc, key)
+    }
+
+    fn has(&mut self, key: &str) -> Result<bool, Failed> {
+        self.inner.has(key)
+    }
+
+    fn value_from(
+        &mut self,
+        alloc: Global,
+        bound: &str,
+        inclusive: bool,
+    ) -> Result<Option<ValueRow>, KeepError> {
+        self.inner.value_from(alloc, bound, inclusive)
+    }
+
+    fn reserve(&mut self, rows: u64) -> Result<(), AllocError> {
+        self.inner.reserve(rows)
+    }
+
+    fn commit(&mut self, changes: Changes) -> Result<(), Failed> {
+        self.inner.commit(changes)
+    }
+}

@@ -1,0 +1,258 @@
+// The keeper over SQLite.
+ghost use Rattle.std.specs.Prelude.{◌≡◌, ◌-◌, ◌^◌, false, None, IfOk};
+ghost use Rattle.std.specs.Result.{is_err};
+ghost use Rattle.mc_keep.specs.Causes.{CountGoes};
+ghost use Rattle.mc_keep.specs.Plan.{is_fault};
+
+use crate::changing::{change, counts_after};
+use crate::counts::Counts;
+use crate::desk::SqlDesk;
+use crate::opening::prepare_tables;
+use crate::reading;
+use mc_base::{Bytes, Cid, Counted, Failed, List};
+use mc_keep::{Changes, ElementRow, HeadRow, KeepError, Keeper, Summary, ValueRow};
+use sqlite::{Alter, Connection, Error, ErrorCode, File, FileStore};
+use std::alloc::{AllocError, Global};
+use std::rt::HostRuntime;
+use std::sync::{Mutex, Wait};
+
+/// A keeper whose tables stand in a SQLite file, or wherever the store `S` puts them. It does not tell what they hold: that
+/// they are those of the changes that were committed is shown by tests. It counts each refused statement, also one refused
+/// for memory, and each row that is not of its table's form.
+#[derive(Drop)]
+pub struct SqlKeeper<S: Alter + Drop = FileStore<File>> {
+    connection: Mutex<Connection<S>>,
+    // None where a commit has failed, since it may have happened.
+    counts: Option<Counts>,
+    faults: u64,
+}
+
+impl SqlKeeper {
+    /// Opens the file of the replica with this index in a folder, and makes it where it is not there. The folder must exist.
+    pub fn open(rt: &HostRuntime, dir: &str, index: u64) -> Result<SqlKeeper, KeepError>
+        ensures fresh { IfOk result (λ keeper. keeper.faults ≡ 0) }
+    {
+        let letter = letter_of(index);
+        let path = format!(in rt.alloc(); "{dir}/{letter}.db")?;
+        match Connection::open(rt, path.as_str()) {
+            Ok(connection) => SqlKeeper::adopt(connection),
+            Err(Error::SqliteFailure(ErrorCode::OutOfMemory)) => Err(KeepError::Memory),
+            Err(_) => Err(KeepError::Failed),
+        }
+    }
+}
+
+// The letter of the replica with this index.
+fn letter_of(index: u64) -> char {
+    match index {
+        0 => 'a',
+        1 => 'b',
+        2 => 'c',
+        3 => 'd',
+        4 => 'e',
+        5 => 'f',
+        6 => 'g',
+        _ => 'h',
+    }
+}
+
+impl<S: Alter + Drop> SqlKeeper<S> {
+    /// A keeper over an open connection. Where it has no tables they are made. Fails where it has others, or another layout.
+    pub fn adopt(connection: Connection<S>) -> Result<SqlKeeper<S>, KeepError>
+        ensures fresh { IfOk result (λ keeper. keeper.faults ≡ 0) }
+    {
+        let mut connection = connection;
+        prepare_tables(&mut connection)?;
+        let counts = Counts::new(&mut connection)?;
+        Ok(SqlKeeper {
+            connection: Mutex::new(connection),
+            counts: Some(counts),
+            faults: 0,
+        })
+    }
+
+    /// The connection, for whoever closes it. Nothing is written.
+    pub fn into_connection(self) -> Connection<S> {
+        let SqlKeeper {
+            connection,
+            counts: _,
+            faults: _,
+        } = self;
+        connection.into_inner()
+    }
+
+    // Counts the answer of a call, where it failed.
+    fn count<T>(&mut self, answer: Result<T, KeepError>) -> Result<T, KeepError>
+        ensures count { CountGoes (is_fault result) self.old.faults self.new.faults }
+    {
+        if let Err(KeepError::Failed) = answer {
+            self.faults = self.faults.saturating_add(1);
+        }
+        answer
+    }
+
+    // The same of a call that takes no memory of the caller's.
+    fn count_failed<T>(&mut self, answer: Result<T, Failed>) -> Result<T, Failed>
+        ensures count { CountGoes (is_err result) self.old.faults self.new.faults }
+    {
+        if answer.is_err() {
+            self.faults = self.faults.saturating_add(1);
+        }
+        answer
+    }
+
+    // The counts, which are read where they are not known.
+    fn known_counts(&mut self) -> Result<Counts, Failed>
+        ensures { self.new.faults ≡ self.old.faults }
+    {
+        if let Some(counts) = self.counts {
+            return Ok(counts);
+        }
+        let counts = Counts::new(self.connection.get_mut())?;
+        self.counts = Some(counts);
+        Ok(counts)
+    }
+
+    fn make(&mut self, changes: &Changes) -> Result<(), Failed>
+        ensures { self.new.faults ≡ self.old.faults }
+    {
+        let counts = self.known_counts()?;
+        self.counts = None;
+        let gone = change(self.connection.get_mut(), counts.marks, changes)?;
+        self.counts = Some(counts_after(&counts, changes, gone));
+        Ok(())
+    }
+}
+
+impl<S: Alter + Drop> Counted for SqlKeeper<S> {
+    ghost faults = { λ keeper. keeper.faults };
+
+    fn faults(&self) -> u64 {
+        self.faults
+    }
+}
+
+impl<S: Alter + Drop> Keeper for SqlKeeper<S> {
+    type Desk = SqlDesk;
+
+    ghost told = { λ keeper. None };
+
+    ghost spare = { λ keeper. 2 ^ 64 - 1 };
+
+    ghost fuse = { λ keeper. None };
+
+    ghost own = { λ keeper. keeper.faults };
+
+    ghost quiet = { λ keeper. false };
+
+    ghost quiet_desk = { λ desk. false };
+
+    ghost schedule = { λ keeper. None };
+
+    ghost desk_schedule = { λ desk. None };
+
+    ghost sound = { λ keeper. tt };
+
+    fn own_faults(&self) -> u64 {
+        self.faults
+    }
+
+    fn desk(&mut self, _alloc: Global) -> Result<SqlDesk, KeepError> {
+        Ok(SqlDesk::new())
+    }
+
+    fn peer_block<W: Wait>(
+        &self,
+        alloc: Global,
+        desk: &mut SqlDesk,
+        cid: &Cid,
+        wait: &W,
+    ) -> Result<Option<Bytes>, KeepError> {
+        let mut connection = self.connection.lock(wait);
+        let answer = reading::block(&mut connection, alloc, cid);
+        drop(connection);
+        desk.count(answer)
+    }
+
+    fn summary(&mut self) -> Result<Summary, Failed> {
+        let counts = self.known_counts();
+        match self.count_failed(counts) {
+            Ok(counts) => Ok(counts.summary()),
+            Err(Failed) => Err(Failed),
+        }
+    }
+
+    fn block(&mut self, alloc: Global, cid: &Cid) -> Result<Option<Bytes>, KeepError> {
+        let answer = reading::block(self.connection.get_mut(), alloc, cid);
+        self.count(answer)
+    }
+
+    fn stored(&mut self, cid: &Cid) -> Result<bool, Failed> {
+        let answer = reading::stored(self.connection.get_mut(), cid);
+        self.count_failed(answer)
+    }
+
+    fn position(&mut self, cid: &Cid) -> Result<Option<u64>, Failed> {
+        let answer = reading::position(self.connection.get_mut(), cid);
+        self.count_failed(answer)
+    }
+
+    fn at(&mut self, position: u64) -> Result<Option<Cid>, Failed> {
+        let answer = reading::at(self.connection.get_mut(), position);
+        self.count_failed(answer)
+    }
+
+    fn linked(&mut self, cid: &Cid) -> Result<bool, Failed> {
+        let answer = reading::linked(self.connection.get_mut(), cid);
+        self.count_failed(answer)
+    }
+
+    fn heads(&mut self, alloc: Global) -> Result<List<HeadRow>, KeepError> {
+        let answer = reading::heads(self.connection.get_mut(), alloc);
+        self.count(answer)
+    }
+
+    fn elements(&mut self, alloc: Global, key: &str) -> Result<List<ElementRow>, KeepError> {
+        let answer = reading::elements(self.connection.get_mut(), alloc, key);
+        self.count(answer)
+    }
+
+    fn hidden(&mut self, key: &str, id: &str) -> Result<bool, Failed> {
+        let answer = reading::hidden(self.connection.get_mut(), key, id);
+        self.count_failed(answer)
+    }
+
+    fn value(&mut self, alloc: Global, key: &str) -> Result<Option<ValueRow>, KeepError> {
+        let answer = reading::value(self.connection.get_mut(), alloc, key);
+        self.count(answer)
+    }
+
+    fn holder(&mut self, alloc: Global, key: &str) -> Result<Option<Cid>, KeepError> {
+        let answer = reading::holder(self.connection.get_mut(), alloc, key);
+        self.count(answer)
+    }
+
+    fn has(&mut self, key: &str) -> Result<bool, Failed> {
+        let answer = reading::has(self.connection.get_mut(), key);
+        self.count_failed(answer)
+    }
+
+    fn value_from(
+        &mut self,
+        alloc: Global,
+        bound: &str,
+        inclusive: bool,
+    ) -> Result<Option<ValueRow>, KeepError> {
+        let answer = reading::value_from(self.connection.get_mut(), alloc, bound, inclusive);
+        self.count(answer)
+    }
+
+    fn reserve(&mut self, _rows: u64) -> Result<(), AllocError> {
+        Ok(())
+    }
+
+    fn commit(&mut self, changes: Changes) -> Result<(), Failed> {
+        let answer = self.make(&changes);
+        self.count_failed(answer)
+    }
+}

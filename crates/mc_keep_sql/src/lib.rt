@@ -1,0 +1,18 @@
+//! The keeper whose tables stand in a SQLite file. It does not tell what they hold.
+#![tactic(auto)]
+
+mod cells;
+mod changing;
+mod counts;
+mod desk;
+mod file;
+mod keeper;
+mod opening;
+mod reading;
+mod sums;
+mod tables;
+
+pub use desk::SqlDesk;
+pub use file::FileKeeper;
+pub use keeper::SqlKeeper;
+pub use sums::add_faults;
