@@ -11,7 +11,7 @@ use Rattle.mc_model.specs.State.{Running}
 use Rattle.mc_core.specs.Events.{ReplicaState, Goes, MayHappen, all_happen, burnt_by, commits, fires_by, goes_on, state_of}
 use Rattle.mc_script.specs.declared.command.Command.{Command}
 use Rattle.mc_script.specs.declared.command.Command.TheVariants.{Put, Del, Begin, BatchPut, BatchDel, Commit, Get, Has as HasKey, Query, Heads as HeadsOf}
-use Rattle.mc_script.specs.declared.command.Command.TheVariants.{Cast, Wire, Hear, Plant, Link, Step as StepOf, State as StateOf, Same as SameOf, Stop, Open, StopAt, StopAfter}
+use Rattle.mc_script.specs.declared.command.Command.TheVariants.{Cast, Wire, Hear, Plant, Link, Step as StepOf, Work, Repair, Storm, State as StateOf, Same as SameOf, Stop, Open, StopAt, StopAfter}
 use Rattle.mc_script.specs.declared.reply.Reply.{Reply}
 use Rattle.mc_script.specs.declared.reply.Reply.TheVariants.{FaultKeeper, FaultPeer}
 use Rattle.mc_app.specs.declared.entry.LineEntry.{LineEntry}
@@ -110,6 +110,9 @@ done_unfired w (Stop r) reply p q tells h = same_fuse p.fuse q.fuse (ap (λ (x :
 done_unfired w (Open r) reply p q tells h = same_fuse p.fuse q.fuse h.0.tells.1
 done_unfired w (StopAt r commit) reply p q tells h = not_fired p.fuse q.fuse (λ _. ap (λ (x : Place). is_some x.fuse) h.0)
 done_unfired w (StopAfter r commit) reply p q tells h = not_fired p.fuse q.fuse (λ _. ap (λ (x : Place). is_some x.fuse) h.0)
+done_unfired w (Work r workers budget) reply p q tells h = absurd h.0
+done_unfired w (Repair r workers) reply p q tells h = absurd h.0
+done_unfired w (Storm r writers writes) reply p q tells h = absurd h.0
 done_unfired w (Put r key bytes) reply p q tells h = place_unfired w (Put r key bytes) reply p q tells h.1
 done_unfired w (Del r key) reply p q tells h = place_unfired w (Del r key) reply p q tells h.1
 done_unfired w (Begin r) reply p q tells h = same_fuse p.fuse q.fuse h.0.1.1

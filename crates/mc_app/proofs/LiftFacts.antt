@@ -22,7 +22,7 @@ use Rattle.mc_core.specs.Hears.{written_cast}
 use Rattle.mc_core.specs.Reads.{read_refusal}
 use Rattle.mc_core.specs.Refusals.{Is, running_refusal}
 use Rattle.mc_script.specs.declared.command.Command.{Command}
-use Rattle.mc_script.specs.declared.command.Command.TheVariants.{Put, Del, Begin, BatchPut, BatchDel, Commit, Get, Has, Query, Heads, Cast, Wire, Hear, Plant, Link, Step, State, Same, Stop, Open, StopAt, StopAfter}
+use Rattle.mc_script.specs.declared.command.Command.TheVariants.{Put, Del, Begin, BatchPut, BatchDel, Commit, Get, Has, Query, Heads, Cast, Wire, Hear, Plant, Link, Step, Work, Repair, Storm, State, Same, Stop, Open, StopAt, StopAfter}
 use Rattle.mc_script.specs.declared.reply.Reply.{Reply}
 use Rattle.mc_script.specs.declared.reply.Reply.TheVariants.{FaultKeeper, Message}
 use Rattle.mc_app.specs.declared.acting.ActError.{ActError}
@@ -73,6 +73,9 @@ single_is w (Step r) is = never is
 single_is w (Same r other) is = never is
 single_is w (Stop r) is = never is
 single_is w (Open r) is = never is
+single_is w (Work r workers budget) is = never is
+single_is w (Repair r workers) is = never is
+single_is w (Storm r writers writes) is = never is
 single_is w (StopAt r commit) is = never is
 single_is w (StopAfter r commit) is = never is
 
@@ -155,6 +158,9 @@ single_at count bag (Step r) is there = never is
 single_at count bag (Same r other) is there = never is
 single_at count bag (Stop r) is there = never is
 single_at count bag (Open r) is there = never is
+single_at count bag (Work r workers budget) is there = never is
+single_at count bag (Repair r workers) is there = never is
+single_at count bag (Storm r writers writes) is there = never is
 single_at count bag (StopAt r commit) is there = never is
 single_at count bag (StopAfter r commit) is there = never is
 

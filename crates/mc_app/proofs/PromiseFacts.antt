@@ -20,7 +20,7 @@ use Rattle.mc_core.specs.Jobs.{tried_first}
 use Rattle.mc_script.specs.Line.{line_of}
 use Rattle.mc_script.specs.declared.command.Command.{Command}
 use Rattle.mc_script.specs.declared.command.Command.TheVariants.{Put, Del, Begin, BatchPut, BatchDel, Commit, Get, Has as HasKey, Query, Heads as HeadsOf}
-use Rattle.mc_script.specs.declared.command.Command.TheVariants.{Cast, Wire, Hear, Plant, Link, Step as StepOf, State as StateOf, Same, Stop, Open, StopAt, StopAfter}
+use Rattle.mc_script.specs.declared.command.Command.TheVariants.{Cast, Wire, Hear, Plant, Link, Step as StepOf, Work, Repair, Storm, State as StateOf, Same, Stop, Open, StopAt, StopAfter}
 use Rattle.mc_script.specs.declared.reply.Reply.{Reply}
 use Rattle.mc_script.specs.declared.reply.Reply.TheVariants.{Value, Has, Rows, Heads}
 use Rattle.mc_app.specs.declared.entry.LineEntry.{LineEntry}
@@ -124,6 +124,9 @@ module _ (law : GrowLaw) where
   done_grows w (StateOf r) reply p q h = content_is p.content q.content (ap (λ (x : Place). x.content) h.0)
   done_grows w (Stop r) reply p q h = content_is p.content q.content (ap (λ (x : Place). x.content) h.0)
   done_grows w (Open r) reply p q h = content_is p.content q.content h.0.tells.0
+  done_grows w (Work r workers budget) reply p q h = absurd h.0
+  done_grows w (Repair r workers) reply p q h = absurd h.0
+  done_grows w (Storm r writers writes) reply p q h = absurd h.0
   done_grows w (StopAt r commit) reply p q h = content_is p.content q.content (ap (λ (x : Place). x.content) h.0)
   done_grows w (StopAfter r commit) reply p q h = content_is p.content q.content (ap (λ (x : Place). x.content) h.0)
   done_grows w (Put r key bytes) reply p q h = happens_grows w (Put r key bytes) p q reply h.0.0.silent h.1

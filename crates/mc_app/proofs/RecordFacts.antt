@@ -18,7 +18,7 @@ use Rattle.mc_keep.specs.declared.keeper.Keeper as keeper
 use Rattle.mc_model.specs.Events.{Event}
 use Rattle.mc_script.specs.declared.command.Command.{Command}
 use Rattle.mc_script.specs.declared.command.Command.TheVariants.{Put, Del, Begin, BatchPut, BatchDel, Commit, Get, Has as HasKey, Query, Heads}
-use Rattle.mc_script.specs.declared.command.Command.TheVariants.{Cast, Wire, Hear, Plant, Link, Step as StepOf, State, Same, Stop, Open, StopAt, StopAfter}
+use Rattle.mc_script.specs.declared.command.Command.TheVariants.{Cast, Wire, Hear, Plant, Link, Step as StepOf, Work, Repair, Storm, State, Same, Stop, Open, StopAt, StopAfter}
 use Rattle.mc_script.specs.declared.reply.Reply.{Reply}
 use Rattle.mc_app.specs.declared.acting.ActError.TheVariants.{Memory}
 use Rattle.mc_app.specs.declared.entry.LineEntry.{LineEntry}
@@ -213,6 +213,9 @@ focus_within count bag (StepOf r) there = ltb-true r count there
 focus_within count bag (State r) there = ltb-true r count there
 focus_within count bag (Stop r) there = ltb-true r count there
 focus_within count bag (Open r) there = ltb-true r count there
+focus_within count bag (Work r workers budget) there = absurd (true≢false (sym there))
+focus_within count bag (Repair r workers) there = absurd (true≢false (sym there))
+focus_within count bag (Storm r writers writes) there = absurd (true≢false (sym there))
 focus_within count bag (StopAt r commit) there = ltb-true r count there
 focus_within count bag (StopAfter r commit) there = ltb-true r count there
 

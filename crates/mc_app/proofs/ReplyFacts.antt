@@ -1,5 +1,5 @@
 -- What is answered where a command is done, and where it is refused.
-use Rattle.std.proofs.Common.{◌≡◌, ℕ, Bool, true, false, List, length, Option, Some, None, refl, sym, ◌∙◌, ap, nat_lt}
+use Rattle.std.proofs.Common.{◌≡◌, ℕ, Bool, true, false, true≢false, List, length, Option, Some, None, refl, sym, ◌∙◌, ap, nat_lt}
 use Rattle.std.specs.Prelude.{slice_get, ⊤}
 use Rattle.std.specs.Option.{option_or}
 use Rattle.mc_model.specs.State.{Running}
@@ -7,7 +7,7 @@ use Rattle.mc_core.specs.declared.error.CoreError.{CoreError}
 use Rattle.mc_core.specs.declared.error.CoreError.TheVariants as core
 use Rattle.mc_script.specs.declared.command.Command.{Command}
 use Rattle.mc_script.specs.declared.command.Command.TheVariants.{Put, Del, Begin, BatchPut, BatchDel, Commit, Get, Has as HasKey, Query, Heads as HeadsOf}
-use Rattle.mc_script.specs.declared.command.Command.TheVariants.{Cast, Wire, Hear, Plant, Link, Step as StepOf, State as StateOf, Same as SameOf, Stop, Open, StopAt, StopAfter}
+use Rattle.mc_script.specs.declared.command.Command.TheVariants.{Cast, Wire, Hear, Plant, Link, Step as StepOf, Work, Repair, Storm, State as StateOf, Same as SameOf, Stop, Open, StopAt, StopAfter}
 use Rattle.mc_script.specs.declared.reply.Reply.{Reply}
 use Rattle.mc_script.specs.declared.reply.Reply.TheVariants.{Idle, Processed, Missing, Bad, Stopped, FaultKeeper, FaultPeer}
 use Rattle.mc_app.specs.Asks.{focus, has_message, is_among, is_there}
@@ -60,6 +60,9 @@ done_plainly w (StateOf r) reply w2 done =
 done_plainly w (SameOf r other) reply w2 done = ap is_plain done.says.1
 done_plainly w (Stop r) reply w2 done = ap is_plain done.moved.holds.1
 done_plainly w (Open r) reply w2 done = ap is_plain done.moved.holds.1
+done_plainly w (Work r workers budget) reply w2 done = absurd done.moved.holds.0
+done_plainly w (Repair r workers) reply w2 done = absurd done.moved.holds.0
+done_plainly w (Storm r writers writes) reply w2 done = absurd done.moved.holds.0
 done_plainly w (StopAt r commit) reply w2 done = ap is_plain done.moved.holds.1
 done_plainly w (StopAfter r commit) reply w2 done = ap is_plain done.moved.holds.1
 
@@ -73,6 +76,9 @@ focus_within count bag (Wire bytes) there = tt
 focus_within count bag (Hear r message) there = first (nat_lt r count) (has_message bag message) there
 focus_within count bag (Link r other up) there = tt
 focus_within count bag (SameOf r other) there = tt
+focus_within count bag (Work r workers budget) there = absurd (true≢false (sym there))
+focus_within count bag (Repair r workers) there = absurd (true≢false (sym there))
+focus_within count bag (Storm r writers writes) there = absurd (true≢false (sym there))
 focus_within count bag command there = there
 
 -- no refusal is a fault

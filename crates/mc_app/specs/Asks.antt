@@ -3,7 +3,7 @@ use Rattle.std.specs.Prelude.{ℕ, ◌-◌, nat_lt, Bool, true, false, not, ◌&
 use Rattle.std.specs.List.{list_any}
 use Rattle.mc_script.specs.declared.command.Command.{Command}
 use Rattle.mc_script.specs.declared.command.Command.TheVariants.{Put, Del, Begin, BatchPut, BatchDel, Commit, Get, Has, Query, Heads}
-use Rattle.mc_script.specs.declared.command.Command.TheVariants.{Cast, Wire, Hear, Plant, Link, Step, State, Same, Stop, Open, StopAt, StopAfter}
+use Rattle.mc_script.specs.declared.command.Command.TheVariants.{Cast, Wire, Hear, Plant, Link, Step, Work, Repair, Storm, State, Same, Stop, Open, StopAt, StopAfter}
 use Rattle.mc_app.specs.Worlds.{WorldState}
 
 -- whether a list of replicas has this number
@@ -28,6 +28,9 @@ focus (Hear r message) = Some r
 focus (Plant r cid bytes) = Some r
 focus (Link r other up) = None
 focus (Step r) = Some r
+focus (Work r workers budget) = Some r
+focus (Repair r workers) = Some r
+focus (Storm r writers writes) = Some r
 focus (State r) = Some r
 focus (Same r other) = None
 focus (Stop r) = Some r
@@ -53,6 +56,9 @@ may_fail (Hear r message) = r ∷ []
 may_fail (Plant r cid bytes) = []
 may_fail (Link r other up) = []
 may_fail (Step r) = r ∷ []
+may_fail (Work r workers budget) = r ∷ []
+may_fail (Repair r workers) = r ∷ []
+may_fail (Storm r writers writes) = r ∷ []
 may_fail (State r) = []
 may_fail (Same r other) = r ∷ other ∷ []
 may_fail (Stop r) = []
@@ -67,7 +73,7 @@ has_message bag message = nat_lt 0 message && not (nat_lt (length bag) message)
 abbrev pub message_at : List (List ℕ) → ℕ → List ℕ
 message_at bag message = unwrap_or (slice_get bag (message - 1)) []
 
--- whether all that a command names is there, of so many replicas and of these messages
+-- whether all that a command names is there, of so many replicas and of these messages; nothing works, repairs or storms yet
 abbrev pub is_among : ℕ → List (List ℕ) → Command → Bool
 is_among count bag (Put r key bytes) = nat_lt r count
 is_among count bag (Del r key) = nat_lt r count
@@ -85,6 +91,9 @@ is_among count bag (Hear r message) = nat_lt r count && has_message bag message
 is_among count bag (Plant r cid bytes) = nat_lt r count
 is_among count bag (Link r other up) = nat_lt r count && nat_lt other count
 is_among count bag (Step r) = nat_lt r count
+is_among count bag (Work r workers budget) = false
+is_among count bag (Repair r workers) = false
+is_among count bag (Storm r writers writes) = false
 is_among count bag (State r) = nat_lt r count
 is_among count bag (Same r other) = nat_lt r count && nat_lt other count
 is_among count bag (Stop r) = nat_lt r count

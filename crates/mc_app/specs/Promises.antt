@@ -16,7 +16,7 @@ use Rattle.mc_core.specs.Puts.{next_links}
 use Rattle.mc_script.specs.Line.{line_of}
 use Rattle.mc_script.specs.declared.command.Command.{Command}
 use Rattle.mc_script.specs.declared.command.Command.TheVariants.{Put, Del, Begin, BatchPut, BatchDel, Commit, Get, Has, Query, Heads}
-use Rattle.mc_script.specs.declared.command.Command.TheVariants.{Cast, Wire, Hear, Plant, Link, Step, State, Same, Stop, Open, StopAt, StopAfter}
+use Rattle.mc_script.specs.declared.command.Command.TheVariants.{Cast, Wire, Hear, Plant, Link, Step, Work, Repair, Storm, State, Same, Stop, Open, StopAt, StopAfter}
 use Rattle.mc_script.specs.declared.reply.Reply.{Reply}
 use Rattle.mc_app.specs.Plans.{batch_in}
 use Rattle.mc_app.specs.Runs.{Answer, Runs}
@@ -145,6 +145,9 @@ asks_running (Hear r message) = r ∷ []
 asks_running (Plant r cid bytes) = []
 asks_running (Link r other up) = []
 asks_running (Step r) = r ∷ []
+asks_running (Work r workers budget) = r ∷ []
+asks_running (Repair r workers) = r ∷ []
+asks_running (Storm r writers writes) = r ∷ []
 asks_running (State r) = r ∷ []
 asks_running (Same r other) = r ∷ other ∷ []
 asks_running (Stop r) = r ∷ []

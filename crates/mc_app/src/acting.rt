@@ -94,6 +94,7 @@ fn act_on<K: Keeper, W: Wait>(
         Command::Plant { r, cid, bytes } => plant_in(world, alloc, *r, cid, bytes.as_slice()),
         Command::Link { r, other, up } => link_in(world, *r, *other, *up),
         Command::Step { r } => step_in(world, alloc, *r, wait),
+        Command::Work { .. } | Command::Repair { .. } | Command::Storm { .. } => unreachable!(),
         Command::Same { r, other } => same_in(world, *r, *other),
         Command::Stop { r } => stop_in(world, *r),
         Command::Open { r } => open_in(world, alloc, *r),

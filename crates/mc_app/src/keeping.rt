@@ -6,7 +6,7 @@ ghost use Rattle.mc_keep.specs.Plan.{is_fault};
 ghost use Rattle.mc_keep.specs.declared.keepers.KeeperPlan.{KeeperPlan as MadeBy};
 ghost use Rattle.mc_app.specs.Keepers.{is_calm_keeper};
 ghost use Rattle.mc_app.specs.Openings.{AreFresh, IsFresh, are_calm, counted_of, owns_of, starts_of};
-ghost use Rattle.mc_app.specs.Outcome.{TakenFrom, TakesSome, run_count, run_plan, starts_from};
+ghost use Rattle.mc_app.specs.Outcome.{TakenFrom, TakesSome, starts_from};
 
 use crate::Part;
 use crate::seats::take_first;
@@ -15,33 +15,32 @@ use mc_core::OpenCause;
 use mc_keep::{Fused, KeepError, Keeper, KeeperPlan, Keepers};
 use std::alloc::Global;
 
-// How many replicas a run has.
-const REPLICAS: u64 = 3;
-
-// Makes the keepers of a run, in order of its replicas. Where one is not made, those that were made are given back.
+// Makes so many keepers of a plan, in order of their replicas. Where one is not made, those that were made are given back.
 pub(crate) fn make_parts<K: Keepers>(
     alloc: Global,
     keepers: &mut K,
+    plan: &KeeperPlan,
+    count: u64,
 ) -> Result<List<Part<Fused<K::K>>>, OpenCause>
     ensures starts { IfOk result (λ parts. starts_of ⟦<Fused<K::K> as Keeper>⟧.told parts
-        ≡ starts_from (K.starts keepers.old run_plan) 0 run_count) }
+        ≡ starts_from (K.starts keepers.old plan.now) 0 count) }
     ensures fresh { IfOk result (λ parts.
         AreFresh ⟦<Fused<K::K> as Keeper>⟧.told ⟦<Fused<K::K> as Keeper>⟧.fuse parts) }
     ensures counted { IfOk result (λ parts. owns_of ⟦<Fused<K::K> as Keeper>⟧ parts ≡ 0) }
-    ensures calm { K.quiet keepers.old run_plan ≡ true →
+    ensures calm { K.quiet keepers.old plan.now ≡ true →
         IfOk result (λ parts. are_calm ⟦<Fused<K::K> as Keeper>⟧ parts ≡ true) }
     ensures lost_same { IfOk result (λ _. K.lost keepers.new ≡ K.lost keepers.old) }
     ensures taken { OnErr result (TakesSome K.takes K.K.told
-        (starts_from (K.starts keepers.old run_plan) 0 run_count) keepers.new) }
+        (starts_from (K.starts keepers.old plan.now) 0 count) keepers.new) }
     ensures lost { OnErr result (min (K.lost keepers.old) (2 ^ 64 - 1) ≤ K.lost keepers.new) }
     ensures fault { IsErrOf result OpenCause.KeeperFault → Rose (K.faults keepers.old) (K.faults keepers.new) }
     ensures later { K.faults keepers.old ≤ K.faults keepers.new }
 {
-    let Ok(mut parts) = Vec::with_capacity(alloc, REPLICAS as usize) else {
+    let Ok(mut parts) = Vec::with_capacity(alloc, count as usize) else {
         return Err(OpenCause::Memory);
     };
-    for index in 0..REPLICAS {
-        match make_part(alloc, keepers, index) {
+    for index in 0..count {
+        match make_part(alloc, keepers, plan, index) {
             Ok(part) => parts.push_reserved(part),
             Err(cause) => {
                 give_back(keepers, List::from_vec(parts));
@@ -56,14 +55,15 @@ pub(crate) fn make_parts<K: Keepers>(
 fn make_part<K: Keepers>(
     alloc: Global,
     keepers: &mut K,
+    plan: &KeeperPlan,
     index: u64,
 ) -> Result<Part<Fused<K::K>>, OpenCause>
     ensures told { IfOk result (λ part.
-        ⟦<Fused<K::K> as Keeper>⟧.told part.keeper ≡ K.starts keepers.old run_plan index) }
+        ⟦<Fused<K::K> as Keeper>⟧.told part.keeper ≡ K.starts keepers.old plan.now index) }
     ensures fresh { IfOk result (λ part.
         IsFresh ⟦<Fused<K::K> as Keeper>⟧.told ⟦<Fused<K::K> as Keeper>⟧.fuse part) }
     ensures counted { IfOk result (λ part. ⟦<Fused<K::K> as Keeper>⟧.own part.keeper ≡ 0) }
-    ensures calm { K.quiet keepers.old run_plan ≡ true →
+    ensures calm { K.quiet keepers.old plan.now ≡ true →
         IfOk result (λ part. is_calm_keeper ⟦<Fused<K::K> as Keeper>⟧ part.keeper ≡ true) }
     ensures starts_same { (plan : MadeBy) (index : ℕ) →
         K.starts keepers.new plan index ≡ K.starts keepers.old plan index }
@@ -72,7 +72,7 @@ fn make_part<K: Keepers>(
     ensures fault { IsErrOf result OpenCause.KeeperFault → Rose (K.faults keepers.old) (K.faults keepers.new) }
     ensures later { K.faults keepers.old ≤ K.faults keepers.new }
 {
-    match keepers.make(alloc, &KeeperPlan::Memory, index) {
+    match keepers.make(alloc, plan, index) {
         Ok(keeper) => {
             let keeper = Fused::wrap(keeper);
             let desks = List::new(alloc);

@@ -82,6 +82,9 @@ pub(crate) fn call<K: Keeper>(
         | Command::Plant { .. }
         | Command::Link { .. }
         | Command::Step { .. }
+        | Command::Work { .. }
+        | Command::Repair { .. }
+        | Command::Storm { .. }
         | Command::State { .. }
         | Command::Same { .. }
         | Command::Stop { .. }

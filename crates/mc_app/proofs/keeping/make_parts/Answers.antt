@@ -1,11 +1,10 @@
 use Rattle.std.proofs.Common.{arith, ◌∙◌}
-use Rattle.mc_app.specs.Outcome.{run_plan}
 use Rattle.mc_app.proofs.KeepingFacts.{making_more}
 use Rattle.mc_app.proofs.keeping.make_parts.Goals as goal
 
 pub loop-index-preserved : goal.loop-index-preserved
 loop-index-preserved g c = let inv = c.loop-index.invariant in record {
-  making = rw c.push_reserved.ensures.items (making_more _ _ _ _ _ _ _ _ inv.making (λ index. inv.starts_same run_plan index) (inv.quiet_same run_plan) c.in-Ok-make_part.ensures.told c.in-Ok-make_part.ensures.fresh c.in-Ok-make_part.ensures.counted c.in-Ok-make_part.ensures.calm);
+  making = rw c.push_reserved.ensures.items (making_more _ _ _ _ _ _ _ _ inv.making (λ index. inv.starts_same c.args.plan.now index) (inv.quiet_same c.args.plan.now) c.in-Ok-make_part.ensures.told c.in-Ok-make_part.ensures.fresh c.in-Ok-make_part.ensures.counted c.in-Ok-make_part.ensures.calm);
   starts_same = λ plan index. c.make_part.ensures.starts_same plan index ∙ inv.starts_same plan index;
   quiet_same = λ plan. c.make_part.ensures.quiet_same plan ∙ inv.quiet_same plan;
   lost_same = c.make_part.ensures.lost ∙ inv.lost_same;
