@@ -8,6 +8,8 @@ mod commits;
 #[cfg(test)]
 mod deltas;
 #[cfg(test)]
+mod drains;
+#[cfg(test)]
 mod fetches;
 #[cfg(test)]
 mod front;
@@ -17,6 +19,8 @@ mod fuses;
 mod given;
 #[cfg(test)]
 mod hand_made;
+#[cfg(test)]
+mod nodes;
 #[cfg(test)]
 mod queries;
 #[cfg(test)]

@@ -1,5 +1,5 @@
 // One replica that hears, fetches, stops and repairs.
-ghost use Rattle.std.specs.Prelude.{IfSome};
+ghost use Rattle.std.specs.Prelude.{◌≡◌, false, IfOk, IfSome};
 ghost use Rattle.mc_fetch.specs.Fits.{FoundHas};
 ghost use Rattle.mc_model.specs.State.{HasSoundMark};
 
@@ -15,19 +15,19 @@ use std::alloc::{AllocError, Global};
 use std::test::Fail;
 
 // The bytes of a block that links to this one.
-fn link(alloc: Global, cid: Cid, priority: u64) -> Result<Bytes, AllocError> {
+pub(crate) fn link(alloc: Global, cid: Cid, priority: u64) -> Result<Bytes, AllocError> {
     Ok(write_block(alloc, &[cid], &no_delta(alloc, priority))?.bytes)
 }
 
 // The identifiers of a chain of three blocks: the first links to none, and each other one to the one before.
 #[derive(Clone, Copy)]
-struct Chain {
-    first: Cid,
-    second: Cid,
-    third: Cid,
+pub(crate) struct Chain {
+    pub(crate) first: Cid,
+    pub(crate) second: Cid,
+    pub(crate) third: Cid,
 }
 
-fn make_chain(alloc: Global) -> Result<Chain, AllocError> {
+pub(crate) fn make_chain(alloc: Global) -> Result<Chain, AllocError> {
     let first = Cid::of(element(alloc, 1)?.as_slice());
     let second = Cid::of(link(alloc, first, 2)?.as_slice());
     let third = Cid::of(link(alloc, second, 3)?.as_slice());
@@ -38,8 +38,10 @@ fn make_chain(alloc: Global) -> Result<Chain, AllocError> {
     })
 }
 
-fn opened<K: Keeper + Drop>(alloc: Global, keeper: K) -> Result<Replica<K>, CoreError>
+/// The replica of this keeper, which runs.
+pub(crate) fn opened<K: Keeper + Drop>(alloc: Global, keeper: K) -> Result<Replica<K>, CoreError>
     requires { IfSome (K.told keeper) HasSoundMark }
+    ensures { IfOk result (λ replica. replica.stopped ≡ false) }
 {
     match Replica::open(alloc, keeper) {
         Ok(replica) => Ok(replica),
@@ -47,7 +49,11 @@ fn opened<K: Keeper + Drop>(alloc: Global, keeper: K) -> Result<Replica<K>, Core
     }
 }
 
-fn hears<K: Keeper>(replica: &mut Replica<K>, alloc: Global, cid: Cid) -> Result<u64, CoreError> {
+pub(crate) fn hears<K: Keeper>(
+    replica: &mut Replica<K>,
+    alloc: Global,
+    cid: Cid,
+) -> Result<u64, CoreError> {
     let message = write_cast(alloc, &[cid])?;
     Ok(replica.hear(alloc, message.as_slice())?.queued)
 }
@@ -76,7 +82,7 @@ fn fetches<K: Keeper>(
 }
 
 // A replica without a block hears of the last of the chain, and processes it alone.
-fn last_alone<K: Keeper + Drop>(
+pub(crate) fn last_alone<K: Keeper + Drop>(
     replica: &mut Replica<K>,
     alloc: Global,
     chain: Chain,
