@@ -20,15 +20,18 @@ use Rattle.mc_model.specs.Graph.{Vertex, has, in_graph}
 use Rattle.mc_model.specs.Kept.{bytes_at}
 use Rattle.mc_model.specs.Offer.{Damage, offer}
 use Rattle.mc_model.specs.State.{Durable, IsSound, Running, stored_of}
+use Rattle.mc_model.proofs.Prefix.{goes_on_then}
 use Rattle.mc_core.specs.declared.error.CoreError.{CoreError}
 use Rattle.mc_core.specs.Calls.{Call, Faults, IsRefused}
 use Rattle.mc_core.specs.Events.{ReplicaState, Goes, HappensIn}
 use Rattle.mc_core.specs.Jobs.{DeliverPlan, DeliverShort, DeliversIn, NextPlan, NextShort}
 use Rattle.mc_core.specs.Reads.{read_refusal}
 use Rattle.mc_core.specs.Refusals.{ByKind, Is, is_fault, kind_of}
+use Rattle.mc_core.proofs.GrowthFacts.{GrowLaw}
 use Rattle.mc_drain.specs.Leads.{Always, Leads, all_processes, count}
 use Rattle.mc_drain.specs.Words.{IsNoBlock}
 use Rattle.mc_drain.proofs.EventFacts.{Asked, GoesLaw, StayLaw, breaks_leads, goes_leads, stays_leads}
+use Rattle.mc_drain.proofs.FuseFacts.{IsPaced, all_extras, burns_then, longer}
 
 -- what is told at two moments, and what is known of the first
 pub told_with : {A B : Type 0} (P : A → B → Type 0) (Q : A → Type 0) (R : A → B → Type 0) → ((x : A) (y : B) → P x y → Q x → R x y) → (a : Option A) (b : Option B) → Told a b P → IfSome a Q → Told a b R
@@ -96,7 +99,46 @@ pub no_block_processes : (graph : List Vertex) (c : Cid) (found : Option (List �
 no_block_processes graph c None h = omega arith
 no_block_processes graph c (Some bytes) h = subst (λ (r : Result Block Damage). all_processes (taken_up (in_graph graph c) c bytes r) ≤ 0) (sym h.1) (omega arith)
 
-module _ (goes_law : GoesLaw) (stay_law : StayLaw) where
+-- the lists of events of a call
+
+none_paced : IsPaced []
+none_paced = record { few = omega arith; paid = omega arith }
+
+want_paced : IsPaced (Want ∷ [])
+want_paced = record { few = omega arith; paid = omega arith }
+
+tried_paced : (c : Cid) → IsPaced (Want ∷ GiveBack c ∷ [])
+tried_paced c = record { few = omega arith; paid = omega arith }
+
+back_paced : (t : Bool) (c : Cid) → IsPaced (cond t (GiveBack c ∷ []) [])
+back_paced true c = record { few = omega arith; paid = omega arith }
+back_paced false c = none_paced
+
+requeue_paced : IsPaced (Requeue ∷ [])
+requeue_paced = record { few = omega arith; paid = omega arith }
+
+none_extra : (cids : List Cid) → all_extras (all_given_back cids) ≤ 0
+none_extra [] = omega arith
+none_extra (c ∷ cids) = let e = none_extra cids in omega (arith, e)
+
+recall_paced : (cids : List Cid) → IsPaced (all_given_back cids)
+recall_paced cids = let e = none_extra cids in record { few = omega (arith, e); paid = omega (arith, e) }
+
+-- a delivery stores one block at the most, and processes it then
+taken_paced : (stored : Bool) (c : Cid) (bytes : List ℕ) (reading : Result Block Damage) → IsPaced (taken_up stored c bytes reading)
+taken_paced stored c bytes (Err damage) = record { few = omega arith; paid = omega arith }
+taken_paced true c bytes (Ok block) = record { few = omega arith; paid = omega arith }
+taken_paced false c bytes (Ok block) = record { few = omega arith; paid = omega arith }
+
+delivery_paced : (graph : List Vertex) (c : Cid) (found : Option (List ℕ)) → IsPaced (delivery graph c found)
+delivery_paced graph c None = record { few = omega arith; paid = omega arith }
+delivery_paced graph c (Some bytes) = taken_paced (in_graph graph c) c bytes (offer c bytes)
+
+delivers_paced : (inside : Bool) (durable : Durable) (c : Cid) (found : Option (List ℕ)) (events : List Event) (answer : Delivered) → DeliversIn inside durable c found events answer → IsPaced events
+delivers_paced true durable c found events answer plan = subst IsPaced (sym plan.0) (delivery_paced durable.graph c found)
+delivers_paced false durable c found events answer plan = subst IsPaced (sym plan.1) none_paced
+
+module _ (grow_law : GrowLaw) (goes_law : GoesLaw) (stay_law : StayLaw) where
   next_asked : (s : ReplicaState) → is_some s.state.run ≡ true → Asked Always s.state (Want ∷ [])
   next_asked s up known kept p = ((takes_want known s.state.run up, tt), (tt, tt))
 
@@ -107,34 +149,34 @@ module _ (goes_law : GoesLaw) (stay_law : StayLaw) where
   ]
     where
       nothing : faults.events ≡ [] → Leads true (count s) Always s new
-      nothing e = breaks_leads goes_law stay_law Always faults.events rose s new (count s) faults.breaks sound (let l = ap all_processes e in omega (arith, l)) (λ known kept p. subst (λ events. TakesAll known s.state events × AllSayRight (offers_of known) events) (sym e) (tt, tt))
+      nothing e = breaks_leads grow_law goes_law stay_law Always faults.events rose s new (count s) faults.breaks sound (let l = ap all_processes e in omega (arith, l)) (subst IsPaced (sym e) none_paced) (λ known kept p. subst (λ events. TakesAll known s.state events × AllSayRight (offers_of known) events) (sym e) (tt, tt))
 
       some : (answer : Option Job) → NextPlan s faults.events answer → Leads true (count s) Always s new
       some None plan = nothing plan.1
-      some (Some job) plan = breaks_leads goes_law stay_law Always faults.events rose s new (count s) faults.breaks sound (let l = ap all_processes plan.2 in omega (arith, l)) (subst (Asked Always s.state) (sym plan.2) (next_asked s up))
+      some (Some job) plan = breaks_leads grow_law goes_law stay_law Always faults.events rose s new (count s) faults.breaks sound (let l = ap all_processes plan.2 in omega (arith, l)) (subst IsPaced (sym plan.2) want_paced) (subst (Asked Always s.state) (sym plan.2) (next_asked s up))
 
   pub next_leads : (rose : Type 0) (result : Result (Option Job) CoreError) (s new : ReplicaState) → is_some s.state.run ≡ true → IsSound s.state → Call (Is (read_refusal s)) (NextPlan s) (NextShort s) rose result s new → Leads (is_fault result) (count s) Always s new
-  next_leads rose (Ok None) s new up sound call = goes_leads goes_law stay_law Always [] s new (count s) (subst (λ events. Goes events s new) call.plan.1 call.goes) sound (omega arith) (λ known kept p. (tt, tt))
-  next_leads rose (Ok (Some job)) s new up sound call = goes_leads goes_law stay_law Always (Want ∷ []) s new (count s) (subst (λ events. Goes events s new) call.plan.2 call.goes) sound (omega arith) (next_asked s up)
+  next_leads rose (Ok None) s new up sound call = goes_leads grow_law goes_law stay_law Always [] s new (count s) (subst (λ events. Goes events s new) call.plan.1 call.goes) sound (omega arith) none_paced (λ known kept p. (tt, tt))
+  next_leads rose (Ok (Some job)) s new up sound call = goes_leads grow_law goes_law stay_law Always (Want ∷ []) s new (count s) (subst (λ events. Goes events s new) call.plan.2 call.goes) sound (omega arith) want_paced (next_asked s up)
   next_leads rose (Err error) s new up sound call = over (kind_of error) call
     where
       over : (kind : Kind) → ByKind (IsRefused (Is (read_refusal s)) error s new) (Faults (NextPlan s) rose s new) (NextShort s new) kind → Leads (is_fault_kind kind) (count s) Always s new
-      over Refusal refused = stays_leads goes_law stay_law Always s new (count s) refused.1 (omega arith)
+      over Refusal refused = stays_leads grow_law goes_law stay_law Always s new (count s) refused.1 (omega arith)
       over Fault faults = next_fault rose s new up sound faults
-      over Shortage short = goes_leads goes_law stay_law Always (Want ∷ GiveBack short.0 ∷ []) s new (count s) short.2 sound (omega arith)
+      over Shortage short = goes_leads grow_law goes_law stay_law Always (Want ∷ GiveBack short.0 ∷ []) s new (count s) short.2 sound (omega arith) (tried_paced short.0)
           (λ known kept p. ((takes_want known s.state.run up, (takes_back known short.0 (happens s.state Want).durable (happens s.state Want).run short.2.may.2.0, tt)), (tt, (tt, tt))))
 
   happens_leads : (s new : ReplicaState) (events : Running → List Event) → HappensIn s.state.run events s new → IsSound s.state
-      → ((run : Running) → s.state.run ≡ Some run → (all_processes (events run) ≤ 0) × ((goes : Goes (events run) s new) → Asked Always s.state (events run))) → Leads false (count s) Always s new
+      → ((run : Running) → s.state.run ≡ Some run → (all_processes (events run) ≤ 0) × IsPaced (events run) × ((goes : Goes (events run) s new) → Asked Always s.state (events run))) → Leads false (count s) Always s new
   happens_leads s new events = over s.state.run refl
     where
-      over : (run : Option Running) → s.state.run ≡ run → HappensIn run events s new → IsSound s.state → ((run : Running) → s.state.run ≡ Some run → (all_processes (events run) ≤ 0) × ((goes : Goes (events run) s new) → Asked Always s.state (events run)))
+      over : (run : Option Running) → s.state.run ≡ run → HappensIn run events s new → IsSound s.state → ((run : Running) → s.state.run ≡ Some run → (all_processes (events run) ≤ 0) × IsPaced (events run) × ((goes : Goes (events run) s new) → Asked Always s.state (events run)))
           → Leads false (count s) Always s new
-      over None e same sound each = stays_leads goes_law stay_law Always s new (count s) same (omega arith)
-      over (Some run) e goes sound each = let here = each run e in goes_leads goes_law stay_law Always (events run) s new (count s) goes sound (omega (arith, here.0)) (here.1 goes)
+      over None e same sound each = stays_leads grow_law goes_law stay_law Always s new (count s) same (omega arith)
+      over (Some run) e goes sound each = let here = each run e in goes_leads grow_law goes_law stay_law Always (events run) s new (count s) goes sound (let e = here.0 in omega (arith, e)) here.1 (here.2 goes)
 
   pub back_leads : (c : Cid) (s new : ReplicaState) → HappensIn s.state.run (λ run. cond (has c run.queue.flight) (GiveBack c ∷ []) []) s new → IsSound s.state → Leads false (count s) Always s new
-  back_leads c s new happens_ sound = happens_leads s new (λ run. cond (has c run.queue.flight) (GiveBack c ∷ []) []) happens_ sound (λ run e. (none (has c run.queue.flight), asked (has c run.queue.flight)))
+  back_leads c s new happens_ sound = happens_leads s new (λ run. cond (has c run.queue.flight) (GiveBack c ∷ []) []) happens_ sound (λ run e. (none (has c run.queue.flight), back_paced (has c run.queue.flight) c, asked (has c run.queue.flight)))
     where
       none : (t : Bool) → all_processes (cond t (GiveBack c ∷ []) []) ≤ 0
       none true = omega arith
@@ -145,7 +187,7 @@ module _ (goes_law : GoesLaw) (stay_law : StayLaw) where
       asked false goes known kept p = (tt, tt)
 
   pub requeue_leads : (s new : ReplicaState) → HappensIn s.state.run (λ run. Requeue ∷ []) s new → IsSound s.state → Leads false (count s) Always s new
-  requeue_leads s new happens_ sound = happens_leads s new (λ run. Requeue ∷ []) happens_ sound (λ run e. (omega arith, λ goes known kept p. ((subst (λ (r : Option Running). Takes known r Requeue) (sym e) tt, tt), (tt, tt))))
+  requeue_leads s new happens_ sound = happens_leads s new (λ run. Requeue ∷ []) happens_ sound (λ run e. (omega arith, requeue_paced, λ goes known kept p. ((subst (λ (r : Option Running). Takes known r Requeue) (sym e) tt, tt), (tt, tt))))
 
   back_processes : (cids : List Cid) → all_processes (all_given_back cids) ≤ 0
   back_processes [] = omega arith
@@ -155,6 +197,7 @@ module _ (goes_law : GoesLaw) (stay_law : StayLaw) where
   recall_leads takes says s new happens_ sound = happens_leads s new (λ run. all_given_back run.queue.flight) happens_ sound
       (λ run e. (
         back_processes run.queue.flight,
+        recall_paced run.queue.flight,
         λ goes known kept p.
             (subst (λ (r : Option Running). TakesAll known (record { durable = s.state.durable; run = r }) (all_given_back run.queue.flight)) (sym e) (takes known s.state.durable run run.queue.flight), says (offers_of known) run.queue.flight),
       ))
@@ -179,26 +222,27 @@ module _ (goes_law : GoesLaw) (stay_law : StayLaw) where
         → Call (Is (read_refusal s)) (DeliverPlan s c found) (DeliverShort s c) rose result s new → Leads (is_fault result) (count s + more) (λ known kept. known c ≡ found) s new
     deliver_leads c found more rose (Ok answer) s new sound few call =
         let asked = delivers_asked c found s.state.durable s.state.run call.events answer call.plan in
-        goes_leads goes_law stay_law (λ known kept. known c ≡ found) call.events s new (count s + more) call.goes sound (omega (arith, asked.1, few)) asked.0
+        goes_leads grow_law goes_law stay_law (λ known kept. known c ≡ found) call.events s new (count s + more) call.goes sound (omega (arith, asked.1, few)) (delivers_paced (has c (queue_in s.state.run).flight) s.state.durable c found call.events answer call.plan) asked.0
     deliver_leads c found more rose (Err error) s new sound few call = over (kind_of error) call
       where
         over : (kind : Kind) → ByKind (IsRefused (Is (read_refusal s)) error s new) (Faults (DeliverPlan s c found) rose s new) (DeliverShort s c new) kind → Leads (is_fault_kind kind) (count s + more) (λ known kept. known c ≡ found) s new
-        over Refusal refused = stays_leads goes_law stay_law (λ known kept. known c ≡ found) s new (count s + more) refused.1 (omega arith)
+        over Refusal refused = stays_leads grow_law goes_law stay_law (λ known kept. known c ≡ found) s new (count s + more) refused.1 (omega arith)
         over Fault faults = elim faults.begins [
-          | inl none ↦ breaks_leads goes_law stay_law (λ known kept. known c ≡ found) faults.events rose s new (count s + more) faults.breaks sound (let l = ap all_processes none in omega (arith, l))
+          | inl none ↦ breaks_leads grow_law goes_law stay_law (λ known kept. known c ≡ found) faults.events rose s new (count s + more) faults.breaks sound (let l = ap all_processes none in omega (arith, l)) (subst IsPaced (sym none) none_paced)
               (λ known kept p. subst (λ events. TakesAll known s.state events × AllSayRight (offers_of known) events) (sym none) (tt, tt))
           | inr (answer, plan) ↦ (let asked = delivers_asked c found s.state.durable s.state.run faults.events answer plan in
-              breaks_leads goes_law stay_law (λ known kept. known c ≡ found) faults.events rose s new (count s + more) faults.breaks sound (omega (arith, asked.1, few)) asked.0)
+              breaks_leads grow_law goes_law stay_law (λ known kept. known c ≡ found) faults.events rose s new (count s + more) faults.breaks sound (omega (arith, asked.1, few)) (delivers_paced (has c (queue_in s.state.run).flight) s.state.durable c found faults.events answer plan) asked.0)
         ]
-        over Shortage short = goes_leads goes_law stay_law (λ known kept. known c ≡ found) (GiveBack c ∷ []) s new (count s + more) short.1 sound (omega arith)
+        over Shortage short = goes_leads grow_law goes_law stay_law (λ known kept. known c ≡ found) (GiveBack c ∷ []) s new (count s + more) short.1 sound (omega arith) (back_paced true c)
             (λ known kept p. ((takes_back known c s.state.durable s.state.run short.1.may.0, tt), (tt, tt)))
 
 -- two parts of a call
 pub leads_then : (failed : Bool) (first most : ℕ) (P Q R : Map → List Cid → Type 0) (s mid new : ReplicaState) → Leads false first P s mid → Leads failed most Q mid new
     → ((known : Map) (kept : List Cid) (old : Durable) (start : List Cid) → R known kept → HasDrained known kept old start s.state → P known kept × Q known kept) → Leads failed most R s new
 leads_then failed first most P Q R s mid new a b join = record {
-  grows = omega (arith, a.grows, b.grows);
+  grows = goes_on_then s.state.durable mid.state.durable new.state.durable a.grows b.grows;
   few = b.few;
+  fuse = burns_then failed s mid new (longer s mid a.grows) (longer mid new b.grows) a.fuse b.fuse;
   goes = λ e known kept r old start h. let both = join known kept old start r h in b.goes e known kept both.1 old start (a.goes refl known kept both.0 old start h);
   parts = λ e known kept r old start h f. let both = join known kept old start r h in b.parts e known kept both.1 old start (a.goes refl known kept both.0 old start h) (a.parts refl known kept both.0 old start h f);
   breaks = λ e known kept r old start h. let both = join known kept old start r h in b.breaks e known kept both.1 old start (a.goes refl known kept both.0 old start h);
@@ -209,6 +253,7 @@ pub leads_weaker : (failed : Bool) (few most : ℕ) (P Q : Map → List Cid → 
 leads_weaker failed few most P Q s new a more weaker = record {
   grows = a.grows;
   few = omega (arith, a.few, more);
+  fuse = a.fuse;
   goes = λ e known kept q. a.goes e known kept (weaker known kept q);
   parts = λ e known kept q. a.parts e known kept (weaker known kept q);
   breaks = λ e known kept q. a.breaks e known kept (weaker known kept q);

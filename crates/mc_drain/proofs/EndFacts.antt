@@ -7,16 +7,19 @@ use Rattle.mc_fetch.specs.Fits.{Map}
 use Rattle.mc_keep.specs.declared.fuse.Fuse.{Fuse}
 use Rattle.mc_model.specs.Drain.{AllDamaged, AllNothing, PartsFit}
 use Rattle.mc_model.specs.Draining.{HasDrained, offers_of, queue_in}
+use Rattle.mc_model.specs.Events.{GoesOn}
 use Rattle.mc_model.specs.Graph.{has}
 use Rattle.mc_model.specs.Kept.{Kept}
 use Rattle.mc_model.specs.State.{Durable, Running}
 use Rattle.mc_model.specs.Wanted.{Queue, requeue}
+use Rattle.mc_model.proofs.Prefix.{goes_on_then}
 use Rattle.mc_core.specs.Counted.{run_of}
 use Rattle.mc_core.specs.Events.{ReplicaState, state_of}
 use Rattle.mc_drain.specs.declared.end.DrainEnd.{DrainEnd}
 use Rattle.mc_drain.specs.declared.end.DrainEnd.TheVariants.{Spent}
 use Rattle.mc_drain.specs.Leads.{Always, Leads, count, up_to}
 use Rattle.mc_drain.specs.Words.{AllGood, DrainLeads, Fetched, NothingStuck, is_keeper}
+use Rattle.mc_drain.proofs.FuseFacts.{burns_then, longer}
 
 -- after a requeue nothing is stuck
 pub nothing_stuck : (told : Option Kept) (fuse : Option Fuse) (stop : Bool) (run : Running) (q : Queue) → stop ≡ false → run.queue ≡ requeue q → IfSome (state_of told fuse (run_of stop run)) NothingStuck
@@ -39,8 +42,9 @@ drain_ended end limit offers None m b unspent first stuck next = tt
 drain_ended end limit offers (Some s) None b unspent first stuck next = absurd first
 drain_ended end limit offers (Some s) (Some mid) None unspent first stuck next = absurd next
 drain_ended end limit offers (Some s) (Some mid) (Some new) unspent first stuck next = record {
-  grows = omega (arith, first.grows, next.grows);
-  within = omega (arith, first.few, first.grows, next.few);
+  grows = goes_on_then s.state.durable mid.state.durable new.state.durable first.grows next.grows;
+  within = let more = longer s mid first.grows in omega (arith, first.few, more, next.few);
+  fuse = burns_then (is_keeper end) s mid new (longer s mid first.grows) (longer mid new next.grows) first.fuse next.fuse;
   spent = λ e. absurd (unspent e);
   goes = λ e map kept f old start h. next.goes e map kept f old start (first.goes refl map kept tt old start h);
   parts = λ e map kept f old start h. next.parts e map kept f old start (first.goes refl map kept tt old start h) (stuck_fits map (queue_in mid.state.run) stuck.0 stuck.1);
@@ -57,9 +61,11 @@ drain_parted end limit offers waiting (Some s) None n b first stuck next spent l
 drain_parted end limit offers waiting (Some s) (Some mid) None b first stuck next spent last good shown = absurd next
 drain_parted end limit offers waiting (Some s) (Some mid) (Some now) None first stuck next spent last good shown = absurd last
 drain_parted end limit offers waiting (Some s) (Some mid) (Some now) (Some new) first stuck next spent last good shown = record {
-  grows = omega (arith, first.grows, next.grows, last.grows);
-  within = omega (arith, first.few, first.grows, next.few, last.few);
-  spent = λ e. omega (arith, spent, last.grows);
+  grows = goes_on_then s.state.durable now.state.durable new.state.durable come_on last.grows;
+  within = let more = longer s mid first.grows in omega (arith, first.few, more, next.few, last.few);
+  fuse = burns_then (is_keeper end) s now new (longer s now come_on) (longer now new last.grows)
+      (burns_then false s mid now (longer s mid first.grows) (longer mid now next.grows) first.fuse next.fuse) last.fuse;
+  spent = λ e. let more = longer now new last.grows in omega (arith, spent, more);
   goes = λ e map kept f old start h. last.goes e map kept f old start (come map kept f old start h);
   parts = λ e map kept f old start h. last.parts e map kept f old start (come map kept f old start h)
       (next.parts refl map kept f old start (first.goes refl map kept tt old start h) (stuck_fits map (queue_in mid.state.run) stuck.0 stuck.1));
@@ -67,5 +73,8 @@ drain_parted end limit offers waiting (Some s) (Some mid) (Some now) (Some new) 
   good = λ e map kept f old start h c w. good e map kept f old start (come map kept f old start h) c (subst (λ (cids : List Cid). has c cids ≡ true) (shown e) w);
 }
   where
+    come_on : GoesOn s.state.durable now.state.durable
+    come_on = goes_on_then s.state.durable mid.state.durable now.state.durable first.grows next.grows
+
     come : (map : Map) (kept : List Cid) → Fetched offers map kept → (old : Durable) (start : List Cid) → HasDrained map kept old start s.state → HasDrained map kept old start now.state
     come map kept f old start h = next.goes refl map kept f old start (first.goes refl map kept tt old start h)

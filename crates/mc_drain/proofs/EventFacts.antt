@@ -4,7 +4,7 @@ use Rattle.std.proofs.lemmas.Bool.{false≢true}
 use Rattle.mc_base.specs.declared.cid.Cid.{Cid}
 use Rattle.mc_model.specs.Drain.{PartsFit}
 use Rattle.mc_model.specs.Draining.{AllSayRight, HasDrained, TakesAll, came, offers_of, queue_in}
-use Rattle.mc_model.specs.Events.{Event, Store, Process, Hear, Want, GiveBack, Missing, Bad, Requeue, WalkBegin, WalkVisit, WalkEnd, Batch, Stop, Open, MayComeAll, after, happens, visited}
+use Rattle.mc_model.specs.Events.{Event, Store, Process, Hear, Want, GiveBack, Missing, Bad, Requeue, WalkBegin, WalkVisit, WalkEnd, Batch, Stop, Open, GoesOn, MayComeAll, after, happens, visited}
 use Rattle.mc_model.specs.Found.{Offers, is_found}
 use Rattle.mc_model.specs.Graph.{has, in_graph}
 use Rattle.mc_model.specs.State.{Durable, IsSound, Running, State}
@@ -12,8 +12,10 @@ use Rattle.mc_model.specs.Wanted.{wanted}
 use Rattle.mc_fetch.specs.Fits.{Map}
 use Rattle.mc_keep.specs.Causes.{fires, CommitFails}
 use Rattle.mc_core.specs.Events.{Breaks, Goes, IsCutShort, ReplicaState, all_happen}
+use Rattle.mc_core.proofs.GrowthFacts.{GrowLaw, breaks_grows, goes_grows, same_goes}
 use Rattle.mc_core.proofs.SoundFacts.{all_after, goes_sound, may_all}
 use Rattle.mc_drain.specs.Leads.{HasBrokenOff, Leads, all_processes, count, processes}
+use Rattle.mc_drain.proofs.FuseFacts.{IsPaced, breaks_burns, burns_none, goes_burns}
 
 abbrev order_of : State → List Cid
 order_of state = state.durable.order
@@ -129,16 +131,17 @@ fails_count (Some false) rose before whole left more e p = let l = ap (λ (d : D
 fails_count (Some true) rose before whole left more (inl e) p = let l = ap (λ (d : Durable). length d.order) e in (omega (arith, l, p.0), omega (arith, l, p.1))
 fails_count (Some true) rose before whole left more (inr (r, e)) p = let l = ap (λ (d : Durable). length d.order) e in (omega (arith, l), omega (arith, l))
 
-module _ (goes_law : GoesLaw) (stay_law : StayLaw) where
+module _ (grow_law : GrowLaw) (goes_law : GoesLaw) (stay_law : StayLaw) where
   -- all events have happened
-  pub goes_leads : (P : Map → List Cid → Type 0) (events : List Event) (s new : ReplicaState) (most : ℕ) → Goes events s new → IsSound s.state → count s + all_processes events ≤ most → Asked P s.state events → Leads false most P s new
-  goes_leads P events s new most goes sound few asked =
+  pub goes_leads : (P : Map → List Cid → Type 0) (events : List Event) (s new : ReplicaState) (most : ℕ) → Goes events s new → IsSound s.state → count s + all_processes events ≤ most → IsPaced events → Asked P s.state events → Leads false most P s new
+  goes_leads P events s new most goes sound few paced asked =
       let is : new.state ≡ after s.state events = ap (λ (x : ReplicaState). x.state) goes.ends ∙ all_after events s in
       let grown = all_grown s.state events in
       let len : count new ≡ length (order_of (after s.state events)) = ap (λ (x : State). length (order_of x)) is in
       record {
-        grows = omega (arith, grown.0, len);
+        grows = goes_grows grow_law events s new goes;
         few = omega (arith, grown.1, len, few);
+        fuse = goes_burns events s new goes paced;
         goes = λ ok map kept p old start h. subst (HasDrained map kept old start) (sym is) (goes_law map kept old start s.state events sound (may_all events s goes.may) (asked map kept p).0 h);
         parts = λ ok map kept p old start h f. subst (λ (x : State). PartsFit (offers_of map) (queue_in x.run)) (sym is) (stay_law (offers_of map) s.state events (asked map kept p).1 f);
         breaks = λ e. absurd (false≢true e);
@@ -147,8 +150,9 @@ module _ (goes_law : GoesLaw) (stay_law : StayLaw) where
   -- nothing has happened
   pub stays_leads : (P : Map → List Cid → Type 0) (s new : ReplicaState) (most : ℕ) → new ≡ s → count s ≤ most → Leads false most P s new
   stays_leads P s new most same few = record {
-    grows = let e = ap count same in omega (arith, e);
+    grows = subst (λ (x : ReplicaState). GoesOn s.state.durable x.state.durable) (sym same) (same_goes s.state.durable);
     few = let e = ap count same in omega (arith, e, few);
+    fuse = burns_none false s new same;
     goes = λ ok map kept p old start h. subst (λ (x : ReplicaState). HasDrained map kept old start x.state) (sym same) h;
     parts = λ ok map kept p old start h f. subst (λ (x : ReplicaState). PartsFit (offers_of map) (queue_in x.state.run)) (sym same) f;
     breaks = λ e. absurd (false≢true e);
@@ -172,8 +176,8 @@ module _ (goes_law : GoesLaw) (stay_law : StayLaw) where
       (broken_at map kept old start (happens s.state event) (goes_law map kept old start s.state (event ∷ []) sound (b.may, tt) (takes.0, tt) h)))
 
   -- the events are cut short
-  pub breaks_leads : (P : Map → List Cid → Type 0) (events : List Event) (rose : Type 0) (s new : ReplicaState) (most : ℕ) → Breaks events rose s new → IsSound s.state → count s + all_processes events ≤ most → Asked P s.state events → Leads true most P s new
-  breaks_leads P events rose s new most b sound few asked =
+  pub breaks_leads : (P : Map → List Cid → Type 0) (events : List Event) (rose : Type 0) (s new : ReplicaState) (most : ℕ) → Breaks events rose s new → IsSound s.state → count s + all_processes events ≤ most → IsPaced events → Asked P s.state events → Leads true most P s new
+  breaks_leads P events rose s new most b sound few paced asked =
       let mid : ReplicaState = all_happen s b.so_far in
       let is : mid.state ≡ after s.state b.so_far = all_after b.so_far s in
       let sum = ap all_processes b.split ∙ processes-append b.so_far b.rest in
@@ -181,8 +185,9 @@ module _ (goes_law : GoesLaw) (stay_law : StayLaw) where
       let len : count mid ≡ length (order_of (after s.state b.so_far)) = ap (λ (x : State). length (order_of x)) is in
       let next = cut_count b.rest rose mid new b.fate in
       record {
-        grows = omega (arith, first.0, len, next.0);
+        grows = breaks_grows grow_law events rose s new b;
         few = omega (arith, first.1, len, next.1, sum, few);
+        fuse = breaks_burns events rose s new b next.0 paced;
         goes = λ e. absurd (false≢true (sym e));
         parts = λ e. absurd (false≢true (sym e));
         breaks = λ e map kept p old start h.

@@ -1,7 +1,9 @@
 pub mod CallFacts
 pub mod EndFacts
 pub mod EventFacts
+pub mod FuseFacts
 pub mod QueueFacts
+pub mod ReachFacts
 pub mod RepairFacts
 pub mod SortFacts
 pub mod TurnFacts

@@ -6,14 +6,17 @@ use Rattle.mc_base.specs.Told.{Told}
 use Rattle.mc_base.specs.declared.cid.Cid.{Cid}
 use Rattle.mc_fetch.specs.Fits.{Map}
 use Rattle.mc_model.specs.Draining.{HasDrained, bytes_in, queue_in}
+use Rattle.mc_model.specs.Events.{GoesOn}
 use Rattle.mc_model.specs.Graph.{cids_in, has}
 use Rattle.mc_model.specs.Repairing.{HasRepaired, with_gaps}
 use Rattle.mc_model.specs.State.{Durable, IsSound, IsWhole, Running, State, kept_of, wanted_in}
 use Rattle.mc_model.specs.Wanted.{Queue, wanted}
 use Rattle.mc_keep.specs.declared.fuse.Fuse.{Fuse}
 use Rattle.mc_model.specs.Kept.{Kept}
+use Rattle.mc_model.proofs.Prefix.{goes_on_then}
 use Rattle.mc_core.specs.Counted.{capped, run_of}
 use Rattle.mc_core.specs.Events.{ReplicaState, state_of}
+use Rattle.mc_core.proofs.GrowthFacts.{same_goes}
 use Rattle.mc_core.specs.Walks.{gap_count, settled_with}
 use Rattle.mc_core.specs.declared.walks.Settled.{Settled}
 use Rattle.mc_core.specs.declared.walks.Settled.TheVariants as settled
@@ -23,12 +26,14 @@ use Rattle.mc_drain.specs.declared.repairing.Repaired.{Repaired}
 use Rattle.mc_drain.specs.declared.working.WorkError.{WorkError}
 use Rattle.mc_drain.specs.declared.working.WorkError.TheVariants as error
 use Rattle.mc_drain.specs.Finds.{found_from}
-use Rattle.mc_drain.specs.Leads.{Always, Leads, count}
-use Rattle.mc_drain.specs.Repairs.{RepairAnswer, RepairLeads, RepairWants, Walks, repair_start, repaired_of, walk_error}
+use Rattle.mc_drain.specs.Leads.{Always, Leads, commits_between, count}
+use Rattle.mc_drain.specs.Repairs.{RepairAnswer, RepairLeads, RepairWants, Walks, has_walked, repair_start, repaired_of, walk_error}
 use Rattle.mc_drain.specs.Words.{DrainLeads, IsBroken, is_keeper, is_peer}
 use Rattle.mc_drain.specs.Works.{IsAtEnd, keeper_broke, peer_broke}
 use Rattle.mc_drain.proofs.EventFacts.{broken_at}
-use Rattle.mc_drain.proofs.WalkFacts.{broken_repair}
+use Rattle.mc_drain.proofs.FuseFacts.{burns_around, burns_before, fuse_stays, longer}
+use Rattle.mc_drain.proofs.ReachFacts.{MayReach}
+use Rattle.mc_drain.proofs.WalkFacts.{broken_repair, walks_stay}
 use Rattle.mc_drain.proofs.WorkFacts.{BeginsLaw, ClosedLaw, DrainedLaw, Leaves, SoFarLaw, begun, drained_at, wanted_same}
 
 abbrev pub RepairBeginsLaw : Type 0
@@ -46,6 +51,24 @@ pub record IsWalked (s : ReplicaState) : Type 0 where
   pub sound : IsSound s.state
   pub whole : IsWhole s.state.run
 
+-- blocks that came around a walk
+goes_around : (s r m new : ReplicaState) → Leads false (count s) Always s r → Walks false 1 r m → GoesOn m.state.durable new.state.durable → GoesOn s.state.durable new.state.durable
+goes_around s r m new first walks last =
+    goes_on_then s.state.durable r.state.durable new.state.durable first.grows (goes_on_then r.state.durable m.state.durable new.state.durable walks.grows last)
+
+-- a replica that had stopped
+pub still_repairs : (budget : ℕ) (offers : Option Map) (a : Option ReplicaState) → IfSome a (λ s. IsSound s.state) → Told a a (λ s new. RepairLeads budget offers (Err error.Stopped) s new)
+still_repairs budget offers None sound = tt
+still_repairs budget offers (Some s) sound = record {
+  grows = same_goes s.state.durable;
+  within = omega arith;
+  fuse = fuse_stays false (commits_between false s s + 1) s.fuse;
+  counts = tt;
+  reaches = tt;
+  sound = sound;
+  is = λ map here. refl;
+}
+
 module _ (begins : BeginsLaw) (repair_begins : RepairBeginsLaw) (joins : JoinsLaw) (whole : WholeLaw) where
   -- a repair has come to the state after the recall
   started : (offers : Option Map) (map : Map) (s r : ReplicaState) → found_from s.state.durable.graph offers ≡ Some map → IsSound s.state → IsSound r.state → Leads false (count s) Always s r
@@ -60,7 +83,7 @@ module _ (begins : BeginsLaw) (repair_begins : RepairBeginsLaw) (joins : JoinsLa
       (first.goes refl map kept tt s.state.durable (wanted (queue_in s.state.run)) drained))
 
   -- and after the walk it is a drain
-  walked : (offers : Option Map) (map : Map) (s r m : ReplicaState) → found_from s.state.durable.graph offers ≡ Some map → IsSound s.state → IsSound r.state → Leads false (count s) Always s r → Walks false r m → IsWalked m
+  walked : (offers : Option Map) (map : Map) (s r m : ReplicaState) → found_from s.state.durable.graph offers ≡ Some map → IsSound s.state → IsSound r.state → Leads false (count s) Always s r → Walks false 1 r m → IsWalked m
       → HasDrained map (cids_in s.state.durable.graph) s.state.durable (repair_start s) m.state
   walked offers map s r m is sound sound_r first walks here =
       let kept : List Cid = cids_in s.state.durable.graph in
@@ -68,8 +91,8 @@ module _ (begins : BeginsLaw) (repair_begins : RepairBeginsLaw) (joins : JoinsLa
 
   module _ (closed : ClosedLaw) (so_far : SoFarLaw) (drained : DrainedLaw) where
     repair_is : (stop : DrainEnd) (budget limit before : ℕ) (offers : Option Map) (result : Result Repaired WorkError) (s r m new : ReplicaState) → limit ≡ capped (before + budget) → before ≡ capped (count s) → RepairAnswer stop before (Some new) result
-        → IsSound s.state → IsSound r.state → IsWalked m → Leaves stop new → Leads false (count s) Always s r → Walks false r m → DrainLeads stop limit offers m new → RepairLeads budget offers result s new
-    repair_is end.Idle budget limit before offers result s r m new is at answer sound sound_r here leaves first walks leads =
+        → IsSound s.state → IsSound r.state → IsWalked m → Leaves stop new → MayReach new → Leads false (count s) Always s r → Walks false 1 r m → DrainLeads stop limit offers m new → RepairLeads budget offers result s new
+    repair_is end.Idle budget limit before offers result s r m new is at answer sound sound_r here leaves reached first walks leads =
         subst (λ (x : Result Repaired WorkError). RepairLeads budget offers x s new) (sym answer.1) (by_gaps answer.0 answer.2)
       where
         at_end : (map : Map) → found_from s.state.durable.graph offers ≡ Some map → IsAtEnd map (repair_start s) s new
@@ -85,22 +108,31 @@ module _ (begins : BeginsLaw) (repair_begins : RepairBeginsLaw) (joins : JoinsLa
 
         by_gaps : (left : Settled) → left ≡ settled_with (gap_count (kept_of new.state.durable)) → RepairLeads budget offers (Ok (repaired_of left)) s new
         by_gaps settled.Clean e = record {
-          grows = omega (arith, first.grows, walks.same, leads.grows);
-          within = omega (arith, first.few, first.grows, walks.same, leads.within, leads.grows, is, at);
+          grows = goes_around s r m new first walks leads.grows;
+          within = let a = longer s r first.grows in let b = longer m new leads.grows in omega (arith, first.few, a, walks.same, leads.within, b, is, at);
+          fuse = burns_around false s r m new (longer s r first.grows) walks.same (longer m new leads.grows) first.fuse walks.fuse leads.fuse;
           counts = sym e;
+          reaches = reached (sym e);
+          sound = leaves.sound;
           is = at_end;
         }
         by_gaps (settled.Open gaps) e = record {
-          grows = omega (arith, first.grows, walks.same, leads.grows);
-          within = omega (arith, first.few, first.grows, walks.same, leads.within, leads.grows, is, at);
+          grows = goes_around s r m new first walks leads.grows;
+          within = let a = longer s r first.grows in let b = longer m new leads.grows in omega (arith, first.few, a, walks.same, leads.within, b, is, at);
+          fuse = burns_around false s r m new (longer s r first.grows) walks.same (longer m new leads.grows) first.fuse walks.fuse leads.fuse;
           counts = sym e;
+          reaches = tt;
+          sound = leaves.sound;
           is = at_end;
         }
-    repair_is end.Spent budget limit before offers result s r m new is at answer sound sound_r here leaves first walks leads =
+    repair_is end.Spent budget limit before offers result s r m new is at answer sound sound_r here leaves reached first walks leads =
         subst (λ (x : Result Repaired WorkError). RepairLeads budget offers x s new) (sym answer.1) (record {
-          grows = omega (arith, first.grows, walks.same, leads.grows);
-          within = omega (arith, first.few, first.grows, walks.same, leads.within, leads.grows, is, at);
+          grows = goes_around s r m new first walks leads.grows;
+          within = let a = longer s r first.grows in let b = longer m new leads.grows in omega (arith, first.few, a, walks.same, leads.within, b, is, at);
+          fuse = burns_around false s r m new (longer s r first.grows) walks.same (longer m new leads.grows) first.fuse walks.fuse leads.fuse;
           counts = (answer.2 ∙ ap (λ (n : ℕ). capped (count new) - n) at, let spent = leads.spent refl in omega (arith, spent, is, at));
+          reaches = tt;
+          sound = leaves.sound;
           is = λ map f.
               let h = walked offers map s r m f sound sound_r first walks here in
               let fetched = (begun begins s offers map f).1 in
@@ -111,65 +143,88 @@ module _ (begins : BeginsLaw) (repair_begins : RepairBeginsLaw) (joins : JoinsLa
                 good = leads.good refl map kept fetched s.state.durable (repair_start s) h;
               };
         })
-    repair_is end.KeeperFault budget limit before offers result s r m new is at answer sound sound_r here leaves first walks leads =
+    repair_is end.KeeperFault budget limit before offers result s r m new is at answer sound sound_r here leaves reached first walks leads =
         subst (λ (x : Result Repaired WorkError). RepairLeads budget offers x s new) (sym answer) (record {
-          grows = omega (arith, first.grows, walks.same, leads.grows);
-          within = omega (arith, first.few, first.grows, walks.same, leads.within, leads.grows, is, at);
+          grows = goes_around s r m new first walks leads.grows;
+          within = let a = longer s r first.grows in let b = longer m new leads.grows in omega (arith, first.few, a, walks.same, leads.within, b, is, at);
+          fuse = burns_around true s r m new (longer s r first.grows) walks.same (longer m new leads.grows) first.fuse walks.fuse leads.fuse;
           counts = tt;
+          reaches = tt;
+          sound = leaves.sound;
           is = λ map f. leads.breaks refl map (cids_in s.state.durable.graph) (begun begins s offers map f).1 s.state.durable (repair_start s) (walked offers map s r m f sound sound_r first walks here);
         })
-    repair_is end.PeerFault budget limit before offers result s r m new is at answer sound sound_r here leaves first walks leads =
+    repair_is end.PeerFault budget limit before offers result s r m new is at answer sound sound_r here leaves reached first walks leads =
         subst (λ (x : Result Repaired WorkError). RepairLeads budget offers x s new) (sym answer) (record {
-          grows = omega (arith, first.grows, walks.same, leads.grows);
-          within = omega (arith, first.few, first.grows, walks.same, leads.within, leads.grows, is, at);
+          grows = goes_around s r m new first walks leads.grows;
+          within = let a = longer s r first.grows in let b = longer m new leads.grows in omega (arith, first.few, a, walks.same, leads.within, b, is, at);
+          fuse = burns_around false s r m new (longer s r first.grows) walks.same (longer m new leads.grows) first.fuse walks.fuse leads.fuse;
           counts = tt;
-          is = λ map f. broken_at map (cids_in s.state.durable.graph) s.state.durable (repair_start s) new.state
-              (leads.goes refl map (cids_in s.state.durable.graph) (begun begins s offers map f).1 s.state.durable (repair_start s) (walked offers map s r m f sound sound_r first walks here));
+          reaches = tt;
+          sound = leaves.sound;
+          is = λ map f.
+              let goes = leads.goes refl map (cids_in s.state.durable.graph) (begun begins s offers map f).1 s.state.durable (repair_start s) (walked offers map s r m f sound sound_r first walks here) in
+              (so_far map (cids_in s.state.durable.graph) s.state.durable (repair_start s) new.state leaves.sound goes, broken_at map (cids_in s.state.durable.graph) s.state.durable (repair_start s) new.state goes);
         })
-    repair_is end.Memory budget limit before offers result s r m new is at answer sound sound_r here leaves first walks leads =
+    repair_is end.Memory budget limit before offers result s r m new is at answer sound sound_r here leaves reached first walks leads =
         subst (λ (x : Result Repaired WorkError). RepairLeads budget offers x s new) (sym answer) (record {
-          grows = omega (arith, first.grows, walks.same, leads.grows);
-          within = omega (arith, first.few, first.grows, walks.same, leads.within, leads.grows, is, at);
+          grows = goes_around s r m new first walks leads.grows;
+          within = let a = longer s r first.grows in let b = longer m new leads.grows in omega (arith, first.few, a, walks.same, leads.within, b, is, at);
+          fuse = burns_around false s r m new (longer s r first.grows) walks.same (longer m new leads.grows) first.fuse walks.fuse leads.fuse;
           counts = tt;
+          reaches = tt;
+          sound = leaves.sound;
           is = λ map f. broken_at map (cids_in s.state.durable.graph) s.state.durable (repair_start s) new.state
               (leads.goes refl map (cids_in s.state.durable.graph) (begun begins s offers map f).1 s.state.durable (repair_start s) (walked offers map s r m f sound sound_r first walks here));
         })
 
     pub repair_told : (stop : DrainEnd) (budget limit before : ℕ) (offers : Option Map) (result : Result Repaired WorkError) (a r m b : Option ReplicaState) → limit ≡ capped (before + budget) → IfSome a (λ s. before ≡ capped (count s)) → RepairAnswer stop before b result
-        → IfSome a (λ s. IsSound s.state) → IfSome r (λ s. IsSound s.state) → IfSome m IsWalked → IfSome b (Leaves stop) → Told a r (λ s new. Leads false (count s) Always s new) → Told r m (λ s new. Walks false s new) → Told m b (λ s new. DrainLeads stop limit offers s new)
+        → IfSome a (λ s. IsSound s.state) → IfSome r (λ s. IsSound s.state) → IfSome m IsWalked → IfSome b (Leaves stop) → IfSome b MayReach → Told a r (λ s new. Leads false (count s) Always s new) → Told r m (λ s new. Walks false 1 s new) → Told m b (λ s new. DrainLeads stop limit offers s new)
         → Told a b (λ s new. RepairLeads budget offers result s new)
-    repair_told stop budget limit before offers result None r m b is at answer sound sound_r here leaves first walks leads = tt
-    repair_told stop budget limit before offers result (Some s) None m b is at answer sound sound_r here leaves first walks leads = absurd first
-    repair_told stop budget limit before offers result (Some s) (Some r) None b is at answer sound sound_r here leaves first walks leads = absurd walks
-    repair_told stop budget limit before offers result (Some s) (Some r) (Some m) None is at answer sound sound_r here leaves first walks leads = absurd leads
-    repair_told stop budget limit before offers result (Some s) (Some r) (Some m) (Some new) is at answer sound sound_r here leaves first walks leads =
-        repair_is stop budget limit before offers result s r m new is at answer sound sound_r here leaves first walks leads
+    repair_told stop budget limit before offers result None r m b is at answer sound sound_r here leaves reached first walks leads = tt
+    repair_told stop budget limit before offers result (Some s) None m b is at answer sound sound_r here leaves reached first walks leads = absurd first
+    repair_told stop budget limit before offers result (Some s) (Some r) None b is at answer sound sound_r here leaves reached first walks leads = absurd walks
+    repair_told stop budget limit before offers result (Some s) (Some r) (Some m) None is at answer sound sound_r here leaves reached first walks leads = absurd leads
+    repair_told stop budget limit before offers result (Some s) (Some r) (Some m) (Some new) is at answer sound sound_r here leaves reached first walks leads =
+        repair_is stop budget limit before offers result s r m new is at answer sound sound_r here leaves reached first walks leads
 
   -- the walk came to no end
-  cut_is : (stop : DrainEnd) (budget : ℕ) (offers : Option Map) (s r new : ReplicaState) → IsBroken stop → IsSound s.state → IsSound r.state → Leads false (count s) Always s r → Walks (is_keeper stop) r new → RepairLeads budget offers (Err (walk_error stop)) s new
-  cut_is end.Idle budget offers s r new broken sound sound_r first walks = absurd broken
-  cut_is end.Spent budget offers s r new broken sound sound_r first walks = absurd broken
-  cut_is end.PeerFault budget offers s r new broken sound sound_r first walks = absurd broken
-  cut_is end.KeeperFault budget offers s r new broken sound sound_r first walks = record {
-    grows = omega (arith, first.grows, walks.same);
+  cut_is : (stop : DrainEnd) (budget : ℕ) (offers : Option Map) (s r new : ReplicaState) → IsBroken stop → IsSound s.state → IsSound r.state → IsSound new.state → Leads false (count s) Always s r → Walks (is_keeper stop) 1 r new → RepairLeads budget offers (Err (walk_error stop)) s new
+  cut_is end.Idle budget offers s r new broken sound sound_r sound_new first walks = absurd broken
+  cut_is end.Spent budget offers s r new broken sound sound_r sound_new first walks = absurd broken
+  cut_is end.PeerFault budget offers s r new broken sound sound_r sound_new first walks = absurd broken
+  cut_is end.KeeperFault budget offers s r new broken sound sound_r sound_new first walks = record {
+    grows = goes_on_then s.state.durable r.state.durable new.state.durable first.grows walks.grows;
     within = omega (arith, first.few, walks.same);
+    fuse = burns_before true s r new (longer s r first.grows) walks.same first.fuse walks.fuse;
     counts = tt;
+    reaches = tt;
+    sound = sound_new;
     is = λ map f. walks.breaks refl map (cids_in s.state.durable.graph) s.state.durable (wanted_in s.state.run) (started offers map s r f sound sound_r first);
   }
-  cut_is end.Memory budget offers s r new broken sound sound_r first walks = record {
-    grows = omega (arith, first.grows, walks.same);
+  cut_is end.Memory budget offers s r new broken sound sound_r sound_new first walks = record {
+    grows = goes_on_then s.state.durable r.state.durable new.state.durable first.grows walks.grows;
     within = omega (arith, first.few, walks.same);
+    fuse = burns_before false s r new (longer s r first.grows) walks.same first.fuse walks.fuse;
     counts = tt;
+    reaches = tt;
+    sound = sound_new;
     is = λ map f. broken_repair map (cids_in s.state.durable.graph) s.state.durable (wanted_in s.state.run) new.state (walks.goes refl map (cids_in s.state.durable.graph) s.state.durable (wanted_in s.state.run) (started offers map s r f sound sound_r first));
   }
 
-  pub cut_told : (stop : DrainEnd) (budget : ℕ) (offers : Option Map) (error : WorkError) (a r b : Option ReplicaState) → error ≡ walk_error stop → IsBroken stop → IfSome a (λ s. IsSound s.state) → IfSome r (λ s. IsSound s.state) → Told a r (λ s new. Leads false (count s) Always s new)
-      → Told r b (λ s new. Walks (is_keeper stop) s new) → Told a b (λ s new. RepairLeads budget offers (Err error) s new)
-  cut_told stop budget offers error None r b is broken sound sound_r first walks = tt
-  cut_told stop budget offers error (Some s) None b is broken sound sound_r first walks = absurd first
-  cut_told stop budget offers error (Some s) (Some r) None is broken sound sound_r first walks = absurd walks
-  cut_told stop budget offers error (Some s) (Some r) (Some new) is broken sound sound_r first walks =
-      subst (λ (e : WorkError). RepairLeads budget offers (Err e) s new) (sym is) (cut_is stop budget offers s r new broken sound sound_r first walks)
+  pub cut_told : (stop : DrainEnd) (budget : ℕ) (offers : Option Map) (error : WorkError) (a r b : Option ReplicaState) → error ≡ walk_error stop → IsBroken stop → IfSome a (λ s. IsSound s.state) → IfSome r (λ s. IsSound s.state) → IfSome b (λ s. IsSound s.state) → Told a r (λ s new. Leads false (count s) Always s new)
+      → Told r b (λ s new. Walks (is_keeper stop) 1 s new) → Told a b (λ s new. RepairLeads budget offers (Err error) s new)
+  cut_told stop budget offers error None r b is broken sound sound_r sound_new first walks = tt
+  cut_told stop budget offers error (Some s) None b is broken sound sound_r sound_new first walks = absurd first
+  cut_told stop budget offers error (Some s) (Some r) None is broken sound sound_r sound_new first walks = absurd walks
+  cut_told stop budget offers error (Some s) (Some r) (Some new) is broken sound sound_r sound_new first walks =
+      subst (λ (e : WorkError). RepairLeads budget offers (Err e) s new) (sym is) (cut_is stop budget offers s r new broken sound sound_r sound_new first walks)
+
+  -- it was given up before the walk
+  pub given_up_told : (budget : ℕ) (offers : Option Map) (a b : Option ReplicaState) → IfSome a (λ s. IsSound s.state) → IfSome b (λ s. IsSound s.state) → Told a b (λ s new. Leads false (count s) Always s new)
+      → Told a b (λ s new. RepairLeads budget offers (Err error.Memory) s new)
+  given_up_told budget offers None b sound sound_new first = tt
+  given_up_told budget offers (Some s) None sound sound_new first = absurd first
+  given_up_told budget offers (Some s) (Some new) sound sound_new first = cut_is end.Memory budget offers s new new tt sound sound_new sound_new first (walks_stay 1 new new refl)
 
 -- an answer fails as its walk or its drain does
 
@@ -186,6 +241,13 @@ cut_peer end.Spent error is = ap (λ (e : WorkError). peer_broke {T = Repaired} 
 cut_peer end.KeeperFault error is = ap (λ (e : WorkError). peer_broke {T = Repaired} (Err e)) is
 cut_peer end.PeerFault error is = ap (λ (e : WorkError). peer_broke {T = Repaired} (Err e)) is
 cut_peer end.Memory error is = ap (λ (e : WorkError). peer_broke {T = Repaired} (Err e)) is
+
+pub cut_walks : (stop : DrainEnd) (error : WorkError) → error ≡ walk_error stop → IsBroken stop → has_walked (Err error) ≡ false
+cut_walks end.Idle error is broken = absurd broken
+cut_walks end.Spent error is broken = absurd broken
+cut_walks end.KeeperFault error is broken = ap (λ (e : WorkError). has_walked (Err e)) is
+cut_walks end.PeerFault error is broken = absurd broken
+cut_walks end.Memory error is broken = ap (λ (e : WorkError). has_walked (Err e)) is
 
 pub cut_wants : (stop : DrainEnd) (error : WorkError) (q : Queue) → error ≡ walk_error stop → q.flight ≡ [] → RepairWants (Err error) q
 cut_wants end.Idle error q is none = subst (λ (e : WorkError). RepairWants (Err e) q) (sym is) none

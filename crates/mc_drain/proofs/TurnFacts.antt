@@ -31,6 +31,7 @@ use Rattle.mc_core.specs.Jobs.{DeliverPlan, DeliverShort, DeliversIn, NextPlan, 
 use Rattle.mc_core.specs.Reads.{read_refusal}
 use Rattle.mc_core.specs.Refusals.{Is, is_fault}
 use Rattle.mc_core.specs.Reports.{IsReport}
+use Rattle.mc_core.proofs.GrowthFacts.{GrowLaw}
 use Rattle.mc_drain.specs.Leads.{Always, Leads, all_processes, count, up_to}
 use Rattle.mc_drain.specs.declared.end.DrainEnd.{DrainEnd}
 use Rattle.mc_drain.specs.Words.{Fetched, FetchedFor, FoundFor, IsNoBlock, end_by, is_keeper, keeper_failed}
@@ -104,20 +105,20 @@ job_told failed low high offers cid cid_now own found a b more same looks t =
 
 -- the calls of a replica, where the keeper tells
 
-pub next_told : (goes_law : GoesLaw) (stay_law : StayLaw) (rose : Type 0) (result : Result (Option Job) CoreError) (failed : Bool) (a b : Option ReplicaState) → is_fault result ≡ failed → IfSome a (λ s. IsSound s.state) → IfSome a (λ s. is_some s.state.run ≡ true)
+pub next_told : (grow_law : GrowLaw) (goes_law : GoesLaw) (stay_law : StayLaw) (rose : Type 0) (result : Result (Option Job) CoreError) (failed : Bool) (a b : Option ReplicaState) → is_fault result ≡ failed → IfSome a (λ s. IsSound s.state) → IfSome a (λ s. is_some s.state.run ≡ true)
     → Told a b (λ s new. Call (Is (read_refusal s)) (NextPlan s) (NextShort s) rose result s new) → Told a b (λ s new. Leads failed (count s) Always s new)
-next_told goes_law stay_law rose result failed None b flag sound up t = tt
-next_told goes_law stay_law rose result failed (Some s) None flag sound up t = absurd t
-next_told goes_law stay_law rose result failed (Some s) (Some new) flag sound up t = subst (λ (f : Bool). Leads f (count s) Always s new) flag (next_leads goes_law stay_law rose result s new up sound t)
+next_told grow_law goes_law stay_law rose result failed None b flag sound up t = tt
+next_told grow_law goes_law stay_law rose result failed (Some s) None flag sound up t = absurd t
+next_told grow_law goes_law stay_law rose result failed (Some s) (Some new) flag sound up t = subst (λ (f : Bool). Leads f (count s) Always s new) flag (next_leads grow_law goes_law stay_law rose result s new up sound t)
 
-pub deliver_told : (goes_law : GoesLaw) (stay_law : StayLaw) (takes_law : TakesLaw) (says_law : SaysLaw) (cid : Cid) (found : Option (List ℕ)) (rose : Type 0) (result : Result Delivered CoreError) (failed : Bool) (a b : Option ReplicaState) → is_fault result ≡ failed
+pub deliver_told : (grow_law : GrowLaw) (goes_law : GoesLaw) (stay_law : StayLaw) (takes_law : TakesLaw) (says_law : SaysLaw) (cid : Cid) (found : Option (List ℕ)) (rose : Type 0) (result : Result Delivered CoreError) (failed : Bool) (a b : Option ReplicaState) → is_fault result ≡ failed
     → IfSome a (λ s. IsSound s.state) → Told a b (λ s new. Call (Is (read_refusal s)) (DeliverPlan s cid found) (DeliverShort s cid) rose result s new)
     → Told a b (λ s new. Leads failed (count s + all_processes (delivery s.state.durable.graph cid found)) (FoundFor cid found) s new)
-deliver_told goes_law stay_law takes_law says_law cid found rose result failed None b flag sound t = tt
-deliver_told goes_law stay_law takes_law says_law cid found rose result failed (Some s) None flag sound t = absurd t
-deliver_told goes_law stay_law takes_law says_law cid found rose result failed (Some s) (Some new) flag sound t =
+deliver_told grow_law goes_law stay_law takes_law says_law cid found rose result failed None b flag sound t = tt
+deliver_told grow_law goes_law stay_law takes_law says_law cid found rose result failed (Some s) None flag sound t = absurd t
+deliver_told grow_law goes_law stay_law takes_law says_law cid found rose result failed (Some s) (Some new) flag sound t =
     subst (λ (f : Bool). Leads f (count s + all_processes (delivery s.state.durable.graph cid found)) (FoundFor cid found) s new) flag
-    (deliver_leads goes_law stay_law takes_law says_law cid found (all_processes (delivery s.state.durable.graph cid found)) rose result s new sound (omega arith) t)
+    (deliver_leads grow_law goes_law stay_law takes_law says_law cid found (all_processes (delivery s.state.durable.graph cid found)) rose result s new sound (omega arith) t)
 
 -- a call that takes no memory, where the keeper tells
 pub plain_told : (P : ReplicaState → ReplicaState → Type 0) (a b : Option ReplicaState) → ((s new : ReplicaState) → P s new → IsSound s.state → Leads false (count s) Always s new) → IfSome a (λ s. IsSound s.state) → Told a b P → Told a b (λ s new. Leads false (count s) Always s new)
@@ -167,9 +168,9 @@ fetch_told error end high P a b is more t =
     subst (λ (f : Bool). Told a b (λ s new. Leads f (high s) P s new)) (sym (end_flag error end is)) (weaker_told false count high Always P a b more (λ known kept p. tt) t)
 
 -- nothing has happened yet
-pub itself_told : (goes_law : GoesLaw) (stay_law : StayLaw) (bound : Bound) (P : Map → List Cid → Type 0) (a : Option ReplicaState) → ((s : ReplicaState) → count s ≤ bound s) → Told a a (λ s new. Leads false (bound s) P s new)
-itself_told goes_law stay_law bound P None more = tt
-itself_told goes_law stay_law bound P (Some s) more = stays_leads goes_law stay_law P s s (bound s) refl (more s)
+pub itself_told : (grow_law : GrowLaw) (goes_law : GoesLaw) (stay_law : StayLaw) (bound : Bound) (P : Map → List Cid → Type 0) (a : Option ReplicaState) → ((s : ReplicaState) → count s ≤ bound s) → Told a a (λ s new. Leads false (bound s) P s new)
+itself_told grow_law goes_law stay_law bound P None more = tt
+itself_told grow_law goes_law stay_law bound P (Some s) more = stays_leads grow_law goes_law stay_law P s s (bound s) refl (more s)
 
 -- there is room below the limit
 pub room_told : (processed limit : ℕ) (a : Option ReplicaState) → processed < limit → limit < 2 ^ 64 → IfSome a (λ s. processed ≡ capped (count s)) → IfSome a (λ s. count s < limit)

@@ -17,6 +17,7 @@ use Rattle.mc_keep.specs.declared.fuse.Fuse.{Fuse}
 use Rattle.mc_model.specs.Kept.{Kept}
 use Rattle.mc_core.specs.Counted.{capped, run_of}
 use Rattle.mc_core.specs.Events.{ReplicaState, state_of}
+use Rattle.mc_core.proofs.GrowthFacts.{same_goes}
 use Rattle.mc_drain.specs.declared.end.DrainEnd.{DrainEnd}
 use Rattle.mc_drain.specs.declared.end.DrainEnd.TheVariants as end
 use Rattle.mc_drain.specs.declared.working.WorkError.{WorkError}
@@ -24,9 +25,10 @@ use Rattle.mc_drain.specs.declared.working.WorkError.TheVariants as error
 use Rattle.mc_drain.specs.declared.working.Worked.{Worked}
 use Rattle.mc_drain.specs.declared.working.Worked.TheVariants as worked
 use Rattle.mc_drain.specs.Finds.{first_bytes, found_from}
-use Rattle.mc_drain.specs.Leads.{count}
+use Rattle.mc_drain.specs.Leads.{Always, Leads, commits_between, count}
 use Rattle.mc_drain.specs.Words.{DrainLeads, Fetched, is_keeper, is_peer}
 use Rattle.mc_drain.specs.Works.{AnswerIs, WorkLeads, WorkWants, keeper_broke, peer_broke}
+use Rattle.mc_drain.proofs.FuseFacts.{fuse_stays, longer}
 
 -- what is stored has bytes, and nothing else has
 kept_bytes : (graph : List Vertex) (c : Cid) → has c (cids_in graph) ≡ true → is_some (bytes_in graph c) ≡ true
@@ -106,8 +108,10 @@ module _ (begins : BeginsLaw) (closed : ClosedLaw) (so_far : SoFarLaw) (drained 
       → Leaves stop new → DrainLeads stop limit offers s new → WorkLeads budget offers result s new
   work_is end.Idle budget limit before offers q result s new is first answer leaves leads = subst (λ (r : Result Worked WorkError). WorkLeads budget offers r s new) (sym answer.1) (record {
     grows = leads.grows;
-    within = omega (arith, leads.within, leads.grows, is, first);
+    within = let more = longer s new leads.grows in omega (arith, leads.within, more, is, first);
+    fuse = leads.fuse;
     counts = answer.2 ∙ ap (λ (n : ℕ). capped (count new) - n) first;
+    sound = leaves.sound;
     is = λ map here. let start = begun begins s offers map here in
         let parts = leads.parts refl map (cids_in s.state.durable.graph) start.1 s.state.durable (wanted_in s.state.run) start.0 in
         record {
@@ -118,8 +122,10 @@ module _ (begins : BeginsLaw) (closed : ClosedLaw) (so_far : SoFarLaw) (drained 
   })
   work_is end.Spent budget limit before offers q result s new is first answer leaves leads = subst (λ (r : Result Worked WorkError). WorkLeads budget offers r s new) (sym answer.1) (record {
     grows = leads.grows;
-    within = omega (arith, leads.within, leads.grows, is, first);
+    within = let more = longer s new leads.grows in omega (arith, leads.within, more, is, first);
+    fuse = leads.fuse;
     counts = (answer.2 ∙ ap (λ (n : ℕ). capped (count new) - n) first, let spent = leads.spent refl in omega (arith, spent, is, first));
+    sound = leaves.sound;
     is = λ map here. let start = begun begins s offers map here in record {
       so_far = partly offers map s new here leaves.sound (leads.goes refl);
       parts = leads.parts refl map (cids_in s.state.durable.graph) start.1 s.state.durable (wanted_in s.state.run) start.0;
@@ -128,20 +134,26 @@ module _ (begins : BeginsLaw) (closed : ClosedLaw) (so_far : SoFarLaw) (drained 
   })
   work_is end.KeeperFault budget limit before offers q result s new is first answer leaves leads = subst (λ (r : Result Worked WorkError). WorkLeads budget offers r s new) (sym answer) (record {
     grows = leads.grows;
-    within = omega (arith, leads.within, leads.grows, is, first);
+    within = let more = longer s new leads.grows in omega (arith, leads.within, more, is, first);
+    fuse = leads.fuse;
     counts = tt;
+    sound = leaves.sound;
     is = λ map here. let start = begun begins s offers map here in leads.breaks refl map (cids_in s.state.durable.graph) start.1 s.state.durable (wanted_in s.state.run) start.0;
   })
   work_is end.PeerFault budget limit before offers q result s new is first answer leaves leads = subst (λ (r : Result Worked WorkError). WorkLeads budget offers r s new) (sym answer) (record {
     grows = leads.grows;
-    within = omega (arith, leads.within, leads.grows, is, first);
+    within = let more = longer s new leads.grows in omega (arith, leads.within, more, is, first);
+    fuse = leads.fuse;
     counts = tt;
+    sound = leaves.sound;
     is = λ map here. partly offers map s new here leaves.sound (leads.goes refl);
   })
   work_is end.Memory budget limit before offers q result s new is first answer leaves leads = subst (λ (r : Result Worked WorkError). WorkLeads budget offers r s new) (sym answer) (record {
     grows = leads.grows;
-    within = omega (arith, leads.within, leads.grows, is, first);
+    within = let more = longer s new leads.grows in omega (arith, leads.within, more, is, first);
+    fuse = leads.fuse;
     counts = tt;
+    sound = leaves.sound;
     is = λ map here. partly offers map s new here leaves.sound (leads.goes refl);
   })
 
@@ -150,6 +162,32 @@ module _ (begins : BeginsLaw) (closed : ClosedLaw) (so_far : SoFarLaw) (drained 
   work_told stop budget limit before offers q result None b is first answer leaves leads = tt
   work_told stop budget limit before offers q result (Some s) None is first answer leaves leads = absurd leads
   work_told stop budget limit before offers q result (Some s) (Some new) is first answer leaves leads = work_is stop budget limit before offers q result s new is first answer leaves leads
+
+  -- it was given up before it began
+  pub work_given_up : (budget : ℕ) (offers : Option Map) (a b : Option ReplicaState) → IfSome b (λ s. IsSound s.state) → Told a b (λ s new. Leads false (count s) Always s new)
+      → Told a b (λ s new. WorkLeads budget offers (Err error.Memory) s new)
+  work_given_up budget offers None b sound leads = tt
+  work_given_up budget offers (Some s) None sound leads = absurd leads
+  work_given_up budget offers (Some s) (Some new) sound leads = record {
+    grows = leads.grows;
+    within = omega (arith, leads.few);
+    fuse = leads.fuse;
+    counts = tt;
+    sound = sound;
+    is = λ map here. partly offers map s new here sound (λ known kept f. leads.goes refl known kept tt);
+  }
+
+-- a replica that had stopped
+pub still_works : (budget : ℕ) (offers : Option Map) (a : Option ReplicaState) → IfSome a (λ s. IsSound s.state) → Told a a (λ s new. WorkLeads budget offers (Err error.Stopped) s new)
+still_works budget offers None sound = tt
+still_works budget offers (Some s) sound = record {
+  grows = same_goes s.state.durable;
+  within = omega arith;
+  fuse = fuse_stays false (commits_between false s s) s.fuse;
+  counts = tt;
+  sound = sound;
+  is = λ map here. refl;
+}
 
 abbrev is_stopped : Result Worked WorkError → Bool
 is_stopped (Ok value) = false

@@ -1,13 +1,14 @@
 -- What the calls of a drain of the wanted set lead to, as facts about two states of a replica.
-use Rattle.std.specs.Prelude.{◌≡◌, ◌≤◌, ◌+◌, ◌-◌, ⊤, ℕ, Bool, true, false, ◌&&◌, ◌||◌, List, [], ◌∷◌, ◌++◌, length, Some}
+use Rattle.std.specs.Prelude.{◌≡◌, ◌≤◌, ◌+◌, ◌-◌, ◌*◌, ⊤, ℕ, Bool, true, false, cond, ◌&&◌, ◌||◌, List, [], ◌∷◌, ◌++◌, length, Option, Some, None}
 use Rattle.mc_base.specs.declared.cid.Cid.{Cid}
 use Rattle.mc_model.specs.Drain.{PartsFit, is_in_order, is_new, offered_links}
 use Rattle.mc_model.specs.Draining.{HasDrained, bytes_in, came, offers_of, queue_in}
-use Rattle.mc_model.specs.Events.{Event, Process}
+use Rattle.mc_model.specs.Events.{Event, GoesOn, Process}
 use Rattle.mc_model.specs.Found.{is_found}
 use Rattle.mc_model.specs.Graph.{has, in_graph}
 use Rattle.mc_model.specs.State.{Durable}
 use Rattle.mc_fetch.specs.Fits.{Map}
+use Rattle.mc_keep.specs.declared.fuse.Fuse.{Fuse}
 use Rattle.mc_core.specs.Events.{ReplicaState}
 
 -- whether a drain may have left the block stored where it broke off: it was before, or it is added, or it has a good
@@ -48,13 +49,25 @@ count s = length s.state.durable.order
 abbrev pub up_to : ℕ → ReplicaState → ℕ
 up_to limit s = count s + (limit - count s)
 
--- What some calls lead to, of which the last alone may have failed, and did so where `failed` is true: no more than `most`
--- blocks are processed then; and where P holds of what is found and of the blocks that were stored at a drain's
--- beginning, a drain that had come to the first state has come to the second, or has broken off there, and missing and
--- bad go on holding what their names say.
+-- What some commits, at most so many, leave of a fuse, by whether the last call failed: it burns by as many as there were,
+-- or one of them fired it, which is that of the call that failed.
+abbrev pub FuseGoes : Bool → ℕ → Option Fuse → Option Fuse → Type 0
+FuseGoes failed most None new = new ≡ None
+FuseGoes failed most (Some old) None = (failed ≡ true) × (old.commit ≤ most)
+FuseGoes failed most (Some old) (Some new) = (new.after ≡ old.after) × (new.commit ≤ old.commit) × (old.commit ≤ new.commit + most)
+
+-- how many commits there may be between two states: two for each block that came, and two for a call that failed
+abbrev pub commits_between : Bool → ReplicaState → ReplicaState → ℕ
+commits_between failed s new = 2 * (count new - count s) + cond failed 2 0
+
+-- What some calls lead to, of which the last alone may have failed, and did so where `failed` is true: no block is lost, no
+-- more than `most` are processed then, and the fuse burns by their commits at most; and where P holds of what is found and
+-- of the blocks that were stored at a drain's beginning, a drain that had come to the first state has come to the second,
+-- or has broken off there, and missing and bad go on holding what their names say.
 pub record Leads (failed : Bool) (most : ℕ) (P : Map → List Cid → Type 0) (s new : ReplicaState) : Type 0 where
-  pub grows : count s ≤ count new
+  pub grows : GoesOn s.state.durable new.state.durable
   pub few : count new ≤ most
+  pub fuse : FuseGoes failed (commits_between failed s new) s.fuse new.fuse
   pub goes : failed ≡ false → (map : Map) (kept : List Cid) → P map kept → (old : Durable) (start : List Cid)
       → HasDrained map kept old start s.state → HasDrained map kept old start new.state
   pub parts : failed ≡ false → (map : Map) (kept : List Cid) → P map kept → (old : Durable) (start : List Cid)

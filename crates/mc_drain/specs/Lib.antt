@@ -1,5 +1,6 @@
 pub mod Finds
 pub mod Leads
+pub mod Reached
 pub mod Repairs
 pub mod Words
 pub mod Works

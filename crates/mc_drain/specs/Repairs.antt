@@ -2,8 +2,9 @@
 use Rattle.std.specs.Prelude.{◌≡◌, ◌≢◌, ◌≤◌, ◌+◌, ◌-◌, ⊤, ℕ, Bool, true, false, List, [], Option, Some, Result, Ok, Err, IfSome}
 use Rattle.mc_base.specs.declared.cid.Cid.{Cid}
 use Rattle.mc_fetch.specs.Fits.{Map}
+use Rattle.mc_model.specs.Events.{GoesOn}
 use Rattle.mc_model.specs.Repairing.{HasRepaired, with_gaps}
-use Rattle.mc_model.specs.State.{Durable, kept_of, wanted_in}
+use Rattle.mc_model.specs.State.{Durable, IsSound, kept_of, wanted_in}
 use Rattle.mc_model.specs.Wanted.{Queue}
 use Rattle.mc_core.specs.Counted.{capped}
 use Rattle.mc_core.specs.Events.{ReplicaState}
@@ -17,13 +18,22 @@ use Rattle.mc_drain.specs.declared.repairing.Repaired.TheVariants.{Clean, Open, 
 use Rattle.mc_drain.specs.declared.working.WorkError.{WorkError}
 use Rattle.mc_drain.specs.declared.working.WorkError.TheVariants.{KeeperFault, PeerFault, Stopped, Memory}
 use Rattle.mc_drain.specs.Finds.{found_from}
-use Rattle.mc_drain.specs.Leads.{HasBrokenOff, count}
-use Rattle.mc_drain.specs.Works.{IsAtEnd, IsBefore, came_between, limit_of}
+use Rattle.mc_drain.specs.Leads.{FuseGoes, HasBrokenOff, commits_between, count}
+use Rattle.mc_drain.specs.Reached.{AreReached}
+use Rattle.mc_drain.specs.Works.{IsAtEnd, IsBefore, IsPartOf, came_between, keeper_broke, limit_of}
 
--- What steps of a walk lead to, of which the last alone may have failed: nothing is processed, and a repair that had
--- come to the first state has come to the second, or has broken off there.
-pub record Walks (failed : Bool) (s new : ReplicaState) : Type 0 where
+-- how many commits a step of a walk may make, by whether it was the last one
+abbrev pub step_commits : Result Bool DrainEnd → ℕ
+step_commits (Ok true) = 1
+step_commits (Ok false) = 0
+step_commits (Err end) = 1
+
+-- What steps of a walk lead to, of which the last alone may have failed: nothing is processed, the fuse burns by so many
+-- commits at most, and a repair that had come to the first state has come to the second, or has broken off there.
+pub record Walks (failed : Bool) (most : ℕ) (s new : ReplicaState) : Type 0 where
   pub same : count new ≡ count s
+  pub grows : GoesOn s.state.durable new.state.durable
+  pub fuse : FuseGoes failed most s.fuse new.fuse
   pub goes : failed ≡ false → (map : Map) (kept : List Cid) (old : Durable) (start : List Cid)
       → HasRepaired map kept old start s.state → HasRepaired map kept old start new.state
   pub breaks : failed ≡ true → (map : Map) (kept : List Cid) (old : Durable) (start : List Cid)
@@ -51,18 +61,42 @@ RepairIs map (Ok Clean) s new = IsAtEnd map (repair_start s) s new
 RepairIs map (Ok (Open gaps)) s new = IsAtEnd map (repair_start s) s new
 RepairIs map (Ok (Again processed)) s new = IsBefore map (repair_start s) s new
 RepairIs map (Err KeeperFault) s new = HasBrokenOff map s.state.durable (repair_start s) new.state.durable
-RepairIs map (Err PeerFault) s new = HasBrokenOff map s.state.durable (repair_start s) new.state.durable
+RepairIs map (Err PeerFault) s new = IsPartOf map (repair_start s) s new
+    × HasBrokenOff map s.state.durable (repair_start s) new.state.durable
 RepairIs map (Err Stopped) s new = new ≡ s
 RepairIs map (Err Memory) s new = HasBrokenOff map s.state.durable (repair_start s) new.state.durable
 
--- What a repair with this budget leads to, where the keeper tells: no block is lost, no more come than the budget, and
--- where it is known what is found, the answer is that of the closure of what was wanted and of the gaps.
+-- where the answer is that no gap is left, the processed blocks are those that the heads reach
+abbrev pub RepairReaches : Result Repaired WorkError → ReplicaState → Type 0
+RepairReaches (Ok Clean) new = AreReached new.state.durable
+RepairReaches (Ok (Open gaps)) new = ⊤
+RepairReaches (Ok (Again processed)) new = ⊤
+RepairReaches (Err error) new = ⊤
+
+-- how many commits a repair may make: those of a work, and one that clears the mark
+abbrev pub repair_commits : Result Repaired WorkError → ReplicaState → ReplicaState → ℕ
+repair_commits result s new = commits_between (keeper_broke result) s new + 1
+
+-- What a repair with this budget leads to, where the keeper tells: no block is lost, no more come than the budget, the fuse
+-- burns by its commits at most, the state is sound, a clean replica has what its heads reach, and where it is known what is
+-- found, the answer is that of the closure of what was wanted and of the gaps.
 pub record RepairLeads (budget : ℕ) (offers : Option Map) (result : Result Repaired WorkError) (s new : ReplicaState)
     : Type 0 where
-  pub grows : count s ≤ count new
+  pub grows : GoesOn s.state.durable new.state.durable
   pub within : count new ≤ count s + budget
+  pub fuse : FuseGoes (keeper_broke result) (repair_commits result s new) s.fuse new.fuse
   pub counts : RepairCounts budget result s new
+  pub reaches : RepairReaches result new
+  pub sound : IsSound new.state
   pub is : (map : Map) → found_from s.state.durable.graph offers ≡ Some map → RepairIs map result s new
+
+-- whether the walk of a repair with this answer has come to its end
+abbrev pub has_walked : Result Repaired WorkError → Bool
+has_walked (Ok value) = true
+has_walked (Err KeeperFault) = false
+has_walked (Err PeerFault) = true
+has_walked (Err Stopped) = false
+has_walked (Err Memory) = false
 
 -- the answer where the drain after the walk came to this end
 abbrev pub RepairAnswer : DrainEnd → ℕ → Option ReplicaState → Result Repaired WorkError → Type 0

@@ -7,6 +7,7 @@ use Rattle.mc_fetch.specs.declared.error.FetchError.TheVariants as fetch
 use Rattle.mc_fetch.specs.declared.job.Job.{Job}
 use Rattle.mc_model.specs.Drain.{PartsFit}
 use Rattle.mc_model.specs.Draining.{HasDrained, offers_of, queue_in}
+use Rattle.mc_model.specs.Events.{GoesOn}
 use Rattle.mc_model.specs.Found.{found_as, is_found}
 use Rattle.mc_model.specs.Graph.{has}
 use Rattle.mc_model.specs.Offer.{Damage, offer}
@@ -16,7 +17,7 @@ use Rattle.mc_queue.specs.Tickets.{first_of}
 use Rattle.mc_core.specs.Events.{ReplicaState}
 use Rattle.mc_drain.specs.declared.end.DrainEnd.{DrainEnd}
 use Rattle.mc_drain.specs.declared.end.DrainEnd.TheVariants.{Idle, Spent, KeeperFault, PeerFault, Memory}
-use Rattle.mc_drain.specs.Leads.{HasBrokenOff, count, up_to}
+use Rattle.mc_drain.specs.Leads.{FuseGoes, HasBrokenOff, commits_between, count, up_to}
 
 -- the end where a fetch gave none
 abbrev pub end_by : FetchError → DrainEnd
@@ -113,11 +114,13 @@ AllGood offers s waiting = (map : Map) (kept : List Cid) → Fetched offers map 
 abbrev pub NothingStuck : ReplicaState → Type 0
 NothingStuck s = ((queue_in s.state.run).missing ≡ []) × ((queue_in s.state.run).bad ≡ [])
 
--- What a drain of the caller's leads to. It ends as idle where nothing waits, and as spent where the limit is reached and
--- all that wait have good offers; in both cases missing and bad hold what their names say.
+-- What a drain of the caller's leads to. No block is lost, and the fuse burns by its commits at most. It ends as idle where
+-- nothing waits, and as spent where the limit is reached and all that wait have good offers; in both cases missing and bad
+-- hold what their names say.
 pub record DrainLeads (end : DrainEnd) (limit : ℕ) (offers : Option Map) (s new : ReplicaState) : Type 0 where
-  pub grows : count s ≤ count new
+  pub grows : GoesOn s.state.durable new.state.durable
   pub within : count new ≤ up_to limit s
+  pub fuse : FuseGoes (is_keeper end) (commits_between (is_keeper end) s new) s.fuse new.fuse
   pub spent : end ≡ Spent → limit ≤ count new
   pub goes : is_keeper end ≡ false → (map : Map) (kept : List Cid) → Fetched offers map kept
       → (old : Durable) (start : List Cid) → HasDrained map kept old start s.state → HasDrained map kept old start new.state

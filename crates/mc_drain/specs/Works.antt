@@ -4,9 +4,10 @@ use Rattle.mc_base.specs.declared.cid.Cid.{Cid}
 use Rattle.mc_fetch.specs.Fits.{Map}
 use Rattle.mc_model.specs.Drain.{IsClosure, IsSoFar, PartsFit}
 use Rattle.mc_model.specs.Draining.{offers_of, queue_in}
+use Rattle.mc_model.specs.Events.{GoesOn}
 use Rattle.mc_model.specs.Found.{Offers, is_found}
 use Rattle.mc_model.specs.Graph.{has}
-use Rattle.mc_model.specs.State.{wanted_in}
+use Rattle.mc_model.specs.State.{IsSound, wanted_in}
 use Rattle.mc_model.specs.Wanted.{Queue}
 use Rattle.mc_core.specs.Counted.{capped}
 use Rattle.mc_core.specs.Events.{ReplicaState}
@@ -17,7 +18,22 @@ use Rattle.mc_drain.specs.declared.working.WorkError.TheVariants.{KeeperFault, P
 use Rattle.mc_drain.specs.declared.working.Worked.{Worked}
 use Rattle.mc_drain.specs.declared.working.Worked.TheVariants.{Done, Again}
 use Rattle.mc_drain.specs.Finds.{found_from}
-use Rattle.mc_drain.specs.Leads.{HasBrokenOff, count}
+use Rattle.mc_drain.specs.Leads.{FuseGoes, HasBrokenOff, commits_between, count}
+
+-- whether a keeper failed, and whether a fetch did
+abbrev pub keeper_broke : {T : Type 0} → Result T WorkError → Bool
+keeper_broke (Ok value) = false
+keeper_broke (Err KeeperFault) = true
+keeper_broke (Err PeerFault) = false
+keeper_broke (Err Stopped) = false
+keeper_broke (Err Memory) = false
+
+abbrev pub peer_broke : {T : Type 0} → Result T WorkError → Bool
+peer_broke (Ok value) = false
+peer_broke (Err KeeperFault) = false
+peer_broke (Err PeerFault) = true
+peer_broke (Err Stopped) = false
+peer_broke (Err Memory) = false
 
 -- how many blocks came between two states, of the first 2 ^ 64 - 1 of them
 abbrev pub came_between : ReplicaState → ReplicaState → ℕ
@@ -61,28 +77,16 @@ WorkCounts budget (Ok (Done processed missing bad)) s new = processed ≡ came_b
 WorkCounts budget (Ok (Again processed)) s new = (processed ≡ came_between s new) × (limit_of budget s ≤ count new)
 WorkCounts budget (Err error) s new = ⊤
 
--- What a work of this budget leads to, where the keeper tells: no block is lost, no more come than the budget, and where
--- it is known what is found, the answer is that of the closure of what was wanted.
+-- What a work of this budget leads to, where the keeper tells: no block is lost, no more come than the budget, the fuse
+-- burns by their commits at most, the state is sound, and where it is known what is found, the answer is that of the closure
+-- of what was wanted.
 pub record WorkLeads (budget : ℕ) (offers : Option Map) (result : Result Worked WorkError) (s new : ReplicaState) : Type 0 where
-  pub grows : count s ≤ count new
+  pub grows : GoesOn s.state.durable new.state.durable
   pub within : count new ≤ count s + budget
+  pub fuse : FuseGoes (keeper_broke result) (commits_between (keeper_broke result) s new) s.fuse new.fuse
   pub counts : WorkCounts budget result s new
+  pub sound : IsSound new.state
   pub is : (map : Map) → found_from s.state.durable.graph offers ≡ Some map → WorkIs map result s new
-
--- whether a keeper failed, and whether a fetch did
-abbrev pub keeper_broke : {T : Type 0} → Result T WorkError → Bool
-keeper_broke (Ok value) = false
-keeper_broke (Err KeeperFault) = true
-keeper_broke (Err PeerFault) = false
-keeper_broke (Err Stopped) = false
-keeper_broke (Err Memory) = false
-
-abbrev pub peer_broke : {T : Type 0} → Result T WorkError → Bool
-peer_broke (Ok value) = false
-peer_broke (Err KeeperFault) = false
-peer_broke (Err PeerFault) = true
-peer_broke (Err Stopped) = false
-peer_broke (Err Memory) = false
 
 -- what is wanted after a work, over every keeper: nothing is in flight, unless the replica has stopped; where it is done
 -- nothing waits, and the numbers are those of the missing and the bad ones
@@ -94,6 +98,13 @@ WorkWants (Err KeeperFault) q = ⊤
 WorkWants (Err PeerFault) q = q.flight ≡ []
 WorkWants (Err Stopped) q = ⊤
 WorkWants (Err Memory) q = q.flight ≡ []
+
+-- what is wanted where a work or a repair couldn't begin
+abbrev pub GivesUp : WorkError → Queue → Type 0
+GivesUp KeeperFault q = ⊥
+GivesUp PeerFault q = ⊥
+GivesUp Stopped q = ⊤
+GivesUp Memory q = q.flight ≡ []
 
 -- the answer where a drain came to this end, before which so many blocks were processed
 abbrev pub AnswerIs : DrainEnd → ℕ → Option ReplicaState → Queue → Result Worked WorkError → Type 0

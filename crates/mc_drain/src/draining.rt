@@ -17,7 +17,7 @@ use crate::turns::take_turn;
 use mc_core::Replica;
 use mc_fetch::Fetch;
 use mc_keep::Keeper;
-use mc_model::{found_drains_go_on, parts_stay_right};
+use mc_model::{found_drains_go_on, order_and_store_grow, parts_stay_right};
 use std::alloc::Global;
 use std::sync::Wait;
 
@@ -83,6 +83,7 @@ fn take_turns<K: Keeper, F: Fetch, W: Wait>(
     ensures unspent { result ≢ Some DrainEnd.Spent }
 {
     found_drains_go_on();
+    order_and_store_grow();
     parts_stay_right();
     for _ in wait.forever() {
         if processed(replica) >= limit {

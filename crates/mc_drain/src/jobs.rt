@@ -18,7 +18,10 @@ use crate::end::is_fault;
 use mc_core::Replica;
 use mc_fetch::{Found, Job};
 use mc_keep::Keeper;
-use mc_model::{deliveries_are_drains, found_drains_go_on, parts_stay_right, recall_gives_back};
+use mc_model::{
+    deliveries_are_drains, found_drains_go_on, order_and_store_grow, parts_stay_right,
+    recall_gives_back,
+};
 use std::alloc::Global;
 
 // A job begins for the first block that waits, or none where nothing waits.
@@ -40,6 +43,7 @@ pub(crate) fn begin<K: Keeper>(
     ensures flight { IfErr result (λ end. is_keeper end ≡ false → (shown replica.new.queue).flight ≡ []) }
 {
     found_drains_go_on();
+    order_and_store_grow();
     parts_stay_right();
     replica.is_sound();
     match replica.next_job(alloc) {
@@ -75,6 +79,7 @@ pub(crate) fn deliver<K: Keeper>(
         IsNoBlock job.cid (found_in found) → (shown replica.new.queue).waiting ≡ (shown replica.old.queue).waiting) }
 {
     found_drains_go_on();
+    order_and_store_grow();
     parts_stay_right();
     deliveries_are_drains();
     replica.is_sound();
@@ -100,6 +105,7 @@ pub(crate) fn back<K: Keeper>(replica: &mut Replica<K>, job: Job)
     ensures waits { (shown replica.new.queue).waiting ≡ (shown replica.old.queue).waiting ++ job.cid ∷ [] }
 {
     found_drains_go_on();
+    order_and_store_grow();
     parts_stay_right();
     replica.is_sound();
     replica.give_back(job);
@@ -113,6 +119,7 @@ pub(crate) fn recall<K: Keeper>(replica: &mut Replica<K>)
     ensures wants { shown replica.new.queue ≡ recall (shown replica.old.queue) }
 {
     found_drains_go_on();
+    order_and_store_grow();
     parts_stay_right();
     recall_gives_back();
     replica.is_sound();
@@ -127,6 +134,7 @@ pub(crate) fn requeue<K: Keeper>(replica: &mut Replica<K>)
     ensures wants { shown replica.new.queue ≡ requeue (shown replica.old.queue) }
 {
     found_drains_go_on();
+    order_and_store_grow();
     parts_stay_right();
     replica.is_sound();
     replica.requeue();

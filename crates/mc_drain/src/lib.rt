@@ -3,6 +3,7 @@
 
 mod draining;
 mod end;
+mod giving;
 mod jobs;
 mod numbers;
 mod repairing;
@@ -13,5 +14,6 @@ mod working;
 
 pub use draining::drain;
 pub use end::DrainEnd;
+pub use giving::give_up;
 pub use repairing::{Repaired, repair};
 pub use working::{WorkError, Worked, work};

@@ -7,7 +7,7 @@ ghost use Rattle.mc_model.specs.State.{kept_of};
 ghost use Rattle.mc_core.specs.Replica.{replica_state};
 ghost use Rattle.mc_core.specs.Walks.{gap_count, settled_with};
 ghost use Rattle.mc_core.specs.Words.{Becomes, Continues};
-ghost use Rattle.mc_drain.specs.Repairs.{RepairAnswer, RepairLeads, RepairWants, repaired_of, walk_error};
+ghost use Rattle.mc_drain.specs.Repairs.{RepairAnswer, RepairLeads, RepairWants, has_walked, repaired_of, walk_error};
 ghost use Rattle.mc_drain.specs.Words.{is_keeper};
 ghost use Rattle.mc_drain.specs.Works.{keeper_broke, peer_broke};
 
@@ -15,7 +15,7 @@ use crate::jobs::recall;
 use crate::numbers::processed;
 use crate::walking::walk;
 use crate::{DrainEnd, WorkError, drain};
-use mc_core::{Replica, Settled};
+use mc_core::{Replica, Settled, clean_replicas_are_reached};
 use mc_fetch::Fetch;
 use mc_keep::Keeper;
 use mc_model::{found_drains_go_on, found_repairs_go_on, kept_is_durable, parts_stay_right};
@@ -54,13 +54,16 @@ pub fn repair<K: Keeper, F: Fetch, W: Wait>(
         replica.old replica.new }
     ensures keeps { Continues K.Keeper (keeper_broke result) replica.old replica.new }
     ensures batch { replica.new.batch ≡ replica.old.batch }
+    ensures whole { has_walked result ≡ true → replica.new.whole ≡ true }
     ensures asks { Asks F.Fetch (peer_broke result) fetch.old fetch.new }
     ensures stopped { result ≡ Err WorkError.Stopped ↔ replica.old.stopped ≡ true }
     ensures still { replica.old.stopped ≡ true → replica.new ≡ replica.old }
     ensures wants { RepairWants result (shown replica.new.queue) }
 {
+    clean_replicas_are_reached();
     found_drains_go_on();
     found_repairs_go_on();
+    kept_is_durable();
     parts_stay_right();
     replica.is_sound();
     let before = match replica.report() {
@@ -70,6 +73,7 @@ pub fn repair<K: Keeper, F: Fetch, W: Wait>(
     recall(replica);
     replica.is_sound();
     if let Some(end) = walk(alloc, replica, wait) {
+        replica.is_sound();
         return Err(error_of(end));
     }
     replica.is_sound();

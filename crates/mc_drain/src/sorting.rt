@@ -20,7 +20,7 @@ use mc_block::{BlockError, read_found};
 use mc_core::Replica;
 use mc_fetch::{Fetch, Found, Job};
 use mc_keep::Keeper;
-use mc_model::{found_drains_go_on, parts_stay_right};
+use mc_model::{found_drains_go_on, order_and_store_grow, parts_stay_right};
 use mc_worker::look_up;
 use std::alloc::{AllocError, Global};
 use std::sync::Wait;
@@ -46,6 +46,7 @@ pub(crate) fn sort_waiting<K: Keeper, F: Fetch, W: Wait>(
         AllGood (found_by (F.offers fetch.old)) s (shown replica.new.queue).waiting) }
 {
     found_drains_go_on();
+    order_and_store_grow();
     parts_stay_right();
     let mut left = waiting(replica);
     while left > 0 {

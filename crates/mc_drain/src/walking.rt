@@ -3,14 +3,14 @@ ghost use Rattle.std.specs.Prelude.{◌≡◌, [], false, true, None, Ok, IfErr,
 ghost use Rattle.mc_queue.specs.Views.{shown};
 ghost use Rattle.mc_core.specs.Walks.{is_whole_after};
 ghost use Rattle.mc_core.specs.Words.{Becomes, Continues};
-ghost use Rattle.mc_drain.specs.Repairs.{Walks};
+ghost use Rattle.mc_drain.specs.Repairs.{Walks, step_commits};
 ghost use Rattle.mc_drain.specs.Words.{IsBroken, begin_failed, keeper_failed};
 
 use crate::DrainEnd;
 use crate::end::is_fault;
 use mc_core::{Replica, WalkStep};
 use mc_keep::Keeper;
-use mc_model::found_repairs_go_on;
+use mc_model::{found_repairs_go_on, order_and_store_grow};
 use std::alloc::Global;
 use std::sync::Wait;
 
@@ -22,7 +22,7 @@ pub(crate) fn walk<K: Keeper, W: Wait>(
     wait: &W,
 ) -> Option<DrainEnd>
     requires runs { replica.old.stopped ≡ false }
-    ensures walks { Becomes K.Keeper (λ rose s new. Walks (keeper_failed result) s new) replica.old replica.new }
+    ensures walks { Becomes K.Keeper (λ rose s new. Walks (keeper_failed result) 1 s new) replica.old replica.new }
     ensures keeps { Continues K.Keeper (keeper_failed result) replica.old replica.new }
     ensures whole { result ≡ None → replica.new.whole ≡ true }
     ensures batch { replica.new.batch ≡ replica.old.batch }
@@ -42,7 +42,8 @@ pub(crate) fn walk<K: Keeper, W: Wait>(
 // One step: whether every gap counts as wanted then.
 fn take_step<K: Keeper>(alloc: Global, replica: &mut Replica<K>) -> Result<bool, DrainEnd>
     requires runs { replica.old.stopped ≡ false }
-    ensures walks { Becomes K.Keeper (λ rose s new. Walks (begin_failed result) s new) replica.old replica.new }
+    ensures walks { Becomes K.Keeper (λ rose s new. Walks (begin_failed result) (step_commits result) s new)
+        replica.old replica.new }
     ensures keeps { Continues K.Keeper (begin_failed result) replica.old replica.new }
     ensures whole { result ≡ Ok true → replica.new.whole ≡ true }
     ensures batch { replica.new.batch ≡ replica.old.batch }
@@ -50,6 +51,7 @@ fn take_step<K: Keeper>(alloc: Global, replica: &mut Replica<K>) -> Result<bool,
     ensures broken { IfErr result IsBroken }
 {
     found_repairs_go_on();
+    order_and_store_grow();
     replica.is_sound();
     match replica.walk_step(alloc) {
         Ok(step) => Ok(is_last(step)),

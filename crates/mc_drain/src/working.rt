@@ -79,6 +79,7 @@ pub fn work<K: Keeper, F: Fetch, W: Wait>(
 {
     found_drains_go_on();
     parts_stay_right();
+    replica.is_sound();
     let before = match replica.report() {
         Ok(report) => report.processed,
         Err(_) => return Err(WorkError::Stopped),

@@ -18,7 +18,7 @@ loop-init g c = record {
   keeps = still_on refl refl refl;
   rest = record { walk_same = refl; batch_same = refl; whole_same = refl };
   asked = asks_none g.met.F.Fetch.follows_itself _;
-  leads = itself_told c.found_drains_go_on.ensures.goes c.parts_stay_right.ensures.stay (up_to c.args.limit) (Fetched (found_by (g.F.Fetch.offers c.args.fetch.now))) _ (λ s. omega arith);
+  leads = itself_told c.order_and_store_grow.ensures c.found_drains_go_on.ensures.goes c.parts_stay_right.ensures.stay (up_to c.args.limit) (Fetched (found_by (g.F.Fetch.offers c.args.fetch.now))) _ (λ s. omega arith);
 }
 
 pub returns-in-Some-take_turn-clause-leads : goal.returns-in-Some-take_turn-clause-leads

@@ -12,5 +12,5 @@ invariant-loop g l = record {
   keeps : ContinuesAt g.K.Keeper.told g.K.Keeper.fuse g.K.Keeper.own g.K.Counted.faults g.K.Keeper.quiet g.K.Keeper.schedule false l.fn.replica l.replica;
   batch : l.replica.batch ≡ l.fn.replica.batch;
   flight : (shown l.replica.queue).flight ≡ (shown l.fn.replica.queue).flight;
-  walks : Told (replica_state g.K.Keeper.told g.K.Keeper.fuse l.fn.replica) (replica_state g.K.Keeper.told g.K.Keeper.fuse l.replica) (λ s now. Walks false s now);
+  walks : Told (replica_state g.K.Keeper.told g.K.Keeper.fuse l.fn.replica) (replica_state g.K.Keeper.told g.K.Keeper.fuse l.replica) (λ s now. Walks false 0 s now);
 }

@@ -5,8 +5,11 @@ use Rattle.mc_queue.specs.Views.{shown}
 use Rattle.mc_core.specs.Words.{ContinuesAt}
 use Rattle.mc_core.proofs.Keeps.{still_on}
 use Rattle.mc_drain.proofs.TurnFacts.{report_count}
-use Rattle.mc_drain.proofs.WorkFacts.{answer_keeper, answer_peer, answer_runs, answer_wants, leaves_shown, not_true, work_told}
+use Rattle.mc_drain.proofs.WorkFacts.{answer_keeper, answer_peer, answer_runs, answer_wants, leaves_shown, not_true, still_works, work_told}
 use Rattle.mc_drain.proofs.working.work.Goals as goal
+
+pub returns-in-Err-clause-leads : goal.returns-in-Err-clause-leads
+returns-in-Err-clause-leads g c = still_works c.args.budget (found_by (g.F.Fetch.offers c.args.fetch.now)) _ c.is_sound.ensures.state
 
 pub returns-in-Err-clause-keeps : goal.returns-in-Err-clause-keeps
 returns-in-Err-clause-keeps g c = still_on refl refl refl
@@ -16,7 +19,7 @@ returns-clause-leads g c =
     let laws = c.found_drains_go_on.ensures in
     work_told laws.begins laws.closed laws.so_far c.parts_stay_right.ensures.drained c.drain-end.result c.args.budget c.saturating_add-limit.result c.in-Ok.report.processed (found_by (g.F.Fetch.offers c.args.fetch.now))
     (shown c.drain-end.new.replica.queue) c.answer.result _ _ c.saturating_add-limit.ensures (report_count _ _ _ _ c.in-Ok.report c.in-Ok.ensures.report) c.answer.ensures
-    (leaves_shown c.drain-end.result _ _ _ _ (λ e. c.drain-end.ensures.keeps.stops ∙ ap (λ (b : Bool). b || c.args.replica.now.stopped) e ∙ not_true _ c.in-Ok.ensures.stopped) c.is_sound.ensures.state c.drain-end.ensures.flight c.drain-end.ensures.idle)
+    (leaves_shown c.drain-end.result _ _ _ _ (λ e. c.drain-end.ensures.keeps.stops ∙ ap (λ (b : Bool). b || c.args.replica.now.stopped) e ∙ not_true _ c.in-Ok.ensures.stopped) c.is_sound-2.ensures.state c.drain-end.ensures.flight c.drain-end.ensures.idle)
     c.drain-end.ensures.leads
 
 pub returns-clause-keeps : goal.returns-clause-keeps
