@@ -1,0 +1,2 @@
+mod AnswerFacts
+mod DeskFacts

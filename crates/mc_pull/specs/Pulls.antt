@@ -1,0 +1,56 @@
+-- What is found among the sites that a replica fetches from, and what calls through their desks leave of these.
+use Rattle.std.specs.Prelude.{◌≡◌, ◌≤◌, ◌<◌, ◌&&◌, ℕ, Bool, true, false, cond, List, [], ◌∷◌, Option, Some, slice_get, nat_eq, length}
+use Rattle.std.specs.List.{AllZip, list_all, sum_by}
+use Rattle.std.specs.Option.{option_map}
+use Rattle.mc_base.specs.declared.cid.Cid.{Cid}
+use Rattle.mc_fetch.specs.Fits.{Map}
+use Rattle.mc_fetch.specs.Offers.{found_by}
+use Rattle.mc_fetch.specs.Peers.{offers_at, onto_peers, places_of}
+use Rattle.mc_keep.specs.Calls.{Members}
+use Rattle.mc_lend.specs.declared.site.Site.{Site}
+use Rattle.mc_model.specs.Found.{PeerOffers}
+use Rattle.mc_model.specs.Kept.{Kept}
+
+module _ {K : Type 0} (told : K → Option Kept) where
+  -- what a replica at a site offers for each block, where its keeper tells
+  abbrev pub told_at : Site K → Option (Cid → PeerOffers)
+  told_at site = option_map (offers_at site.planted.now) (told site.keeper.now)
+
+  -- what those offer that are fetched from, where all their keepers tell
+  abbrev pub sites_told : List (Site K) → Option (List (Cid → PeerOffers))
+  sites_told [] = Some []
+  sites_told (site ∷ sites) = cond site.peer (onto_peers (told_at site) (sites_told sites)) (sites_told sites)
+
+  -- and what is found among them for each block: the first offer that has its digest
+  abbrev pub found_at : List (Site K) → Option Map
+  found_at sites = found_by (option_map places_of (sites_told sites))
+
+module _ {K D : Type 0} (k : Members K D) (desk_faults : D → ℕ) where
+  -- whether a desk is known never to fail, and has not
+  abbrev pub is_calm : D → Bool
+  is_calm desk = k.quiet_desk desk && nat_eq (desk_faults desk) 0
+
+  -- whether the keepers at all sites are known never to fail by themselves
+  abbrev pub are_quiet : List (Site K) → Bool
+  are_quiet sites = list_all (λ (site : Site K). k.quiet site.keeper.now) sites
+
+  -- What calls leave of the desks of one replica: they are as many, their counts never fall, and where the keepers are
+  -- quiet what is calm stays calm.
+  pub record DeskListGoes (quiet : Bool) (old new : List D) : Type 0 where
+    pub many : length new ≡ length old
+    pub later : sum_by desk_faults old ≤ sum_by desk_faults new
+    pub calm : quiet ≡ true → list_all is_calm old ≡ true → list_all is_calm new ≡ true
+
+  -- the same of the desks of all sites
+  abbrev pub DesksGo : List (Site K) → List (List D) → List (List D) → Type 0
+  DesksGo sites olds news = AllZip (DeskListGoes (are_quiet sites)) olds news
+
+-- a desk of one that is fetched from has failed once more
+pub record DeskRose {D : Type 0} (desk_faults : D → ℕ) (marks : List Bool) (olds news : List (List D)) : Type 0 where
+  pub at : ℕ
+  pub old : List D
+  pub new : List D
+  pub marked : slice_get marks at ≡ Some true
+  pub stood : slice_get olds at ≡ Some old
+  pub stands : slice_get news at ≡ Some new
+  pub rose : sum_by desk_faults old < sum_by desk_faults new
