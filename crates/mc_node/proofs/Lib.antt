@@ -4,3 +4,16 @@ pub mod TieFacts
 pub mod CallFacts
 pub mod ReplicaFacts
 pub mod SeatFacts
+pub mod Spread
+pub mod Chains
+pub mod WriterFacts
+pub mod Joins
+pub mod StormTurns
+pub mod StormWays
+pub mod StormSeats
+pub mod StormLaw
+pub mod StormEnd
+pub mod StormWrites
+pub mod Gathering
+pub mod StormFacts
+pub mod StormCrews

@@ -3,16 +3,20 @@
 
 #[cfg(test)]
 mod bare;
+mod crews;
 mod entry;
 mod error;
 mod node;
 mod note;
 mod stored;
+mod storming;
 #[cfg(test)]
 mod tests;
+mod writing;
 
 pub use entry::Entry;
 pub use error::TryError;
 pub use node::{Node, NodeRefused, NodeSeat, Seen};
 pub use note::Note;
 pub use stored::Stored;
+pub use storming::{StormError, Stormed, storm};
