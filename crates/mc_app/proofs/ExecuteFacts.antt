@@ -8,12 +8,8 @@ use Rattle.std.proofs.lemmas.Bool.Decides.{nat_tests}
 use Rattle.std.proofs.lemmas.List.Sums.{sum_by-cons}
 use Rattle.mc_base.specs.Told.{AppendsPart}
 use Rattle.mc_base.specs.declared.counted.Counted as counted
-use Rattle.mc_base.proofs.Telling.{told_weaker}
 use Rattle.mc_keep.specs.Calls.{Members}
 use Rattle.mc_keep.specs.declared.keeper.Keeper as keeper
-use Rattle.mc_core.proofs.EventFacts.{breaks_rose}
-use Rattle.mc_core.specs.Calls.{Faults}
-use Rattle.mc_core.specs.Events.{ReplicaState}
 use Rattle.mc_script.specs.ReplyText.{reply_text}
 use Rattle.mc_script.specs.declared.command.Command.{Command}
 use Rattle.mc_script.specs.declared.reply.Reply.{Reply}
@@ -25,29 +21,16 @@ use Rattle.mc_app.specs.Asks.{arms, is_named, is_there}
 use Rattle.mc_app.specs.Executes.{CutsShort, Executes, ExecutesPart, IsAnswered}
 use Rattle.mc_app.specs.Keepers.{WorldGoes, desk_count, is_calm, is_calm_desk, is_calm_keeper, keeper_of}
 use Rattle.mc_app.specs.LineWords.{AnswersIn}
-use Rattle.mc_app.specs.Plans.{Plan}
 use Rattle.mc_app.specs.Record.{NamesNone, RoseIn}
 use Rattle.mc_app.specs.Runs.{Answer, names_none, owns_none}
-use Rattle.mc_app.specs.Step.{CutShort, LeavesStep, Row, Step, answers_fault, is_fault}
+use Rattle.mc_app.specs.Step.{LeavesStep, Row, Step, answers_fault, is_fault}
 use Rattle.mc_app.specs.Words.{DeskRose, KeeperRose, OwnRose, Records, Shortens, state, tally}
-use Rattle.mc_app.specs.Worlds.{Place, WorldState, state_at}
+use Rattle.mc_app.specs.Worlds.{WorldState}
 use Rattle.mc_app.proofs.OpeningFacts.{both_true, first_true, second_true}
+use Rattle.mc_app.proofs.WorkedFacts.{cut_map}
 
 named_itself : (r : ℕ) → is_named (r ∷ []) r ≡ true
 named_itself r = ap (λ (b : Bool). b || false) (eq-eqb r r refl)
-
--- a fault under other words
-cut_map : (w : WorldState) (command : Command) (own own2 : Type 0) (p q : Place) → (own → own2) → CutShort w command own p q → CutShort w command own2 p q
-cut_map w command own own2 p q f cut = record {
-  down = cut.down;
-  silent = cut.silent;
-  planted_same = cut.planted_same;
-  why = elim cut.why [ inl fired ↦ inl fired | inr failed ↦ inr (f failed) ];
-  told = told_weaker _ _ (λ s new faults. faults_map s new faults) (state_at p) (state_at q) cut.told;
-}
-  where
-    faults_map : (s new : ReplicaState) → Faults (λ events reply. Plan w s command events reply) own s new → Faults (λ events reply. Plan w s command events reply) own2 s new
-    faults_map s new faults = record { events = faults.events; begins = faults.begins; breaks = breaks_rose faults.events own own2 s new f faults.breaks }
 
 -- The entry of a command that was done and not recorded: it names what failed, and where all was calm none that failed by
 -- itself.

@@ -1,5 +1,5 @@
 -- Where no keeper fails by itself, only fuses make faults; and a fuse that fires makes one.
-use Rattle.std.proofs.Common.{◌≡◌, ◌≢◌, ℕ, Bool, true, false, true≢false, List, [], ◌∷◌, Option, Some, None, refl, sym, ◌∙◌, ap, subst, inl, inr, ◌⊎◌, nat_lt}
+use Rattle.std.proofs.Common.{◌≡◌, ◌≢◌, ℕ, Bool, true, false, true≢false, List, [], ◌∷◌, Option, Some, None, Ok, Err, refl, sym, ◌∙◌, ap, subst, inl, inr, ◌⊎◌, nat_lt}
 use Rattle.std.specs.Prelude.{◌-◌, is_some, slice_get, if◌then◌else◌}
 use Rattle.std.proofs.lemmas.Bool.{cases_eq}
 use Rattle.mc_base.specs.Told.{Told}
@@ -9,6 +9,11 @@ use Rattle.mc_model.specs.Events.{Event}
 use Rattle.mc_model.specs.Kept.{Kept}
 use Rattle.mc_model.specs.State.{Running}
 use Rattle.mc_core.specs.Events.{ReplicaState, Goes, MayHappen, all_happen, burnt_by, commits, fires_by, goes_on, state_of}
+use Rattle.mc_drain.specs.Repairs.{RepairLeads}
+use Rattle.mc_drain.specs.Works.{WorkLeads}
+use Rattle.mc_drain.specs.declared.working.WorkError.TheVariants.{PeerFault}
+use Rattle.mc_node.specs.Interleavings.{StormCall, Write}
+use Rattle.mc_node.specs.Storms.{ActsBy, CallsRun, PutActs, StormLeads, storm_key, storm_value}
 use Rattle.mc_script.specs.declared.command.Command.{Command}
 use Rattle.mc_script.specs.declared.command.Command.TheVariants.{Put, Del, Begin, BatchPut, BatchDel, Commit, Get, Has as HasKey, Query, Heads as HeadsOf}
 use Rattle.mc_script.specs.declared.command.Command.TheVariants.{Cast, Wire, Hear, Plant, Link, Step as StepOf, Work, Repair, Storm, State as StateOf, Same as SameOf, Stop, Open, StopAt, StopAfter}
@@ -18,10 +23,12 @@ use Rattle.mc_app.specs.declared.entry.LineEntry.{LineEntry}
 use Rattle.mc_app.specs.Asks.{focus, is_named, may_fail}
 use Rattle.mc_app.specs.Plans.{DoneAt, Happens}
 use Rattle.mc_app.specs.Promises.{fired_at, fuse_at, tells_at}
-use Rattle.mc_app.specs.Step.{GivesBack, IsFaulted, Row, Step, is_fault}
-use Rattle.mc_app.specs.Worlds.{Moved, MovedAt, Place, WorldState}
+use Rattle.mc_app.specs.Step.{GivesBack, IsFaulted, PeerBreaks, Row, Step, is_fault}
+use Rattle.mc_app.specs.Works.{budget_of, offered_by, repair_budget}
+use Rattle.mc_app.specs.Worlds.{Moved, MovedAt, Place, WorldState, peers_of}
 use Rattle.mc_app.proofs.PromiseFacts.{back_is, others_stand}
 use Rattle.mc_app.proofs.ReplyFacts.{done_plainly, is_plain, refuses_no_fault}
+use Rattle.mc_app.proofs.WorkedFacts.{fuse_stays, pulled_unfired, told_unfired}
 use Rattle.mc_app.proofs.WrittenFacts.{Done, moved_stands}
 
 -- a fault that is answered
@@ -102,6 +109,27 @@ place_unfired w command reply p q tells happens = happens_unfired w command repl
 now_same : (p q : Place) → q ≡ p → has_fired p.fuse q.fuse ≡ false
 now_same p q same = same_fuse p.fuse q.fuse (ap (λ (x : Place). x.fuse) same)
 
+-- the calls of a storm's writers
+
+put_unfired : (made : Bool) (key bytes : List ℕ) (s t : ReplicaState) → PutActs made key bytes s t → has_fired s.fuse t.fuse ≡ false
+put_unfired true key bytes s t makes = goes_unfired makes.done.events s t makes.done.goes
+put_unfired false key bytes s t refused = same_fuse s.fuse t.fuse (ap (λ (x : ReplicaState). x.fuse) refused.same)
+
+call_unfired : (gets : Bool) (key bytes : List ℕ) (write : Write) (s t : ReplicaState) → ActsBy gets key bytes write s t → has_fired s.fuse t.fuse ≡ false
+call_unfired false key bytes write s t acts = put_unfired write.made key bytes s t acts
+call_unfired true key bytes write s t acts = same_fuse s.fuse t.fuse (ap (λ (x : ReplicaState). x.fuse) acts.unchanged)
+
+unfired_then : (old mid new : Option Fuse) → has_fired old mid ≡ false → has_fired mid new ≡ false → has_fired old new ≡ false
+unfired_then None mid new first next = refl
+unfired_then (Some old) None new first next = absurd (true≢false first)
+unfired_then (Some old) (Some mid) None first next = absurd (true≢false next)
+unfired_then (Some old) (Some mid) (Some new) first next = refl
+
+calls_unfired : (calls : List StormCall) (s t : ReplicaState) → CallsRun calls s t → has_fired s.fuse t.fuse ≡ false
+calls_unfired [] s t same = same_fuse s.fuse t.fuse (ap (λ (x : ReplicaState). x.fuse) same)
+calls_unfired (call ∷ calls) s t (mid, acts, run) =
+    unfired_then s.fuse mid.fuse t.fuse (call_unfired call.gets (storm_key call.writer) (storm_value call.write.number) call.write s mid acts) (calls_unfired calls mid t run)
+
 done_unfired : (w : WorldState) (command : Command) (reply : Reply) (p q : Place) → is_some p.content ≡ true → DoneAt w command p q reply → has_fired p.fuse q.fuse ≡ false
 done_unfired w (Cast r) reply p q tells h = now_same p q h
 done_unfired w (Plant r cid bytes) reply p q tells h = same_fuse p.fuse q.fuse (ap (λ (x : Place). x.fuse) h.0)
@@ -110,9 +138,9 @@ done_unfired w (Stop r) reply p q tells h = same_fuse p.fuse q.fuse (ap (λ (x :
 done_unfired w (Open r) reply p q tells h = same_fuse p.fuse q.fuse h.0.tells.1
 done_unfired w (StopAt r commit) reply p q tells h = not_fired p.fuse q.fuse (λ _. ap (λ (x : Place). is_some x.fuse) h.0)
 done_unfired w (StopAfter r commit) reply p q tells h = not_fired p.fuse q.fuse (λ _. ap (λ (x : Place). is_some x.fuse) h.0)
-done_unfired w (Work r workers budget) reply p q tells h = absurd h.0
-done_unfired w (Repair r workers) reply p q tells h = absurd h.0
-done_unfired w (Storm r writers writes) reply p q tells h = absurd h.0
+done_unfired w (Work r workers budget) reply p q tells h = pulled_unfired _ _ (WorkLeads (budget_of budget) (offered_by (peers_of w r)) (Ok h.value)) (λ s t leads. fuse_stays _ s.fuse t.fuse leads.fuse) p q tells h.works
+done_unfired w (Repair r workers) reply p q tells h = pulled_unfired _ _ (RepairLeads repair_budget (offered_by (peers_of w r)) (Ok h.value)) (λ s t leads. fuse_stays _ s.fuse t.fuse leads.fuse) p q tells h.repairs
+done_unfired w (Storm r writers writes) reply p q tells h = told_unfired (StormLeads writers writes (Ok h.value) ⊥) (λ s t ends. calls_unfired ends.calls s t ends.run) p.content q.content p.fuse q.fuse p.run q.run tells h.told
 done_unfired w (Put r key bytes) reply p q tells h = place_unfired w (Put r key bytes) reply p q tells h.1
 done_unfired w (Del r key) reply p q tells h = place_unfired w (Del r key) reply p q tells h.1
 done_unfired w (Begin r) reply p q tells h = same_fuse p.fuse q.fuse h.0.1.1
@@ -131,6 +159,11 @@ done_unfired w (SameOf r other) reply p q tells h = absurd h.0
 
 back_unfired : (p q : Place) → is_some p.content ≡ true → GivesBack p q → has_fired p.fuse q.fuse ≡ false
 back_unfired p q tells back = same_fuse p.fuse q.fuse (ap (λ (x : Place). x.fuse) (back_is p q back).1)
+
+peer_unfired : (w : WorldState) (command : Command) (p q : Place) → is_some p.content ≡ true → PeerBreaks w command p q → has_fired p.fuse q.fuse ≡ false
+peer_unfired w (Work r workers budget) p q tells breaks = pulled_unfired _ _ (WorkLeads (budget_of budget) (offered_by (peers_of w r)) (Err PeerFault)) (λ s t leads. fuse_stays _ s.fuse t.fuse leads.fuse) p q tells breaks
+peer_unfired w (Repair r workers) p q tells breaks = pulled_unfired _ _ (RepairLeads repair_budget (offered_by (peers_of w r)) (Err PeerFault)) (λ s t leads. fuse_stays _ s.fuse t.fuse leads.fuse) p q tells breaks
+peer_unfired w command p q tells back = back_unfired p q tells back
 
 -- where one replica of a world changes
 
@@ -159,4 +192,4 @@ fuse_is_fault w command entry reply w2 r step tells fired = over step.row
     over (inl (inl (inl refused))) = absurd (true≢false (sym fired ∙ still w w2 r (ap (λ (x : WorldState). slice_get x.places r) refused.same)))
     over (inl (inl (inr done))) = absurd (true≢false (sym fired ∙ moved_at_unfired w w2 (focus command) (λ p q. DoneAt w command p q reply) (done_unfired w command reply) done.moved r tells))
     over (inl (inr fault)) = fault.says
-    over (inr peer) = absurd (true≢false (sym fired ∙ moved_at_unfired w w2 (focus command) GivesBack back_unfired peer.moved r tells))
+    over (inr peer) = absurd (true≢false (sym fired ∙ moved_at_unfired w w2 (focus command) (PeerBreaks w command) (peer_unfired w command) peer.moved r tells))

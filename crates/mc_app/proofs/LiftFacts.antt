@@ -34,10 +34,11 @@ use Rattle.mc_app.specs.Asks.{arms, focus, has_message, is_among, is_named, is_s
 use Rattle.mc_app.specs.Keepers.{IsPaid, WorldGoes, armed_at, armed_in, desk_count, desks_in, is_calm_desk, is_calm_keeper, keeper_of, own_in}
 use Rattle.mc_app.specs.Plans.{AsksAt, DoneAt, Leaves, RefusedAt}
 use Rattle.mc_app.specs.Record.{RoseAt, RoseIn}
-use Rattle.mc_app.specs.Step.{Asks, CutShort, LeavesStep, Refuses, Row, Says, Sets, ShortAt, StillRuns, answers_fault, is_fault}
+use Rattle.mc_app.specs.Step.{Asks, CutShort, LeavesStep, Refuses, Row, Says, Sets, ShortAt, ShortIn, StillRuns, answers_fault, is_fault}
 use Rattle.mc_app.specs.Words.{ActsOn, CastActs, EarlyRow, KeeperGoes, SaysHeads, SeatActsIn, SeatRow, can_fail, place, state}
 use Rattle.mc_app.specs.Worlds.{AtPlace, MovedAt, Place, WorldState, is_down, places_of, state_at}
 use Rattle.mc_app.proofs.SeatFacts.{all_of_set, both, first, get_of_set, paid_beside, paid_of_set, rest, set_of_get}
+use Rattle.mc_app.proofs.WorkedFacts.{is_pull, short_from}
 
 -- a command of one replica
 pub record OfOne (w : WorldState) (command : Command) (r : ℕ) : Type 0 where
@@ -45,6 +46,7 @@ pub record OfOne (w : WorldState) (command : Command) (r : ℕ) : Type 0 where
   pub refuses : (due : Option Reply) → AtPlace w r (λ p. RefusedAt w p command due) → Refuses w command due
   pub asks : AtPlace w r (AsksAt w command) → Asks w command
   pub may : can_fail command ≡ true → is_named (may_fail command) r ≡ true
+  pub plain : is_pull command ≡ false
 
 pub named_itself : (r : ℕ) → is_named (r ∷ []) r ≡ true
 named_itself r = ap (λ b. b || false) (eq-eqb r r refl)
@@ -53,17 +55,17 @@ never : {P : Type 0} → false ≡ true → P
 never e = absurd (true≢false (sym e))
 
 pub single_is : (w : WorldState) (command : Command) → is_single command ≡ true → OfOne w command (unwrap_or (focus command) 0)
-single_is w (Put r key bytes) is = record { focused = refl; refuses = λ due a. a; asks = λ a. a; may = λ can. named_itself r }
-single_is w (Del r key) is = record { focused = refl; refuses = λ due a. a; asks = λ a. a; may = λ can. named_itself r }
-single_is w (Begin r) is = record { focused = refl; refuses = λ due a. a; asks = λ a. a; may = λ can. never can }
-single_is w (BatchPut r key bytes) is = record { focused = refl; refuses = λ due a. a; asks = λ a. a; may = λ can. never can }
-single_is w (BatchDel r key) is = record { focused = refl; refuses = λ due a. a; asks = λ a. a; may = λ can. named_itself r }
-single_is w (Commit r) is = record { focused = refl; refuses = λ due a. a; asks = λ a. a; may = λ can. named_itself r }
-single_is w (Get r key) is = record { focused = refl; refuses = λ due a. a; asks = λ a. a; may = λ can. named_itself r }
-single_is w (Has r key) is = record { focused = refl; refuses = λ due a. a; asks = λ a. a; may = λ can. named_itself r }
-single_is w (Query r prefix skip take) is = record { focused = refl; refuses = λ due a. a; asks = λ a. a; may = λ can. named_itself r }
-single_is w (Heads r) is = record { focused = refl; refuses = λ due a. a; asks = λ a. a; may = λ can. named_itself r }
-single_is w (State r) is = record { focused = refl; refuses = λ due a. a; asks = λ a. a; may = λ can. never can }
+single_is w (Put r key bytes) is = record { focused = refl; refuses = λ due a. a; asks = λ a. a; may = λ can. named_itself r; plain = refl }
+single_is w (Del r key) is = record { focused = refl; refuses = λ due a. a; asks = λ a. a; may = λ can. named_itself r; plain = refl }
+single_is w (Begin r) is = record { focused = refl; refuses = λ due a. a; asks = λ a. a; may = λ can. never can; plain = refl }
+single_is w (BatchPut r key bytes) is = record { focused = refl; refuses = λ due a. a; asks = λ a. a; may = λ can. never can; plain = refl }
+single_is w (BatchDel r key) is = record { focused = refl; refuses = λ due a. a; asks = λ a. a; may = λ can. named_itself r; plain = refl }
+single_is w (Commit r) is = record { focused = refl; refuses = λ due a. a; asks = λ a. a; may = λ can. named_itself r; plain = refl }
+single_is w (Get r key) is = record { focused = refl; refuses = λ due a. a; asks = λ a. a; may = λ can. named_itself r; plain = refl }
+single_is w (Has r key) is = record { focused = refl; refuses = λ due a. a; asks = λ a. a; may = λ can. named_itself r; plain = refl }
+single_is w (Query r prefix skip take) is = record { focused = refl; refuses = λ due a. a; asks = λ a. a; may = λ can. named_itself r; plain = refl }
+single_is w (Heads r) is = record { focused = refl; refuses = λ due a. a; asks = λ a. a; may = λ can. named_itself r; plain = refl }
+single_is w (State r) is = record { focused = refl; refuses = λ due a. a; asks = λ a. a; may = λ can. never can; plain = refl }
 single_is w (Cast r) is = never is
 single_is w (Wire bytes) is = never is
 single_is w (Hear r message) is = never is
@@ -91,7 +93,7 @@ single_says (Same r other) is w reply = never is
 single_says command is w reply = tt
 
 pub plant_is : (w : WorldState) (r : ℕ) (cid : Cid) (bytes : List ℕ) → OfOne w (Plant r cid bytes) r
-plant_is w r cid bytes = record { focused = refl; refuses = λ due a. a; asks = λ a. a; may = λ can. never can }
+plant_is w r cid bytes = record { focused = refl; refuses = λ due a. a; asks = λ a. a; may = λ can. never can; plain = refl }
 
 -- a cast is not refused at a replica that runs
 cast_allowed : (w : WorldState) (p : Place) → is_down p.run ≡ false → RefusedAt w p (Cast 0) None
@@ -106,17 +108,20 @@ cast_allowed w p up = (ap (λ b. stop_front b None) up, allowed p.content)
     allowed (Some kept) = sym (running p.run up)
 
 pub hear_is : (w : WorldState) (r message : ℕ) → OfOne w (Hear r message) r
-hear_is w r message = record { focused = refl; refuses = λ due a. a; asks = λ a. a; may = λ can. named_itself r }
+hear_is w r message = record { focused = refl; refuses = λ due a. a; asks = λ a. a; may = λ can. named_itself r; plain = refl }
 
 pub cast_is : (w : WorldState) (r : ℕ) → OfOne w (Cast r) r
-cast_is w r = record { focused = refl; refuses = λ due a. a; asks = λ a. a; may = λ can. named_itself r }
+cast_is w r = record { focused = refl; refuses = λ due a. a; asks = λ a. a; may = λ can. named_itself r; plain = refl }
 
 pub step_is : (w : WorldState) (r : ℕ) → OfOne w (Step r) r
-step_is w r = record { focused = refl; refuses = λ due a. a; asks = λ a. a; may = λ can. named_itself r }
+step_is w r = record { focused = refl; refuses = λ due a. a; asks = λ a. a; may = λ can. named_itself r; plain = refl }
+
+pub storm_is : (w : WorldState) (r writers writes : ℕ) → OfOne w (Storm r writers writes) r
+storm_is w r writers writes = record { focused = refl; refuses = λ due a. a; asks = λ a. a; may = λ can. named_itself r; plain = refl }
 
 pub arm_is : (w : WorldState) (r commit : ℕ) (after : Bool) → OfOne w (arming r commit after) r
-arm_is w r commit true = record { focused = refl; refuses = λ due a. a; asks = λ a. a; may = λ can. never can }
-arm_is w r commit false = record { focused = refl; refuses = λ due a. a; asks = λ a. a; may = λ can. never can }
+arm_is w r commit true = record { focused = refl; refuses = λ due a. a; asks = λ a. a; may = λ can. never can; plain = refl }
+arm_is w r commit false = record { focused = refl; refuses = λ due a. a; asks = λ a. a; may = λ can. never can; plain = refl }
 
 pub arm_sets : (r commit : ℕ) (after : Bool) (w : WorldState) (reply : Reply) → Sets w (arming r commit after) reply w.around
 arm_sets r commit true w reply = refl
@@ -131,10 +136,10 @@ arm_there count bag r commit true there = there
 arm_there count bag r commit false there = there
 
 pub stop_is : (w : WorldState) (r : ℕ) → OfOne w (Stop r) r
-stop_is w r = record { focused = refl; refuses = λ due a. a; asks = λ a. a; may = λ can. never can }
+stop_is w r = record { focused = refl; refuses = λ due a. a; asks = λ a. a; may = λ can. never can; plain = refl }
 
 pub open_is : (w : WorldState) (r : ℕ) → OfOne w (Open r) r
-open_is w r = record { focused = refl; refuses = λ due a. a; asks = λ a. a; may = λ can. named_itself r }
+open_is w r = record { focused = refl; refuses = λ due a. a; asks = λ a. a; may = λ can. named_itself r; plain = refl }
 
 -- a command of one replica that is there names one of the seats
 single_at : (count : ℕ) (bag : List (List ℕ)) (command : Command) → is_single command ≡ true → is_among count bag command ≡ true → unwrap_or (focus command) 0 < count
@@ -316,8 +321,8 @@ module _ {K D : Type 0} {g : keeper.Ghosts K D} {h : counted.Ghosts K} {i : coun
     pub short_in : is_there (state k desk_faults old) command ≡ true → ShortAt command (place k x) (place k y) → LeavesStep (state k desk_faults old) command (state k desk_faults new)
     short_in there short = record {
       there = there;
-      moved = subst (λ (o : Option ℕ). MovedAt o (places_of k.told k.fuse old.seats.items) (places_of k.told k.fuse new.seats.items) (ShortAt command)) (sym one.focused)
-          (record { old = place k x; new = place k y; stands = stands_at old.seats.items r x moved.stands; after = set_at old.seats.items new.seats.items r y moved.seats; holds = short });
+      moved = subst (λ (o : Option ℕ). MovedAt o (places_of k.told k.fuse old.seats.items) (places_of k.told k.fuse new.seats.items) (ShortIn (state k desk_faults old) command)) (sym one.focused)
+          (record { old = place k x; new = place k y; stands = stands_at old.seats.items r x moved.stands; after = set_at old.seats.items new.seats.items r y moved.seats; holds = short_from (state k desk_faults old) command one.plain (place k x) (place k y) short });
       around = around_same old new moved.bag moved.down;
     }
 

@@ -1,5 +1,5 @@
 -- What is promised of every run: what grows, and what stays.
-use Rattle.std.proofs.Common.{◌≡◌, ◌≢◌, ℕ, zero, suc, true, false, true≢false, List, [], ◌∷◌, length, Option, Some, None, refl, sym, ◌∙◌, ap, subst, inl, inr, set}
+use Rattle.std.proofs.Common.{◌≡◌, ◌≢◌, ℕ, zero, suc, true, false, true≢false, List, [], ◌∷◌, length, Option, Some, None, Result, Ok, Err, refl, sym, ◌∙◌, ap, subst, inl, inr, set}
 use Rattle.std.specs.Prelude.{slice_get}
 use Rattle.std.proofs.lemmas.List.{length-set}
 use Rattle.mc_base.specs.Told.{Told}
@@ -13,10 +13,16 @@ use Rattle.mc_model.specs.Kept.{Kept}
 use Rattle.mc_model.specs.SameMembers.{SameMembers}
 use Rattle.mc_model.specs.State.{Running, blocks_of, durable_of}
 use Rattle.mc_model.proofs.Prefix.{goes_on_then}
-use Rattle.mc_core.specs.Calls.{Faults}
 use Rattle.mc_core.specs.Events.{ReplicaState, Goes, state_of}
 use Rattle.mc_core.proofs.GrowthFacts.{GrowLaw, same_goes, goes_grows, breaks_grows}
 use Rattle.mc_core.specs.Jobs.{tried_first}
+use Rattle.mc_drain.specs.Repairs.{RepairLeads}
+use Rattle.mc_drain.specs.Works.{WorkLeads}
+use Rattle.mc_drain.specs.declared.repairing.Repaired.{Repaired}
+use Rattle.mc_drain.specs.declared.working.WorkError.{WorkError}
+use Rattle.mc_drain.specs.declared.working.WorkError.TheVariants.{PeerFault}
+use Rattle.mc_drain.specs.declared.working.Worked.{Worked}
+use Rattle.mc_node.specs.Storms.{StormLeads}
 use Rattle.mc_script.specs.Line.{line_of}
 use Rattle.mc_script.specs.declared.command.Command.{Command}
 use Rattle.mc_script.specs.declared.command.Command.TheVariants.{Put, Del, Begin, BatchPut, BatchDel, Commit, Get, Has as HasKey, Query, Heads as HeadsOf}
@@ -28,8 +34,10 @@ use Rattle.mc_app.specs.Asks.{focus, is_named, may_fail}
 use Rattle.mc_app.specs.Plans.{DoneAt, Happens, Plan}
 use Rattle.mc_app.specs.Promises.{ContentGrows, GrowsAt, OnlyGrows, is_read, read_at}
 use Rattle.mc_app.specs.Runs.{Answer, LineStep, Runs}
-use Rattle.mc_app.specs.Step.{CutShort, GivesBack, Row, Step}
-use Rattle.mc_app.specs.Worlds.{IfRuns, Moved, MovedAt, Place, WorldState, state_at}
+use Rattle.mc_app.specs.Step.{CutShort, FaultsOf, GivesBack, PeerBreaks, Row, Step}
+use Rattle.mc_app.specs.Works.{RepairsTo, WorksTo, budget_of, offered_by, repair_budget}
+use Rattle.mc_app.specs.Worlds.{IfRuns, Moved, MovedAt, Place, WorldState, peers_of, state_at}
+use Rattle.mc_app.proofs.StormFacts.{calls_grow, storm_breaks_grow}
 
 -- what is told only grows
 
@@ -113,6 +121,18 @@ back_is p q g =
 back_grows : (p q : Place) → GivesBack p q → ContentGrows p.content q.content
 back_grows p q g = content_is p.content q.content (ap (λ (x : Place). x.content) (back_is p q g).1)
 
+-- a work and a repair
+work_grows : (peers : List Place) (budget : ℕ) (result : Result Worked WorkError) (p q : Place) → WorksTo peers budget result p q → ContentGrows p.content q.content
+work_grows peers budget result p q works = told_content (WorkLeads budget (offered_by peers) result) (λ s t leads. leads.grows) p.content q.content p.fuse q.fuse p.run q.run works.silent works.told
+
+repair_grows : (peers : List Place) (result : Result Repaired WorkError) (p q : Place) → RepairsTo peers result p q → ContentGrows p.content q.content
+repair_grows peers result p q repairs = told_content (RepairLeads repair_budget (offered_by peers) result) (λ s t leads. leads.grows) p.content q.content p.fuse q.fuse p.run q.run repairs.silent repairs.told
+
+peer_grows : (w : WorldState) (command : Command) (p q : Place) → PeerBreaks w command p q → ContentGrows p.content q.content
+peer_grows w (Work r workers budget) p q breaks = work_grows (peers_of w r) (budget_of budget) (Err PeerFault) p q breaks
+peer_grows w (Repair r workers) p q breaks = repair_grows (peers_of w r) (Err PeerFault) p q breaks
+peer_grows w command p q back = back_grows p q back
+
 module _ (law : GrowLaw) where
   happens_grows : (w : WorldState) (command : Command) (p q : Place) (reply : Reply) → (p.content ≡ None → q.content ≡ None) → Happens w command p q reply → ContentGrows p.content q.content
   happens_grows w command p q reply silent happens =
@@ -124,9 +144,9 @@ module _ (law : GrowLaw) where
   done_grows w (StateOf r) reply p q h = content_is p.content q.content (ap (λ (x : Place). x.content) h.0)
   done_grows w (Stop r) reply p q h = content_is p.content q.content (ap (λ (x : Place). x.content) h.0)
   done_grows w (Open r) reply p q h = content_is p.content q.content h.0.tells.0
-  done_grows w (Work r workers budget) reply p q h = absurd h.0
-  done_grows w (Repair r workers) reply p q h = absurd h.0
-  done_grows w (Storm r writers writes) reply p q h = absurd h.0
+  done_grows w (Work r workers budget) reply p q h = work_grows (peers_of w r) (budget_of budget) (Ok h.value) p q h.works
+  done_grows w (Repair r workers) reply p q h = repair_grows (peers_of w r) (Ok h.value) p q h.repairs
+  done_grows w (Storm r writers writes) reply p q h = told_content (StormLeads writers writes (Ok h.value) ⊥) (λ s t ends. calls_grow law ends.calls s t ends.run) p.content q.content p.fuse q.fuse p.run q.run h.runs.silent h.told
   done_grows w (StopAt r commit) reply p q h = content_is p.content q.content (ap (λ (x : Place). x.content) h.0)
   done_grows w (StopAfter r commit) reply p q h = content_is p.content q.content (ap (λ (x : Place). x.content) h.0)
   done_grows w (Put r key bytes) reply p q h = happens_grows w (Put r key bytes) p q reply h.0.0.silent h.1
@@ -145,15 +165,20 @@ module _ (law : GrowLaw) where
   done_grows w (Link r other up) reply p q h = absurd h.0
   done_grows w (Same r other) reply p q h = absurd h.0
 
+  faults_grow : (w : WorldState) (command : Command) (own : Type 0) (s t : ReplicaState) → FaultsOf w command own s t → GoesOn s.state.durable t.state.durable
+  faults_grow w (Work r workers budget) own s t leads = leads.grows
+  faults_grow w (Repair r workers) own s t leads = leads.grows
+  faults_grow w (Storm r writers writes) own s t breaks = storm_breaks_grow law writers writes own s t breaks
+  faults_grow w command own s t f = breaks_grows law f.events own s t f.breaks
+
   cut_grows : (w : WorldState) (command : Command) (own : Type 0) (p q : Place) → CutShort w command own p q → ContentGrows p.content q.content
-  cut_grows w command own p q cut =
-      told_content (λ s new. Faults (λ events reply. Plan w s command events reply) own s new) (λ s t f. breaks_grows law f.events own s t f.breaks) p.content q.content p.fuse q.fuse p.run q.run cut.silent cut.told
+  cut_grows w command own p q cut = told_content (FaultsOf w command own) (faults_grow w command own) p.content q.content p.fuse q.fuse p.run q.run cut.silent cut.told
 
   row_grows : (w : WorldState) (command : Command) (named own desk : ℕ → Type 0) (reply : Reply) (w2 : WorldState) → Row w command named own desk reply w2 → OnlyGrows w w2
   row_grows w command named own desk reply w2 (inl (inl (inl refused))) = world_grows w w2 (ap (λ (x : WorldState). x.places) refused.same)
   row_grows w command named own desk reply w2 (inl (inl (inr done))) = moved_at_grows w w2 (focus command) (λ p q. DoneAt w command p q reply) (done_grows w command reply) done.moved
   row_grows w command named own desk reply w2 (inl (inr fault)) = moved_grows w w2 fault.at (CutShort w command (own fault.at)) (cut_grows w command (own fault.at)) fault.moved
-  row_grows w command named own desk reply w2 (inr peer) = moved_at_grows w w2 (focus command) GivesBack back_grows peer.moved
+  row_grows w command named own desk reply w2 (inr peer) = moved_at_grows w w2 (focus command) (PeerBreaks w command) (peer_grows w command) peer.moved
 
   pub step_grows : (w : WorldState) (command : Command) (entry : LineEntry) (reply : Reply) (w2 : WorldState) → Step w command entry reply w2 → OnlyGrows w w2
   step_grows w command entry reply w2 step = row_grows w command _ _ _ reply w2 step.row

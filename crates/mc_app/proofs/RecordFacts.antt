@@ -1,5 +1,5 @@
 -- The entry of a line.
-use Rattle.std.proofs.Common.{◌≡◌, ◌<◌, ◌++◌, ◌+◌, ℕ, zero, suc, Bool, true, false, true≢false, List, [], ◌∷◌, Option, Some, None, Ok, Err, refl, sym, subst, ap, inl, inr, ◌⊎◌, ◌∙◌, arith, length, nat_lt}
+use Rattle.std.proofs.Common.{◌≡◌, ◌<◌, ◌++◌, ◌+◌, ℕ, zero, suc, Bool, true, false, true≢false, List, [], ◌∷◌, Option, Some, None, Ok, Err, refl, sym, subst, ap, inl, inr, ◌∙◌, arith, length, nat_lt}
 use Rattle.std.specs.Prelude.{◌==◌, ◌||◌, ◌&&◌, ◌↔◌, cond, IfSome, map, nat_eq}
 use Rattle.std.specs.List.{list_all, list_any, slice_get, sum_by}
 use Rattle.std.specs.Option.{option_map}
@@ -8,14 +8,10 @@ use Rattle.std.proofs.lemmas.Bool.{eq-eqb, eqb-true, ltb-true}
 use Rattle.std.proofs.lemmas.List.Sums.{sum_by-cons}
 use Rattle.std.proofs.lemmas.Option.{slice_get-map}
 use Rattle.mc_base.specs.Causes.{Rose}
-use Rattle.mc_base.specs.Told.{Told}
 use Rattle.mc_base.specs.declared.counted.Counted as counted
-use Rattle.mc_core.specs.Calls.{Faults}
 use Rattle.mc_core.specs.Events.{ReplicaState}
-use Rattle.mc_core.proofs.EventFacts.{breaks_rose}
 use Rattle.mc_keep.specs.Calls.{Members}
 use Rattle.mc_keep.specs.declared.keeper.Keeper as keeper
-use Rattle.mc_model.specs.Events.{Event}
 use Rattle.mc_script.specs.declared.command.Command.{Command}
 use Rattle.mc_script.specs.declared.command.Command.TheVariants.{Put, Del, Begin, BatchPut, BatchDel, Commit, Get, Has as HasKey, Query, Heads}
 use Rattle.mc_script.specs.declared.command.Command.TheVariants.{Cast, Wire, Hear, Plant, Link, Step as StepOf, Work, Repair, Storm, State, Same, Stop, Open, StopAt, StopAfter}
@@ -28,13 +24,14 @@ use Rattle.mc_app.specs.declared.world.World.{World}
 use Rattle.mc_app.specs.Asks.{arms, focus, has_message, is_among, is_named, is_there}
 use Rattle.mc_app.specs.Counting.{HasRecord, desk_counts, entry_since, fault_counts, own_counts, risen_from, rises}
 use Rattle.mc_app.specs.Keepers.{IsPaid, WorldGoes, armed_in, counted_in, desk_count, desks_in, is_calm, is_calm_desk, is_calm_keeper, keeper_of, own_in}
-use Rattle.mc_app.specs.Plans.{Leaves, Plan}
+use Rattle.mc_app.specs.Plans.{Leaves}
 use Rattle.mc_app.specs.Record.{NamesRisen, RoseAt, RoseIn}
-use Rattle.mc_app.specs.Step.{CutShort, LeavesStep, Row, ShortAt, is_fault}
+use Rattle.mc_app.specs.Step.{LeavesStep, Row, ShortIn, is_fault}
 use Rattle.mc_app.specs.Words.{ActsOn, DeskRose, KeeperRose, Names, OwnRose, Records, Shortens, state}
-use Rattle.mc_app.specs.Worlds.{MovedAt, Place, WorldState, places_of, state_at}
+use Rattle.mc_app.specs.Worlds.{MovedAt, WorldState, places_of}
 use Rattle.mc_app.proofs.SeatFacts.{both, fewer, first, paid_none, rest, set_of_get}
 use Rattle.mc_app.proofs.LiftFacts.{short_self}
+use Rattle.mc_app.proofs.WorkedFacts.{cut_map, short_still}
 
 -- whether the counts at a place rose
 
@@ -110,24 +107,6 @@ names_risen count olds news r =
 
 -- a row under other words
 
-faults_under : (Planned : ReplicaState → List Event → Reply → Type 0) (P Q : Type 0) (x y : Option ReplicaState) → (P → Q) → Told x y (λ s new. Faults (Planned s) P s new) → Told x y (λ s new. Faults (Planned s) Q s new)
-faults_under Planned P Q None y f told = tt
-faults_under Planned P Q (Some s) None f told = absurd told
-faults_under Planned P Q (Some s) (Some new) f told = record { events = told.events; begins = told.begins; breaks = breaks_rose told.events P Q s new f told.breaks }
-
-either_under : {A P Q : Type 0} → (P → Q) → (A ⊎ P) → (A ⊎ Q)
-either_under f (inl a) = inl a
-either_under f (inr p) = inr (f p)
-
-cut_under : (w : WorldState) (command : Command) (P Q : Type 0) (p q : Place) → (P → Q) → CutShort w command P p q → CutShort w command Q p q
-cut_under w command P Q p q f cut = record {
-  down = cut.down;
-  silent = cut.silent;
-  planted_same = cut.planted_same;
-  why = either_under f cut.why;
-  told = faults_under (λ s events reply. Plan w s command events reply) P Q (state_at p) (state_at q) f cut.told;
-}
-
 pub row_under : (w w2 : WorldState) (command : Command) (P Q R P2 Q2 R2 : ℕ → Type 0) (reply : Reply) → ((r : ℕ) → P r → P2 r) → ((r : ℕ) → Q r → Q2 r) → ((r : ℕ) → R r → R2 r) → Row w command P Q R reply w2 → Row w command P2 Q2 R2 reply w2
 row_under w w2 command P Q R P2 Q2 R2 reply f g h (inl (inl calm)) = inl (inl calm)
 row_under w w2 command P Q R P2 Q2 R2 reply f g h (inl (inr fault)) = inl (inr (record {
@@ -136,7 +115,7 @@ row_under w w2 command P Q R P2 Q2 R2 reply f g h (inl (inr fault)) = inl (inr (
   asked = fault.asked;
   cause = f fault.at fault.cause;
   says = fault.says;
-  moved = record { old = fault.moved.old; new = fault.moved.new; stands = fault.moved.stands; after = fault.moved.after; holds = cut_under w command (Q fault.at) (Q2 fault.at) fault.moved.old fault.moved.new (g fault.at) fault.moved.holds };
+  moved = record { old = fault.moved.old; new = fault.moved.new; stands = fault.moved.stands; after = fault.moved.after; holds = cut_map w command (Q fault.at) (Q2 fault.at) fault.moved.old fault.moved.new (g fault.at) fault.moved.holds };
   around = fault.around;
 }))
 row_under w w2 command P Q R P2 Q2 R2 reply f g h (inr fault) = inr (record {
@@ -190,6 +169,7 @@ zero_lists quiet count (xs ∷ lists) is =
 leaves_self : (command : Command) (s : ReplicaState) → Leaves command s s
 leaves_self (Del r key) s = inl refl
 leaves_self (StepOf r) s = inl refl
+leaves_self (Storm r writers writes) s = inl refl
 leaves_self command s = refl
 
 focus_within : (count : ℕ) (bag : List (List ℕ)) (command : Command) → is_among count bag command ≡ true → IfSome (focus command) (λ r. r < count)
@@ -213,9 +193,9 @@ focus_within count bag (StepOf r) there = ltb-true r count there
 focus_within count bag (State r) there = ltb-true r count there
 focus_within count bag (Stop r) there = ltb-true r count there
 focus_within count bag (Open r) there = ltb-true r count there
-focus_within count bag (Work r workers budget) there = absurd (true≢false (sym there))
-focus_within count bag (Repair r workers) there = absurd (true≢false (sym there))
-focus_within count bag (Storm r writers writes) there = absurd (true≢false (sym there))
+focus_within count bag (Work r workers budget) there = ltb-true r count there
+focus_within count bag (Repair r workers) there = ltb-true r count there
+focus_within count bag (Storm r writers writes) there = ltb-true r count there
 focus_within count bag (StopAt r commit) there = ltb-true r count there
 focus_within count bag (StopAfter r commit) there = ltb-true r count there
 
@@ -233,7 +213,7 @@ moved_self (Some r) xs P within self =
 pub leaves_itself : (w : WorldState) (command : Command) → is_there w command ≡ true → LeavesStep w command w
 leaves_itself w command there = record {
   there = there;
-  moved = moved_self (focus command) w.places (ShortAt command) (focus_within (length w.places) w.around.bag command there) (λ p. short_self command p p (leaves_self command) refl);
+  moved = moved_self (focus command) w.places (ShortIn w command) (focus_within (length w.places) w.around.bag command there) (λ p. short_still w command p (short_self command p p (leaves_self command) refl));
   around = refl;
 }
 

@@ -5,6 +5,10 @@ use Rattle.std.specs.Option.{option_or}
 use Rattle.mc_model.specs.State.{Running}
 use Rattle.mc_core.specs.declared.error.CoreError.{CoreError}
 use Rattle.mc_core.specs.declared.error.CoreError.TheVariants as core
+use Rattle.mc_drain.specs.declared.repairing.Repaired.{Repaired}
+use Rattle.mc_drain.specs.declared.repairing.Repaired.TheVariants as repaired
+use Rattle.mc_drain.specs.declared.working.Worked.{Worked}
+use Rattle.mc_drain.specs.declared.working.Worked.TheVariants as worked
 use Rattle.mc_script.specs.declared.command.Command.{Command}
 use Rattle.mc_script.specs.declared.command.Command.TheVariants.{Put, Del, Begin, BatchPut, BatchDel, Commit, Get, Has as HasKey, Query, Heads as HeadsOf}
 use Rattle.mc_script.specs.declared.command.Command.TheVariants.{Cast, Wire, Hear, Plant, Link, Step as StepOf, Work, Repair, Storm, State as StateOf, Same as SameOf, Stop, Open, StopAt, StopAfter}
@@ -13,6 +17,7 @@ use Rattle.mc_script.specs.declared.reply.Reply.TheVariants.{Idle, Processed, Mi
 use Rattle.mc_app.specs.Asks.{focus, has_message, is_among, is_there}
 use Rattle.mc_app.specs.Plans.{HasNumbers, HearsSome, IsIdle, IsReply, RefusedAt, open_reply, stop_reply}
 use Rattle.mc_app.specs.Step.{IsDone, Refuses, RefusedOf, answers_fault, either_reply, is_fault}
+use Rattle.mc_app.specs.Works.{repaired_reply, worked_reply}
 use Rattle.mc_app.specs.Worlds.{Place, WorldState}
 use Rattle.mc_app.proofs.PromiseFacts.{if_runs}
 use Rattle.mc_app.proofs.SeatFacts.{first}
@@ -37,6 +42,15 @@ idles_plainly run Missing h = refl
 idles_plainly run (Bad damage) h = refl
 idles_plainly run reply h = absurd h
 
+works_plainly : (value : Worked) → is_plain (worked_reply value) ≡ true
+works_plainly (worked.Done processed missing bad) = refl
+works_plainly (worked.Again processed) = refl
+
+repairs_plainly : (value : Repaired) → is_plain (repaired_reply value) ≡ true
+repairs_plainly repaired.Clean = refl
+repairs_plainly (repaired.Open gaps) = refl
+repairs_plainly (repaired.Again processed) = refl
+
 -- a command that is done is answered so
 pub done_plainly : (w : WorldState) (command : Command) (reply : Reply) (w2 : WorldState) → IsDone w command reply w2 → is_plain reply ≡ true
 done_plainly w (Put r key bytes) reply w2 done = ap is_plain done.moved.holds.0.1.1
@@ -60,9 +74,9 @@ done_plainly w (StateOf r) reply w2 done =
 done_plainly w (SameOf r other) reply w2 done = ap is_plain done.says.1
 done_plainly w (Stop r) reply w2 done = ap is_plain done.moved.holds.1
 done_plainly w (Open r) reply w2 done = ap is_plain done.moved.holds.1
-done_plainly w (Work r workers budget) reply w2 done = absurd done.moved.holds.0
-done_plainly w (Repair r workers) reply w2 done = absurd done.moved.holds.0
-done_plainly w (Storm r writers writes) reply w2 done = absurd done.moved.holds.0
+done_plainly w (Work r workers budget) reply w2 done = ap is_plain done.moved.holds.says ∙ works_plainly done.moved.holds.value
+done_plainly w (Repair r workers) reply w2 done = ap is_plain done.moved.holds.says ∙ repairs_plainly done.moved.holds.value
+done_plainly w (Storm r writers writes) reply w2 done = ap is_plain done.moved.holds.says
 done_plainly w (StopAt r commit) reply w2 done = ap is_plain done.moved.holds.1
 done_plainly w (StopAfter r commit) reply w2 done = ap is_plain done.moved.holds.1
 
@@ -76,9 +90,6 @@ focus_within count bag (Wire bytes) there = tt
 focus_within count bag (Hear r message) there = first (nat_lt r count) (has_message bag message) there
 focus_within count bag (Link r other up) there = tt
 focus_within count bag (SameOf r other) there = tt
-focus_within count bag (Work r workers budget) there = absurd (true≢false (sym there))
-focus_within count bag (Repair r workers) there = absurd (true≢false (sym there))
-focus_within count bag (Storm r writers writes) there = absurd (true≢false (sym there))
 focus_within count bag command there = there
 
 -- no refusal is a fault

@@ -4,6 +4,7 @@ use Rattle.std.specs.Prelude.{◌⊎◌, ⊤, IfOk, IfSome}
 use Rattle.mc_base.specs.Causes.{Rose}
 use Rattle.mc_base.specs.Told.{Told}
 use Rattle.mc_base.specs.declared.counted.Counted as counted
+use Rattle.mc_base.proofs.Telling.{told_weaker}
 use Rattle.mc_fetch.specs.declared.plants.Planted.{Planted}
 use Rattle.mc_keep.specs.Calls.{Members}
 use Rattle.mc_keep.specs.Causes.{Kind, Refusal, Fault, Shortage, has_fired, is_fault_kind}
@@ -25,7 +26,7 @@ use Rattle.mc_core.specs.Replica.{running_of}
 use Rattle.mc_core.specs.Words.{Continues, TellsSame as ReplicaTells}
 use Rattle.mc_script.specs.declared.command.Command.{Command}
 use Rattle.mc_script.specs.declared.command.Command.TheVariants.{Put, Del, Begin, BatchPut, BatchDel, Commit, Get, Has, Query, Heads}
-use Rattle.mc_script.specs.declared.command.Command.TheVariants.{Cast, Hear, Plant, State, Stop, Open, StopAt, StopAfter}
+use Rattle.mc_script.specs.declared.command.Command.TheVariants.{Cast, Hear, Plant, Work, Repair, Storm, State, Stop, Open, StopAt, StopAfter}
 use Rattle.mc_script.specs.declared.reply.Reply.{Reply}
 use Rattle.mc_script.specs.declared.reply.Reply.TheVariants.{Stopped}
 use Rattle.mc_app.specs.declared.acting.ActError.{ActError}
@@ -37,10 +38,11 @@ use Rattle.mc_app.specs.declared.seat.Seat.{Seat}
 use Rattle.mc_app.specs.Asks.{arms}
 use Rattle.mc_app.specs.Calls.{BatchBy, CallLeaves, CallMakes, FormBy, is_call, only_runs}
 use Rattle.mc_app.specs.Plans.{AsksAt, CallRefusal, CallRefused, DoneAt, Exact, Happens, Leaves, Plan, RefusedAt, answer_of, call_front, front_at}
-use Rattle.mc_app.specs.Step.{ShortAt, answers_fault, is_fault}
+use Rattle.mc_app.specs.Step.{FaultsOf, ShortAt, answers_fault, is_fault}
 use Rattle.mc_app.specs.Words.{EarlyRow, KeeperGoes, PlaceRow, SeatActsIn, can_fail, place}
 use Rattle.mc_app.specs.Worlds.{Place, WorldState, state_at}
 use Rattle.mc_app.proofs.GoesFacts.{keeper_goes, keeper_still, no_fault}
+use Rattle.mc_app.proofs.WorkedFacts.{faults_from, is_long}
 
 pub no_error : {P : Type 0} {T E : Type 0} {value : T} {error : E} → Ok value ≡ Err error → P
 no_error {T = T} {E = E} {value = value} {error = error} e = absurd (let f : (let r : Result T E = Ok value in r) ≡ Err error = e in cc)
@@ -70,6 +72,12 @@ asks_from : (w : WorldState) (p : Place) (command : Command) → is_acting comma
 asks_from w p (Open r) is x = no_fault is
 asks_from w p command is x = x
 
+not_long : (command : Command) → is_acting command ≡ true → is_long command ≡ false
+not_long (Work r workers budget) is = no_fault is
+not_long (Repair r workers) is = no_fault is
+not_long (Storm r writers writes) is = no_fault is
+not_long command is = refl
+
 no_arms : (command : Command) → is_acting command ≡ true → arms command ≡ 0
 no_arms (StopAt r commit) is = no_fault is
 no_arms (StopAfter r commit) is = no_fault is
@@ -78,6 +86,9 @@ no_arms command is = refl
 done_from : (w : WorldState) (command : Command) (p q : Place) (reply : Reply) → is_call command ≡ true → Exact command p q reply → Happens w command p q reply → DoneAt w command p q reply
 done_from w (Cast r) p q reply is exact happens = no_fault is
 done_from w (Plant r cid bytes) p q reply is exact happens = no_fault is
+done_from w (Work r workers budget) p q reply is exact happens = no_fault is
+done_from w (Repair r workers) p q reply is exact happens = no_fault is
+done_from w (Storm r writers writes) p q reply is exact happens = no_fault is
 done_from w (State r) p q reply is exact happens = no_fault is
 done_from w (Stop r) p q reply is exact happens = no_fault is
 done_from w (Open r) p q reply is exact happens = no_fault is
@@ -146,7 +157,7 @@ module _ (w : WorldState) (command : Command) (named own : Type 0) (p q : Place)
   pub err_early : (error : CoreError) → is_acting command ≡ true → ByKind (q ≡ p) ⊤ ⊤ (kind_of error) → ByKind (seen_of error ≡ front_at w p command) (seen_of error ≡ front_at w p command) ⊤ (kind_of error)
       → ByKind ⊤ (Fell command named own p q) ⊤ (kind_of error) → (p.content ≡ None → q.content ≡ None) → q.planted ≡ p.planted → CallsHere (Err error) → IfOk (answer_of error) (EarlyRow w command named own p q)
   err_early core.KeeperFault acts same seen fell silent planted call =
-      inr (fell.can, fell.cause, asks_from w p command acts (sym seen), refl, record { down = fell.down; silent = silent; planted_same = planted; why = fell.why; told = call })
+      inr (fell.can, fell.cause, asks_from w p command acts (sym seen), refl, record { down = fell.down; silent = silent; planted_same = planted; why = fell.why; told = told_weaker (λ s new. Faults (λ events reply. Plan w s command events reply) own s new) (FaultsOf w command own) (faults_from w command (not_long command acts) own) (state_at p) (state_at q) call })
   err_early core.Memory acts same seen fell silent planted call = tt
   err_early error acts same seen fell silent planted call =
       inl (refused_from w p command _ acts (error, seen, told_refused (λ s. CallRefusal w s command (Some error)) (state_at p) (state_at q) call, refl), same)
@@ -220,7 +231,7 @@ fault_answered error = refl
 
 -- a count is not armed by a call of a replica, and its faults are those that it answers
 
-why_of : {own : Type 0} (b : Bool) → (b ≡ false → own) → (b ≡ true) ⊎ own
+pub why_of : {own : Type 0} (b : Bool) → (b ≡ false → own) → (b ≡ true) ⊎ own
 why_of true rose = inl refl
 why_of false rose = inr (rose refl)
 

@@ -38,7 +38,7 @@ use Rattle.mc_app.specs.Fetching.{IsFound, found_among, offers_of}
 use Rattle.mc_app.specs.Keepers.{IsPaid, WorldGoes, armed_at, armed_in, desk_count, desks_in, is_calm, is_calm_desk, is_calm_keeper, keeper_of, own_in}
 use Rattle.mc_app.specs.Plans.{AsksAt, DoneAt, RefusedAt}
 use Rattle.mc_app.specs.Record.{RoseAt, RoseIn}
-use Rattle.mc_app.specs.Step.{CutShort, GivesBack, LeavesStep, Row, ShortAt, answers_fault, is_fault}
+use Rattle.mc_app.specs.Step.{CutShort, GivesBack, LeavesStep, PeerBreaks, Row, ShortAt, ShortIn, answers_fault, is_fault}
 use Rattle.mc_app.specs.StepParts.{AllDesksGo, BacksAt, Begun, BeginsAt, DeliversAt, IsFlying, IsFoundAt, IsFoundFor, IsOfferedBy, PeerFailed, SameButDesks, StepRow, are_calm, given_up_of, peers_among}
 use Rattle.mc_app.specs.Words.{ActsOn, DeskRose, KeeperGoes, KeeperRose, OwnRose, PlaceRow, place, state}
 use Rattle.mc_app.specs.Worlds.{AtPlace, Moved, Place, WorldState, is_down, is_linked, is_marked, is_up, joins, peer_row, peers_of, picked, state_at}
@@ -265,14 +265,14 @@ module _ {K D : Type 0} {g : keeper.Ghosts K D} {h : counted.Ghosts K} {i : coun
       allowed = at_place (λ p. RefusedAt (W old) p (Step r) None) allowed;
       cause = failed.rose;
       says = refl;
-      moved = moved GivesBack back;
+      moved = moved (PeerBreaks (W old) (Step r)) back;
       around = around;
     })
 
     pub short_in : ShortAt (Step r) (place k x) (place k y) → LeavesStep (W old) (Step r) (W new)
     short_in short = record {
       there = within (W old).places r (place k x) there;
-      moved = moved (ShortAt (Step r)) short;
+      moved = moved (ShortIn (W old) (Step r)) short;
       around = around;
     }
       where

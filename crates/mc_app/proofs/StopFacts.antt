@@ -12,7 +12,7 @@ use Rattle.mc_core.specs.declared.error.CoreError.{CoreError}
 use Rattle.mc_core.specs.declared.error.CoreError.TheVariants as core
 use Rattle.mc_script.specs.declared.command.Command.{Command}
 use Rattle.mc_script.specs.declared.command.Command.TheVariants.{Put, Del, Begin, BatchPut, BatchDel, Commit}
-use Rattle.mc_script.specs.declared.command.Command.TheVariants.{Wire, Hear, Plant, Link, Work, Repair, Storm, State as StateOf, Same as SameOf, Stop, Open, StopAt, StopAfter}
+use Rattle.mc_script.specs.declared.command.Command.TheVariants.{Wire, Hear, Plant, Link, State as StateOf, Same as SameOf, Stop, Open, StopAt, StopAfter}
 use Rattle.mc_script.specs.declared.reply.Reply.{Reply}
 use Rattle.mc_script.specs.declared.reply.Reply.TheVariants.{Stopped}
 use Rattle.mc_app.specs.declared.acting.ActError.{ActError}
@@ -195,9 +195,6 @@ module _ (w : WorldState) (r other : ℕ) (there : is_there w (SameOf r other) �
 refuses_stopped : (w : WorldState) (command : Command) → is_there w command ≡ true → Refuses w command (Some Stopped) → some_stopped w (asks_running command) ≡ true
 refuses_stopped w (Wire bytes) there h = absurd (true≢false (ap is_some h))
 refuses_stopped w (Link r other up) there h = absurd (true≢false (ap is_some h))
-refuses_stopped w (Work r workers budget) there h = absurd (true≢false (sym there))
-refuses_stopped w (Repair r workers) there h = absurd (true≢false (sym there))
-refuses_stopped w (Storm r writers writes) there h = absurd (true≢false (sym there))
 refuses_stopped w (SameOf r other) there h = due_same w r other there h
 refuses_stopped w (Plant r cid bytes) there h = absurd (true≢false (ap is_some (at_there w r (λ p. RefusedAt w p (Plant r cid bytes) (Some Stopped)) there h).2))
 refuses_stopped w (StopAt r commit) there h = absurd (true≢false (ap is_some (at_there w r (λ p. RefusedAt w p (StopAt r commit) (Some Stopped)) there h).2))

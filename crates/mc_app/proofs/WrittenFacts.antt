@@ -208,7 +208,7 @@ commit_is_processed grow law w r entry priority w2 step some = over step.row
 
 -- the blocks of a delete, one after another
 
-made_order : (stored : Bool) (changes : Changes) (cid : Cid) (durable : Durable) (run : Option Running) (fuse : Option Fuse)
+pub made_order : (stored : Bool) (changes : Changes) (cid : Cid) (durable : Durable) (run : Option Running) (fuse : Option Fuse)
     → MayHappen (record { state = record { durable = durable; run = run }; fuse = fuse }) (with_store (cond stored None (Some changes)) (Process (cid ∷ []) ∷ []))
     → (all_happen (record { state = record { durable = durable; run = run }; fuse = fuse }) (with_store (cond stored None (Some changes)) (Process (cid ∷ []) ∷ []))).state.durable.order ≡ durable.order ++ cid ∷ []
 made_order true changes cid durable (Some run) fuse may = refl

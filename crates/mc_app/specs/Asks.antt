@@ -73,7 +73,7 @@ has_message bag message = nat_lt 0 message && not (nat_lt (length bag) message)
 abbrev pub message_at : List (List ℕ) → ℕ → List ℕ
 message_at bag message = unwrap_or (slice_get bag (message - 1)) []
 
--- whether all that a command names is there, of so many replicas and of these messages; nothing works, repairs or storms yet
+-- whether all that a command names is there, of so many replicas and of these messages
 abbrev pub is_among : ℕ → List (List ℕ) → Command → Bool
 is_among count bag (Put r key bytes) = nat_lt r count
 is_among count bag (Del r key) = nat_lt r count
@@ -91,9 +91,9 @@ is_among count bag (Hear r message) = nat_lt r count && has_message bag message
 is_among count bag (Plant r cid bytes) = nat_lt r count
 is_among count bag (Link r other up) = nat_lt r count && nat_lt other count
 is_among count bag (Step r) = nat_lt r count
-is_among count bag (Work r workers budget) = false
-is_among count bag (Repair r workers) = false
-is_among count bag (Storm r writers writes) = false
+is_among count bag (Work r workers budget) = nat_lt r count
+is_among count bag (Repair r workers) = nat_lt r count
+is_among count bag (Storm r writers writes) = nat_lt r count
 is_among count bag (State r) = nat_lt r count
 is_among count bag (Same r other) = nat_lt r count && nat_lt other count
 is_among count bag (Stop r) = nat_lt r count

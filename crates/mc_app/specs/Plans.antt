@@ -30,10 +30,12 @@ use Rattle.mc_core.specs.Puts.{put_refusal, PutPlan}
 use Rattle.mc_core.specs.Reads.{read_refusal, OnlyReads}
 use Rattle.mc_core.specs.Refusals.{ByKind, Is, kind_of, key_refusal, no_batch_refusal, open_batch_refusal}
 use Rattle.mc_fetch.specs.Plants.{planted_with}
+use Rattle.mc_node.specs.Storms.{StormLeads, StormPauses}
+use Rattle.mc_node.specs.declared.storming.Stormed.{Stormed}
 use Rattle.mc_script.specs.declared.command.Command.{Command}
 use Rattle.mc_script.specs.declared.command.Command.TheVariants.{Put, Del, Begin, BatchPut, BatchDel, Commit}
 use Rattle.mc_script.specs.declared.command.Command.TheVariants.{Get, Has as HasKey, Query, Heads as HeadsOf}
-use Rattle.mc_script.specs.declared.command.Command.TheVariants.{Cast, Hear, Plant, Step, State as StateOf, Stop, Open, StopAt, StopAfter}
+use Rattle.mc_script.specs.declared.command.Command.TheVariants.{Cast, Hear, Plant, Step, Work, Repair, Storm, State as StateOf, Stop, Open, StopAt, StopAfter}
 use Rattle.mc_script.specs.declared.reply.Reply.{Reply}
 use Rattle.mc_script.specs.declared.reply.Reply.TheVariants.{Done, Priority, Deleted, Value, Has, Rows, Heads, State, Queued}
 use Rattle.mc_script.specs.declared.reply.Reply.TheVariants.{Idle, Processed, Missing, Bad, Stopped, FaultKeeper, RefusedOpen}
@@ -42,6 +44,8 @@ use Rattle.mc_app.specs.declared.acting.ActError.{ActError}
 use Rattle.mc_app.specs.declared.acting.ActError.TheVariants.{Memory}
 use Rattle.mc_app.specs.Asks.{message_at}
 use Rattle.mc_app.specs.Fetching.{StepPlan}
+use Rattle.mc_app.specs.Storming.{stormed_reply}
+use Rattle.mc_app.specs.Works.{RepairDone, WorkDone, budget_of}
 use Rattle.mc_app.specs.Worlds.{IfRuns, Place, WorldState, is_down, peers_of, state_at}
 
 -- what is answered where a call of a replica did nothing, or not all
@@ -93,11 +97,12 @@ CallRefusal w s (Commit r) = Is (commit_refusal s)
 CallRefusal w s (Hear r message) = Is (hear_refusal s (message_at w.around.bag message))
 CallRefusal w s command = Is (read_refusal s)
 
--- what a want of memory leaves: the replica as it was; of a delete, some first blocks may be made; and the block of a
--- step may have come to the back of those that wait
+-- what a want of memory leaves: the replica as it was; of a delete, some first blocks may be made; the block of a step
+-- may have come to the back of those that wait; and of a storm, some first calls of each writer may be made
 abbrev pub Leaves : Command → ReplicaState → ReplicaState → Type 0
 Leaves (Del r key) s left = DeleteShort s key left
 Leaves (Step r) s left = Stays s left ⊎ NextShort s left
+Leaves (Storm r writers writes) s left = Stays s left ⊎ StormPauses writers writes s left
 Leaves command s left = Stays s left
 
 -- the events of a command that is not refused, and its reply
@@ -141,6 +146,14 @@ pub record RunsOn (B : Option OpenBatch → Option OpenBatch → Type 0) (p q : 
 
 abbrev pub SameBatch : Option OpenBatch → Option OpenBatch → Type 0
 SameBatch old new = new ≡ old
+
+-- A storm has made all its writes, and this is answered for it: over every keeper the replica runs on, with the same
+-- batch, and where the content is told the calls are an interleaving of those of all writers.
+pub record StormDone (writers writes : ℕ) (p q : Place) (reply : Reply) : Type 0 where
+  pub value : Stormed
+  pub says : reply ≡ stormed_reply value
+  pub runs : RunsOn SameBatch p q
+  pub told : Told (state_at p) (state_at q) (StormLeads writers writes (Ok value) ⊥)
 
 -- the keeper's content and its fuse are as before
 abbrev pub TellsSame : Place → Place → Type 0
@@ -224,6 +237,9 @@ abbrev pub DoneAt : WorldState → Command → Place → Place → Reply → Typ
 DoneAt w (Cast r) p q reply = q ≡ p
 DoneAt w (Plant r cid bytes) p q reply =
     (q ≡ record p { planted = planted_with p.planted (record { cid = cid; bytes = bytes }) }) × (reply ≡ Done)
+DoneAt w (Work r workers budget) p q reply = WorkDone (peers_of w r) (budget_of budget) p q reply
+DoneAt w (Repair r workers) p q reply = RepairDone (peers_of w r) p q reply
+DoneAt w (Storm r writers writes) p q reply = StormDone writers writes p q reply
 DoneAt w (StateOf r) p q reply = (q ≡ p) × IsState p reply
 DoneAt w (Stop r) p q reply = (q ≡ record p { run = None }) × (reply ≡ Done)
 DoneAt w (Open r) p q reply = Opens p q × (reply ≡ Done)

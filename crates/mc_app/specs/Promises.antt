@@ -1,18 +1,21 @@
 -- What is promised of every run.
-use Rattle.std.specs.Prelude.{◌≡◌, ⊤, ℕ, ◌==◌, ◌&&◌, ◌||◌, Bool, true, false, List, [], ◌∷◌, ◌++◌, length, take, Option, Some, None, is_some, slice_get}
+use Rattle.std.specs.Prelude.{◌≡◌, ◌≤◌, ⊤, ℕ, ◌+◌, ◌==◌, ◌&&◌, ◌||◌, Bool, true, false, List, [], ◌∷◌, ◌++◌, length, take, drop, suc, Option, Some, None, IfSome, is_some, slice_get}
 use Rattle.std.specs.List.{list_any}
 use Rattle.mc_base.specs.Told.{Told}
 use Rattle.mc_base.specs.declared.cid.Cid.{Cid}
 use Rattle.mc_keep.specs.Causes.{has_fired}
 use Rattle.mc_keep.specs.declared.fuse.Fuse.{Fuse}
 use Rattle.mc_model.specs.Events.{GoesOn}
+use Rattle.mc_model.specs.Front.{gaps}
 use Rattle.mc_model.specs.Kept.{Kept}
 use Rattle.mc_model.specs.Made.{made_cid}
-use Rattle.mc_model.specs.State.{OpenBatch, durable_of, kept_of}
+use Rattle.mc_model.specs.State.{OpenBatch, blocks_of, durable_of, kept_of}
 use Rattle.mc_model.specs.declared.delta.Delta.{Delta}
 use Rattle.mc_core.specs.Batches.{delta_of_batch}
 use Rattle.mc_core.specs.Deletes.{IsDeltas}
+use Rattle.mc_core.specs.Events.{ReplicaState}
 use Rattle.mc_core.specs.Puts.{next_links}
+use Rattle.mc_drain.specs.Reached.{AreReached}
 use Rattle.mc_script.specs.Line.{line_of}
 use Rattle.mc_script.specs.declared.command.Command.{Command}
 use Rattle.mc_script.specs.declared.command.Command.TheVariants.{Put, Del, Begin, BatchPut, BatchDel, Commit, Get, Has, Query, Heads}
@@ -97,6 +100,15 @@ read_at other (Query r prefix skip take) = Query other prefix skip take
 read_at other (Heads r) = Heads other
 read_at other command = command
 
+-- between two worlds the replica with this number has processed at least so many blocks more, where its content is told
+pub record HasMore (w : WorldState) (r : ℕ) (count : ℕ) (w2 : WorldState) : Type 0 where
+  pub old : Place
+  pub new : Place
+  pub stood : slice_get w.places r ≡ Some old
+  pub stands : slice_get w2.places r ≡ Some new
+  pub processed : Told (state_at old) (state_at new) (λ s t.
+      length s.state.durable.order + count ≤ length t.state.durable.order)
+
 -- the line at this place, counted from 0, asks for this and is answered so
 pub record IsLineAt (lines : List (List ℕ)) (answers : List (Option Answer)) (k : ℕ) (command : Command) (reply : Reply)
     : Type 0 where
@@ -112,6 +124,24 @@ abbrev pub SinceLine : WorldState → List (List ℕ) → List (Option Answer) �
     → (WorldState → WorldState → Type 0) → Type 0
 SinceLine first lines answers k last P =
     (before : WorldState) × Runs first (take k lines) (take k answers) before × P before last
+
+-- P holds of the world after the line at this place, from which the lines behind it lead to the last world
+pub record AfterLine (first : WorldState) (lines : List (List ℕ)) (answers : List (Option Answer)) (k : ℕ)
+    (last : WorldState) (P : WorldState → Type 0) : Type 0 where
+  pub after : WorldState
+  pub before : Runs first (take (suc k) lines) (take (suc k) answers) after
+  pub behind : Runs after (drop (suc k) lines) (drop (suc k) answers) last
+  pub holds : P after
+
+-- no gap is left, and the processed blocks are those that the heads reach
+abbrev pub IsSettled : ReplicaState → Type 0
+IsSettled s = (gaps (blocks_of s.state.durable) ≡ []) × AreReached s.state.durable
+
+-- so it is at the replica with this number, where its content is told
+pub record HasSettled (w : WorldState) (r : ℕ) : Type 0 where
+  pub place : Place
+  pub stands : slice_get w.places r ≡ Some place
+  pub settled : IfSome (state_at place) IsSettled
 
 -- a replica tells what it keeps
 abbrev pub tells_at : Option Place → Bool

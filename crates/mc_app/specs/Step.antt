@@ -11,15 +11,21 @@ use Rattle.mc_core.specs.Calls.{Faults}
 use Rattle.mc_core.specs.Events.{ReplicaState}
 use Rattle.mc_core.specs.Hears.{written_cast}
 use Rattle.mc_core.specs.Jobs.{tried_first}
+use Rattle.mc_drain.specs.Repairs.{RepairLeads}
+use Rattle.mc_drain.specs.Works.{WorkLeads}
+use Rattle.mc_drain.specs.declared.working.WorkError.TheVariants as broke
+use Rattle.mc_node.specs.Storms.{StormLeads}
+use Rattle.mc_node.specs.declared.storming.StormError.TheVariants as storm
 use Rattle.mc_script.specs.declared.command.Command.{Command}
-use Rattle.mc_script.specs.declared.command.Command.TheVariants.{Cast, Wire, Link as LinkOf, Same as SameOf, Step as StepOf}
+use Rattle.mc_script.specs.declared.command.Command.TheVariants.{Cast, Wire, Link as LinkOf, Same as SameOf, Step as StepOf, Work, Repair, Storm}
 use Rattle.mc_script.specs.declared.reply.Reply.{Reply}
 use Rattle.mc_script.specs.declared.reply.Reply.TheVariants.{Done, Message, Same, FaultKeeper, FaultPeer}
 use Rattle.mc_app.specs.declared.entry.LineEntry.{LineEntry}
 use Rattle.mc_app.specs.declared.links.Link.{Link}
 use Rattle.mc_app.specs.Asks.{focus, is_named, is_there, may_fail}
 use Rattle.mc_app.specs.Plans.{AsksAt, DoneAt, Leaves, Plan, RefusedAt, RunOn, SameBatch, stop_reply}
-use Rattle.mc_app.specs.Worlds.{Around, AtPlace, IfRuns, Moved, MovedAt, Place, WorldState, is_marked, joins, peer_row, state_at}
+use Rattle.mc_app.specs.Works.{RepairsTo, WorksTo, budget_of, offered_by, repair_budget}
+use Rattle.mc_app.specs.Worlds.{Around, AtPlace, IfRuns, Moved, MovedAt, Place, WorldState, is_marked, joins, peer_row, peers_of, state_at}
 
 -- `fault keeper` or `fault peer`
 abbrev pub is_fault : Reply → Bool
@@ -92,19 +98,35 @@ abbrev pub Says : WorldState → Command → Reply → Type 0
 Says w (SameOf r other) reply = SaysSame w r other reply
 Says w command reply = ⊤
 
--- events of a replica were cut short by a fault of its keeper, and it has stopped: its fuse fired, or the keeper failed
--- by itself
+-- what a fault of the keeper leaves, where the content is told: a work, a repair or a storm has led to this before it,
+-- and of every other command the events are cut short
+abbrev pub FaultsOf : WorldState → Command → Type 0 → ReplicaState → ReplicaState → Type 0
+FaultsOf w (Work r workers budget) own =
+    WorkLeads (budget_of budget) (offered_by (peers_of w r)) (Err broke.KeeperFault)
+FaultsOf w (Repair r workers) own = RepairLeads repair_budget (offered_by (peers_of w r)) (Err broke.KeeperFault)
+FaultsOf w (Storm r writers writes) own = StormLeads writers writes (Err storm.KeeperFault) own
+FaultsOf w command own = λ s new. Faults (λ events reply. Plan w s command events reply) own s new
+
+-- a command was cut short at a replica by a fault of its keeper, and the replica has stopped: its fuse fired, or the
+-- keeper failed by itself
 pub record CutShort (w : WorldState) (command : Command) (own : Type 0) (p q : Place) : Type 0 where
   pub down : q.run ≡ None
   pub silent : p.content ≡ None → q.content ≡ None
   pub planted_same : q.planted ≡ p.planted
   pub why : (has_fired p.fuse q.fuse ≡ true) ⊎ own
-  pub told : Told (state_at p) (state_at q) (λ s new. Faults (λ events reply. Plan w s command events reply) own s new)
+  pub told : Told (state_at p) (state_at q) (FaultsOf w command own)
 
 -- the first block that waits came to the back of those that wait
 abbrev pub GivesBack : Place → Place → Type 0
 GivesBack p q = IfRuns p.run (λ run. (run.queue.waiting ≢ [])
     × (q ≡ record p { run = Some (record run { queue = tried_first run.queue run.queue.waiting }) }))
+
+-- what a fault of a peer's desk leaves of the replica that fetched: the job of a step is given back, and of a work or a
+-- repair what was processed so far stays, and nothing is in flight
+abbrev pub PeerBreaks : WorldState → Command → Place → Place → Type 0
+PeerBreaks w (Work r workers budget) = WorksTo (peers_of w r) (budget_of budget) (Err broke.PeerFault)
+PeerBreaks w (Repair r workers) = RepairsTo (peers_of w r) (Err broke.PeerFault)
+PeerBreaks w command = GivesBack
 
 -- the command is refused with this reply, and nothing has changed
 pub record IsRefused (w : WorldState) (command : Command) (reply : Reply) (w2 : WorldState) : Type 0 where
@@ -133,9 +155,11 @@ pub record IsFaulted (w : WorldState) (command : Command) (named own : ℕ → T
 -- whether a command fetches from this replica
 abbrev pub asks_peer : WorldState → Command → ℕ → Bool
 asks_peer w (StepOf r) peer = is_marked (peer_row w.around.down r 0 w.places) peer
+asks_peer w (Work r workers budget) peer = is_marked (peer_row w.around.down r 0 w.places) peer
+asks_peer w (Repair r workers) peer = is_marked (peer_row w.around.down r 0 w.places) peer
 asks_peer w command peer = false
 
--- A desk of a peer failed: the job was given back, and all else is as it was. `named` says of which replicas a desk
+-- A desk of a peer failed, and all but the replica that fetched is as it was. `named` says of which replicas a desk
 -- failed.
 pub record IsPeerFault (w : WorldState) (command : Command) (named : ℕ → Type 0) (reply : Reply) (w2 : WorldState)
     : Type 0 where
@@ -144,7 +168,7 @@ pub record IsPeerFault (w : WorldState) (command : Command) (named : ℕ → Typ
   pub allowed : Refuses w command None
   pub cause : named at
   pub says : reply ≡ FaultPeer
-  pub moved : MovedAt (focus command) w.places w2.places GivesBack
+  pub moved : MovedAt (focus command) w.places w2.places (PeerBreaks w command)
   pub around : w2.around ≡ w.around
 
 -- a command does one of the four
@@ -171,8 +195,15 @@ pub record ShortAt (command : Command) (p q : Place) : Type 0 where
   pub planted_same : q.planted ≡ p.planted
   pub told : Told (state_at p) (state_at q) (Leaves command)
 
+-- the same by command: a work or a repair leaves the replica as it was, or what was processed so far stays
+abbrev pub ShortIn : WorldState → Command → Place → Place → Type 0
+ShortIn w (Work r workers budget) =
+    λ p q. (q ≡ p) ⊎ WorksTo (peers_of w r) (budget_of budget) (Err broke.Memory) p q
+ShortIn w (Repair r workers) = λ p q. (q ≡ p) ⊎ RepairsTo (peers_of w r) (Err broke.Memory) p q
+ShortIn w command = ShortAt command
+
 -- what it leaves of a world
 pub record LeavesStep (w : WorldState) (command : Command) (w2 : WorldState) : Type 0 where
   pub there : is_there w command ≡ true
-  pub moved : MovedAt (focus command) w.places w2.places (ShortAt command)
+  pub moved : MovedAt (focus command) w.places w2.places (ShortIn w command)
   pub around : w2.around ≡ w.around

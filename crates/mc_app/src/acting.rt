@@ -11,13 +11,16 @@ use crate::World;
 use crate::asks::is_there;
 use crate::messages::{cast_in, hear_in, send_in};
 use crate::places::{arm_in, link_in, open_in, plant_in, reply_in, stop_in};
+use crate::pulling::{repair_in, work_in};
 use crate::record::{counts_of, record_line};
 use crate::sames::same_in;
 use crate::stepping::step_in;
+use crate::storming::storm_in;
 use mc_keep::{Fused, Keeper};
 use mc_script::{Command, Reply};
 use std::alloc::{AllocError, Global};
 use std::sync::Wait;
+use std::thread::Threads;
 use thiserror::Error;
 
 /// Why a command was not answered.
@@ -47,14 +50,19 @@ impl From<AllocError> for ActError {
 /// are quiet and have not failed, it names none that failed by itself. `BadLine` comes exactly where the command names a
 /// replica or a message that isn't there, and changes nothing. After `Memory` the record is as it was, and the command
 /// is done, or its replica is what a want of memory in the call leaves: as it was, after some first blocks of a delete,
-/// or with the first block that waited at the back of those that wait. Each fault that is answered is paid by a count
-/// that rose, or by a fuse that is armed no more.
-pub fn act<K: Keeper, W: Wait>(
+/// with the first block that waited at the back of those that wait, after some blocks of a work or a repair, with
+/// nothing in flight, or after some first calls of a storm's writers. What a work or a repair comes to depends on no
+/// number of workers. The writers of a storm run in these threads. Each fault that is answered is paid by a count that
+/// rose, or by a fuse that is armed no more.
+pub fn act<K: Keeper + Send + Sync, T: Threads + Sync, W: Wait + Sync>(
     world: &mut World<Fused<K>>,
     alloc: Global,
     command: &Command,
+    threads: &T,
     wait: &W,
 ) -> Result<Reply, ActError>
+where
+    K::Desk: Send,
     requires limits { IsInLimits command.now }
     ensures line { IfOk result (Records ⟦<Fused<K> as Keeper>⟧ K.Desk.faults command.now world.old world.new) }
     ensures bad { IsErrOf result ActError.BadLine →
@@ -69,7 +77,7 @@ pub fn act<K: Keeper, W: Wait>(
         return Err(ActError::BadLine);
     }
     let before = counts_of(world, alloc)?;
-    let reply = act_on(world, alloc, command, wait)?;
+    let reply = act_on(world, alloc, command, threads, wait)?;
     match record_line(world, alloc, &before) {
         Ok(()) => Ok(reply),
         Err(AllocError) => Err(ActError::Memory),
@@ -77,12 +85,15 @@ pub fn act<K: Keeper, W: Wait>(
 }
 
 // A command that names only what is there.
-fn act_on<K: Keeper, W: Wait>(
+fn act_on<K: Keeper + Send + Sync, T: Threads + Sync, W: Wait + Sync>(
     world: &mut World<Fused<K>>,
     alloc: Global,
     command: &Command,
+    threads: &T,
     wait: &W,
 ) -> Result<Reply, ActError>
+where
+    K::Desk: Send,
     requires limits { IsInLimits command.now }
     requires there { is_there (state ⟦<Fused<K> as Keeper>⟧ K.Desk.faults world.old) command.now ≡ true }
     ensures acts { ActsOn ⟦<Fused<K> as Keeper>⟧ K.Desk.faults command.now result world.old world.new }
@@ -94,7 +105,11 @@ fn act_on<K: Keeper, W: Wait>(
         Command::Plant { r, cid, bytes } => plant_in(world, alloc, *r, cid, bytes.as_slice()),
         Command::Link { r, other, up } => link_in(world, *r, *other, *up),
         Command::Step { r } => step_in(world, alloc, *r, wait),
-        Command::Work { .. } | Command::Repair { .. } | Command::Storm { .. } => unreachable!(),
+        Command::Work { r, workers, budget } => work_in(world, alloc, *r, *workers, *budget, wait),
+        Command::Repair { r, workers } => repair_in(world, alloc, *r, *workers, wait),
+        Command::Storm { r, writers, writes } => storm_in(
+            world, alloc, *r, *writers, *writes, threads, wait,
+        ),
         Command::Same { r, other } => same_in(world, *r, *other),
         Command::Stop { r } => stop_in(world, *r),
         Command::Open { r } => open_in(world, alloc, *r),

@@ -28,6 +28,7 @@ use mc_script::{Command, LineError, Reply, read_line, write_reply};
 use std::alloc::{AllocError, Global};
 use std::mem::replace;
 use std::sync::Wait;
+use std::thread::Threads;
 use thiserror::Error;
 
 /// Why a line was not executed, or its reply not written.
@@ -64,13 +65,16 @@ impl From<AllocError> for ExecuteError {
 /// message that isn't there, and then nothing is written and nothing changes. `Failed` comes only where the sink failed,
 /// and then some first bytes of the reply are written. Under `Memory` nothing is written, and the command was done, or
 /// nothing or a part of it.
-pub fn execute_line<K: Keeper, O: Sink, W: Wait>(
+pub fn execute_line<K: Keeper + Send + Sync, O: Sink, T: Threads + Sync, W: Wait + Sync>(
     alloc: Global,
     world: &mut World<Fused<K>>,
     line: &[u8],
     out: &mut O,
+    threads: &T,
     wait: &W,
 ) -> Result<(), ExecuteError>
+where
+    K::Desk: Send,
     ensures ok { OnOk result (ExecutesIn ⟦<Fused<K> as Keeper>⟧ K.Desk.faults (line_of line.now) world.old world.new
         (O.written out.old) (O.written out.new)) }
     ensures bad { IsErrOf result ExecuteError.Bad →
@@ -85,7 +89,7 @@ pub fn execute_line<K: Keeper, O: Sink, W: Wait>(
     ensures cause { Counts (O.faults out.old) (O.faults out.new) (IsErrOf result ExecuteError.Failed) }
 {
     match read_line(alloc, line) {
-        Ok(Some(command)) => answer(alloc, world, &command, out, wait),
+        Ok(Some(command)) => answer(alloc, world, &command, out, threads, wait),
         Ok(None) => Ok(()),
         Err(LineError::Bad) => Err(ExecuteError::Bad),
         Err(LineError::Memory) => Err(ExecuteError::Memory),
@@ -93,13 +97,16 @@ pub fn execute_line<K: Keeper, O: Sink, W: Wait>(
 }
 
 /// Executes a line of a world whose record is empty, writes its reply as `execute_line` does, and empties the record.
-pub fn execute_and_clear<K: Keeper, O: Sink, W: Wait>(
+pub fn execute_and_clear<K: Keeper + Send + Sync, O: Sink, T: Threads + Sync, W: Wait + Sync>(
     alloc: Global,
     world: &mut World<Fused<K>>,
     line: &[u8],
     out: &mut O,
+    threads: &T,
     wait: &W,
 ) -> Result<(), ExecuteError>
+where
+    K::Desk: Send,
     requires { world.old.entries ≡ [] }
     ensures ok { OnOk result (ExecutesIn ⟦<Fused<K> as Keeper>⟧ K.Desk.faults (line_of line.now) world.old world.new
         (O.written out.old) (O.written out.new)) }
@@ -115,7 +122,7 @@ pub fn execute_and_clear<K: Keeper, O: Sink, W: Wait>(
     ensures entries { world.new.entries ≡ [] }
     ensures cause { Counts (O.faults out.old) (O.faults out.new) (IsErrOf result ExecuteError.Failed) }
 {
-    let result = execute_line(alloc, world, line, out, wait);
+    let result = execute_line(alloc, world, line, out, threads, wait);
     clear_record(alloc, &mut world.entries);
     result
 }
@@ -130,13 +137,16 @@ fn clear_record(alloc: Global, entries: &mut List<LineEntry>)
 }
 
 // Does a command, and writes its reply.
-fn answer<K: Keeper, O: Sink, W: Wait>(
+fn answer<K: Keeper + Send + Sync, O: Sink, T: Threads + Sync, W: Wait + Sync>(
     alloc: Global,
     world: &mut World<Fused<K>>,
     command: &Command,
     out: &mut O,
+    threads: &T,
     wait: &W,
 ) -> Result<(), ExecuteError>
+where
+    K::Desk: Send,
     requires limits { IsInLimits command.now }
     ensures ok { OnOk result (ExecutesIn ⟦<Fused<K> as Keeper>⟧ K.Desk.faults (Some (Some command.now))
         world.old world.new (O.written out.old) (O.written out.new)) }
@@ -151,7 +161,7 @@ fn answer<K: Keeper, O: Sink, W: Wait>(
     ensures entries { IsLonger world.old.entries world.new.entries }
     ensures cause { Counts (O.faults out.old) (O.faults out.new) (IsErrOf result ExecuteError.Failed) }
 {
-    let reply = match act_on(alloc, world, command, wait) {
+    let reply = match act_on(alloc, world, command, threads, wait) {
         Ok(reply) => reply,
         Err(ActError::BadLine) => return Err(ExecuteError::Bad),
         Err(ActError::Memory) => return Err(ExecuteError::Memory),
@@ -175,12 +185,15 @@ fn write_answer<O: Sink>(alloc: Global, reply: &Reply, out: &mut O) -> Result<()
 }
 
 // Does a command, in the words of a line.
-fn act_on<K: Keeper, W: Wait>(
+fn act_on<K: Keeper + Send + Sync, T: Threads + Sync, W: Wait + Sync>(
     alloc: Global,
     world: &mut World<Fused<K>>,
     command: &Command,
+    threads: &T,
     wait: &W,
 ) -> Result<Reply, ActError>
+where
+    K::Desk: Send,
     requires limits { IsInLimits command.now }
     ensures answered { IfOk result (AnswersIn ⟦<Fused<K> as Keeper>⟧ K.Desk.faults command.now world.old world.new) }
     ensures bad { IsErrOf result ActError.BadLine →
@@ -190,5 +203,5 @@ fn act_on<K: Keeper, W: Wait>(
         CutsShortIn ⟦<Fused<K> as Keeper>⟧ K.Desk.faults command.now world.old world.new }
     ensures entries { IsLonger world.old.entries world.new.entries }
 {
-    act(world, alloc, command, wait)
+    act(world, alloc, command, threads, wait)
 }

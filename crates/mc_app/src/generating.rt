@@ -31,20 +31,25 @@ use mc_gen::{Summary, script};
 use mc_keep::{Fused, Keeper, KeeperPlan, Keepers};
 use std::alloc::Global;
 use std::sync::Wait;
+use std::thread::Threads;
 
 // The replicas of a generated script.
 const REPLICAS: u64 = 3;
 
 /// Runs the script that is generated from a start and a count over the keepers of three replicas in memory, and writes the
 /// summary of its output, or `bad line N` alone where a line of it is bad. Nothing else is written.
-pub(crate) fn generate<O: Sink, K: Keepers, W: Wait>(
+pub(crate) fn generate<O: Sink, K: Keepers, T: Threads + Sync, W: Wait + Sync>(
     alloc: Global,
     start: u64,
     count: u64,
     out: &mut O,
     keepers: &mut K,
+    threads: &T,
     wait: &W,
 ) -> Status
+where
+    K::K: Send + Sync,
+    <K::K as Keeper>::Desk: Send,
     requires { count ≤ 100000 }
     ensures no_usage { result ≢ Status.Usage }
     ensures no_read { result ≢ Status.ReadFault }
@@ -66,20 +71,23 @@ pub(crate) fn generate<O: Sink, K: Keepers, W: Wait>(
         Ok(parts) => parts,
         Err(cause) => return status_of(cause),
     };
-    let (status, parts) = generate_in(alloc, text, count, out, parts, wait);
+    let (status, parts) = generate_in(alloc, text, count, out, parts, threads, wait);
     give_back(keepers, parts);
     status
 }
 
 // Opens the world of some keepers, runs the script in it, and hands the keepers back.
-fn generate_in<O: Sink, K: Keeper, W: Wait>(
+fn generate_in<O: Sink, K: Keeper + Send + Sync, T: Threads + Sync, W: Wait + Sync>(
     alloc: Global,
     text: Bytes,
     count: u64,
     out: &mut O,
     parts: List<Part<Fused<K>>>,
+    threads: &T,
     wait: &W,
 ) -> (Status, List<Part<Fused<K>>>)
+where
+    K::Desk: Send,
     requires fresh { AreFresh ⟦<Fused<K> as Keeper>⟧.told ⟦<Fused<K> as Keeper>⟧.fuse parts }
     requires counted { owns_of ⟦<Fused<K> as Keeper>⟧ parts ≡ 0 }
     requires count { count ≤ 100000 }
@@ -98,7 +106,7 @@ fn generate_in<O: Sink, K: Keeper, W: Wait>(
     ensures calm_opens { are_calm ⟦<Fused<K> as Keeper>⟧ parts ≡ true → result.0 ≢ Status.KeeperFault }
 {
     match World::new(alloc, parts) {
-        Ok(world) => generate_world(alloc, text, count, out, world, wait),
+        Ok(world) => generate_world(alloc, text, count, out, world, threads, wait),
         Err(refused) => {
             let NoWorld { cause, parts } = refused;
             (status_of(cause), parts)
@@ -107,14 +115,17 @@ fn generate_in<O: Sink, K: Keeper, W: Wait>(
 }
 
 // Runs the script in a world of which nothing has failed, and ends it.
-fn generate_world<O: Sink, K: Keeper, W: Wait>(
+fn generate_world<O: Sink, K: Keeper + Send + Sync, T: Threads + Sync, W: Wait + Sync>(
     alloc: Global,
     text: Bytes,
     count: u64,
     out: &mut O,
     world: World<Fused<K>>,
+    threads: &T,
     wait: &W,
 ) -> (Status, List<Part<Fused<K>>>)
+where
+    K::Desk: Send,
     requires entries { world.entries ≡ [] }
     requires counted { counted_in ⟦<Fused<K> as Keeper>⟧ K.Desk.faults world ≡ 0 }
     requires unarmed { armed_in ⟦<Fused<K> as Keeper>⟧ world.seats.items ≡ 0 }
@@ -130,19 +141,22 @@ fn generate_world<O: Sink, K: Keeper, W: Wait>(
     ensures write_cause { Counts (O.faults out.old) (O.faults out.new) (result.0 ≡ Status.WriteFault) }
 {
     let mut world = world;
-    let status = sum_and_say(alloc, text, count, out, &mut world, wait);
+    let status = sum_and_say(alloc, text, count, out, &mut world, threads, wait);
     (status, close(world))
 }
 
 // Runs the script in a world whose record is empty, and writes what is said of its output.
-fn sum_and_say<O: Sink, K: Keeper, W: Wait>(
+fn sum_and_say<O: Sink, K: Keeper + Send + Sync, T: Threads + Sync, W: Wait + Sync>(
     alloc: Global,
     text: Bytes,
     count: u64,
     out: &mut O,
     world: &mut World<Fused<K>>,
+    threads: &T,
     wait: &W,
 ) -> Status
+where
+    K::Desk: Send,
     requires entries { world.old.entries ≡ [] }
     requires count { count ≤ 100000 }
     ensures no_usage { result ≢ Status.Usage }
@@ -156,7 +170,7 @@ fn sum_and_say<O: Sink, K: Keeper, W: Wait>(
     ensures write_cause { Counts (O.faults out.old) (O.faults out.new) (result ≡ Status.WriteFault) }
 {
     let mut summary = Summary::new(alloc, count);
-    match sum_script(alloc, text, world, &mut summary, wait) {
+    match sum_script(alloc, text, world, &mut summary, threads, wait) {
         Summed::Whole => say(alloc, summary, out),
         Summed::Bad { line } => refuse(alloc, line, out),
         Summed::Short => Status::Memory,

@@ -6,14 +6,15 @@ ghost use Rattle.mc_model.specs.State.{blocks_of};
 ghost use Rattle.mc_core.specs.Events.{ReplicaState};
 ghost use Rattle.mc_core.specs.Puts.{next_links, delta_of_put};
 ghost use Rattle.mc_script.specs.declared.command.Command.{Command as Asked};
-ghost use Rattle.mc_script.specs.declared.command.Command.TheVariants.{Put, Del, Commit};
+ghost use Rattle.mc_script.specs.declared.command.Command.TheVariants.{Put, Del, Commit, Repair, Storm};
 ghost use Rattle.mc_script.specs.declared.reply.Reply.{Reply as Said};
-ghost use Rattle.mc_script.specs.declared.reply.Reply.TheVariants.{Priority, Deleted, Stopped, FaultKeeper, FaultPeer};
+ghost use Rattle.mc_script.specs.declared.reply.Reply.TheVariants.{Priority, Deleted, Stopped, Stormed, Clean, FaultKeeper, FaultPeer};
 ghost use Rattle.mc_app.specs.declared.entry.LineEntry.{LineEntry as Entry};
 ghost use Rattle.mc_app.specs.declared.links.Link.{Link as LinkState};
 ghost use Rattle.mc_app.specs.Asks.{focus, is_named, may_fail};
 ghost use Rattle.mc_app.specs.Plans.{DoneAt};
-ghost use Rattle.mc_app.specs.Promises.{HasCommitted, HasDeleted, HasProcessed, IsLineAt, OnlyGrows, SinceLine};
+ghost use Rattle.mc_app.specs.Promises.{AfterLine, HasCommitted, HasDeleted, HasMore, HasProcessed, HasSettled};
+ghost use Rattle.mc_app.specs.Promises.{IsLineAt, OnlyGrows, SinceLine};
 ghost use Rattle.mc_app.specs.Promises.{asks_running, fired_at, is_read, read_at, same_pair};
 ghost use Rattle.mc_app.specs.Promises.{some_stopped, tells_at};
 ghost use Rattle.mc_app.specs.Runs.{Answer, Runs};
@@ -61,6 +62,19 @@ pub fn acknowledged_deletes_are_processed()
     ensures { (w : WorldState) (r : ℕ) (key : List ℕ) (entry : Entry) (count : ℕ) (w2 : WorldState) →
         Step w (Del r key) entry (Deleted count) w2 → HasDeleted w r key count w2 }
 {}
+
+/// After a storm that was answered by `stormed M S`, its replica has processed at least M blocks more, in the world after
+/// it and, in a run, in the last one. The line may stand at any place, counted from 0.
+pub fn acknowledged_storms_are_processed()
+    ensures step { (w : WorldState) (r writers writes : ℕ) (entry : Entry) (made same : ℕ) (w2 : WorldState) →
+        Step w (Storm r writers writes) entry (Stormed made same) w2 → HasMore w r made w2 }
+    ensures line { (lines : List (List ℕ)) (answers : List (Option Answer)) (first last : WorldState)
+        (k r writers writes made same : ℕ) → Runs first lines answers last →
+        IsLineAt lines answers k (Storm r writers writes) (Stormed made same) → SinceLine first lines answers k last
+        (λ w w2. HasMore w r made w2) }
+{
+    order_and_store_grow();
+}
 
 /// In a run, the block of a put that was answered by `ok` stands in the last world, at its place in the order of the
 /// blocks that its replica processed; and so does that of a batch whose commit was answered by `ok` and a number that
@@ -128,4 +142,15 @@ pub fn quiet_faults_are_fuses()
 pub fn stopped_is_exact()
     ensures { (w : WorldState) (command : Asked) (entry : Entry) (reply : Said) (w2 : WorldState) →
         Step w command entry reply w2 → (reply ≡ Stopped) ↔ (some_stopped w (asks_running command) ≡ true) }
+{}
+
+/// After a repair that was answered by `clean`, no gap is left at its replica, and where no stored block leads back to
+/// itself, the processed blocks are exactly those that its heads reach. In a run the line may stand at any place, counted
+/// from 0.
+pub fn clean_repairs_are_reached()
+    ensures step { (w : WorldState) (r workers : ℕ) (entry : Entry) (w2 : WorldState) →
+        Step w (Repair r workers) entry Clean w2 → HasSettled w2 r }
+    ensures line { (lines : List (List ℕ)) (answers : List (Option Answer)) (first last : WorldState)
+        (k r workers : ℕ) → Runs first lines answers last → IsLineAt lines answers k (Repair r workers) Clean →
+        AfterLine first lines answers k last (λ w. HasSettled w r) }
 {}

@@ -62,7 +62,7 @@ pub(crate) fn find_among<K: Keeper, W: Wait>(
 }
 
 // Whether r fetches from the replica with this number, which is in this seat.
-fn is_peer<K: Keeper>(seat: &Seat<K>, down: &[Link], r: u64, number: u64) -> bool
+pub(crate) fn is_peer<K: Keeper>(seat: &Seat<K>, down: &[Link], r: u64, number: u64) -> bool
     ensures { result ≡ is_peer_at down.now r number (place K.Keeper seat.now) }
 {
     is_linked(down, r, number) && runs(seat)
@@ -82,7 +82,7 @@ pub(crate) fn runs<K: Keeper>(seat: &Seat<K>) -> bool
 }
 
 // The keeper of the replica in a seat.
-fn keeper_in<K: Keeper>(seat: &Seat<K>) -> &K
+pub(crate) fn keeper_in<K: Keeper>(seat: &Seat<K>) -> &K
     ensures { result.now ≡ keeper_of seat.now }
 {
     match &seat.held {

@@ -16,6 +16,7 @@ use mc_gen::Summary;
 use mc_keep::{Fused, Keeper};
 use std::alloc::Global;
 use std::sync::Wait;
+use std::thread::Threads;
 
 /// How far a script was summed up.
 #[derive(Clone, Copy, Debug, PartialEq, Eq)]
@@ -29,13 +30,16 @@ pub enum Summed {
 }
 
 /// Runs a script in a world whose record is empty, as it is again before each line, and sums up the replies.
-pub fn sum_script<K: Keeper, W: Wait>(
+pub fn sum_script<K: Keeper + Send + Sync, T: Threads + Sync, W: Wait + Sync>(
     alloc: Global,
     script: Bytes,
     world: &mut World<Fused<K>>,
     summary: &mut Summary,
+    threads: &T,
     wait: &W,
 ) -> Summed
+where
+    K::Desk: Send,
     requires entries { world.old.entries ≡ [] }
     ensures sums { (count : ℕ) → Sums count summary.old [] → SumsUp script
         (λ w. w ≡ state ⟦<Fused<K> as Keeper>⟧ K.Desk.faults world.old)
@@ -56,7 +60,7 @@ pub fn sum_script<K: Keeper, W: Wait>(
             // A source in memory of which no call is planned to fail does not fail.
             Err(ReadError::Failed) | Err(ReadError::Memory) => return Summed::Short,
         }
-        match sum_line(alloc, world, reader.line(), summary, wait) {
+        match sum_line(alloc, world, reader.line(), summary, threads, wait) {
             Ok(()) => executed += 1,
             Err(ExecuteError::Bad) => return Summed::Bad { line: executed + 1 },
             Err(ExecuteError::Failed) | Err(ExecuteError::Memory) => return Summed::Short,
@@ -65,13 +69,16 @@ pub fn sum_script<K: Keeper, W: Wait>(
 }
 
 // Executes a line, and takes its reply into the summary. The reply is held in memory, where only want of memory fails.
-fn sum_line<K: Keeper, W: Wait>(
+fn sum_line<K: Keeper + Send + Sync, T: Threads + Sync, W: Wait + Sync>(
     alloc: Global,
     world: &mut World<Fused<K>>,
     line: &[u8],
     summary: &mut Summary,
+    threads: &T,
     wait: &W,
 ) -> Result<(), ExecuteError>
+where
+    K::Desk: Send,
     requires { world.old.entries ≡ [] }
     ensures ok { OnOk result (SumsLine (state ⟦<Fused<K> as Keeper>⟧ K.Desk.faults world.old)
         (tally ⟦<Fused<K> as Keeper>⟧ K.Desk.faults world.old) (line_of line.now)
@@ -83,7 +90,7 @@ fn sum_line<K: Keeper, W: Wait>(
     ensures entries { world.new.entries ≡ [] }
 {
     let mut reply = MemorySink::new(Bytes::new(alloc), 0, List::new(alloc));
-    match execute_and_clear(alloc, world, line, &mut reply, wait) {
+    match execute_and_clear(alloc, world, line, &mut reply, threads, wait) {
         Ok(()) => {}
         Err(error) => return Err(error),
     }
