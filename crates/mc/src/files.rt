@@ -2,21 +2,26 @@
 use crate::tests::words_of;
 use mc_app::{Status, run};
 use mc_base::{Bytes, Counted, List, MemorySink, MemorySource};
-use mc_keep::Keepers;
+use mc_keep::{Keeper, Keepers};
 use mc_keep_any::RealKeepers;
 use std::alloc::Global;
 use std::fs;
 use std::sync::Wait;
 use std::test::Fail;
+use std::thread::Threads;
 
 // What a script writes over keepers, with these words, and how it ends.
-fn written<K: Keepers, W: Wait>(
+fn written<K: Keepers, W: Threads + Wait + Sync>(
     alloc: Global,
     words: &[&str],
     keepers: &mut K,
     script: &str,
     wait: &W,
-) -> Result<(Status, Bytes), Fail> {
+) -> Result<(Status, Bytes), Fail>
+where
+    K::K: Send + Sync,
+    <K::K as Keeper>::Desk: Send,
+{
     let words = words_of(alloc, words)?;
     let script = Bytes::from_slice(alloc, script.as_bytes())?;
     let mut script = MemorySource::new(script, 0, List::new(alloc));
@@ -28,12 +33,13 @@ fn written<K: Keepers, W: Wait>(
         &mut out,
         keepers,
         wait,
+        wait,
     );
     Ok((status, Bytes::from_slice(alloc, out.bytes())?))
 }
 
 // The same over the program's keepers, and how many faults of them there were.
-fn over_real<W: Wait>(
+fn over_real<W: Threads + Wait + Sync>(
     rt: &HostRuntime,
     words: &[&str],
     script: &str,
@@ -49,7 +55,7 @@ fn over_real<W: Wait>(
 }
 
 // Whether a script over the files of a folder ends without a fault and writes this.
-fn is_written<W: Wait>(
+fn is_written<W: Threads + Wait + Sync>(
     rt: &HostRuntime,
     dir: &str,
     script: &str,

@@ -7,6 +7,7 @@ use std::alloc::Global;
 use std::mem::forget;
 use std::sync::Wait;
 use std::test::Fail;
+use std::thread::Threads;
 
 #[test]
 fn blocks_go_from_replica_to_replica(rt: HostRuntime) -> Result<(), Fail> {
@@ -309,7 +310,7 @@ fn a_delete_stopped_after_its_first_block_takes_nothing_away(rt: HostRuntime) ->
 
 // Whether a script has this text, and leaves this number of lost reads, over keepers of which the second replica's
 // first desk fails its first read.
-fn is_answered_with_a_failing_desk<W: Wait>(
+pub(crate) fn is_answered_with_a_failing_desk<W: Threads + Wait + Sync>(
     alloc: Global,
     script: &str,
     text: &str,

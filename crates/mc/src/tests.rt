@@ -3,13 +3,14 @@ use mc_app::{Status, run};
 use mc_base::{
     Bytes, Counted, List, MemorySink, MemorySource, RepeatingSource, Sink, Source, Writing,
 };
-use mc_keep::Keepers;
+use mc_keep::{Keeper, Keepers};
 use mc_keep_mem::{FaultPlan, MemKeepers};
 use std::alloc::Global;
 use std::io::Cursor;
 use std::mem::forget;
 use std::sync::Wait;
 use std::test::Fail;
+use std::thread::Threads;
 
 // The bytes that a stream moves a call, 0 for no limit, and the call that fails, 0 for none.
 #[derive(Clone, Copy)]
@@ -62,7 +63,7 @@ pub(crate) fn words_of(alloc: Global, texts: &[&str]) -> Result<Vec<String>, Fai
 }
 
 // Runs the words `run` over keepers in memory without faults.
-fn run_in_memory<S: Source, O: Sink, W: Wait>(
+fn run_in_memory<S: Source, O: Sink, W: Threads + Wait + Sync>(
     alloc: Global,
     words: &[&str],
     script: &mut S,
@@ -71,12 +72,20 @@ fn run_in_memory<S: Source, O: Sink, W: Wait>(
 ) -> Result<Status, Fail> {
     let words = words_of(alloc, words)?;
     let mut keepers = MemKeepers::new(List::new(alloc), List::new(alloc));
-    let status = run(alloc, words.as_slice(), script, out, &mut keepers, wait);
+    let status = run(
+        alloc,
+        words.as_slice(),
+        script,
+        out,
+        &mut keepers,
+        wait,
+        wait,
+    );
     forget(keepers);
     Ok(status)
 }
 
-fn run_over<W: Wait>(
+fn run_over<W: Threads + Wait + Sync>(
     alloc: Global,
     script: &[u8],
     reads: Plan,
@@ -91,7 +100,11 @@ fn run_over<W: Wait>(
 }
 
 // Whether a row's script is answered as it says.
-pub(crate) fn is_so<W: Wait>(alloc: Global, row: Row, wait: &W) -> Result<bool, Fail> {
+pub(crate) fn is_so<W: Threads + Wait + Sync>(
+    alloc: Global,
+    row: Row,
+    wait: &W,
+) -> Result<bool, Fail> {
     let (status, out) = run_over(alloc, row.script.as_bytes(), row.reads, row.writes, wait)?;
     Ok((status, status.code()) == (row.status, row.code) && out.bytes() == row.written.as_bytes())
 }
@@ -246,7 +259,11 @@ fn a_sink_may_take_nothing_more(rt: HostRuntime) -> Result<(), Fail> {
 }
 
 // How a run with these words ends, and how many bytes it writes.
-fn run_words<W: Wait>(alloc: Global, words: &[&str], wait: &W) -> Result<(Status, usize), Fail> {
+fn run_words<W: Threads + Wait + Sync>(
+    alloc: Global,
+    words: &[&str],
+    wait: &W,
+) -> Result<(Status, usize), Fail> {
     let mut script = one_line(alloc)?;
     let mut out = empty_sink(alloc);
     let status = run_in_memory(alloc, words, &mut script, &mut out, wait)?;
@@ -319,7 +336,7 @@ fn words_are_read_in_any_order(rt: HostRuntime) -> Result<(), Fail> {
 
 // Lets call after call of the source or the sink fail, until a run has no fault. What is written then is a prefix of
 // the run's text. Gives the number of runs with a fault, where all are so.
-fn faults_before_the_end<W: Wait>(
+fn faults_before_the_end<W: Threads + Wait + Sync>(
     alloc: Global,
     of_source: bool,
     wait: &W,
@@ -357,7 +374,7 @@ fn every_call_may_fail(rt: HostRuntime) -> Result<(), Fail> {
     Ok(())
 }
 
-fn run_without_end<W: Wait>(
+fn run_without_end<W: Threads + Wait + Sync>(
     alloc: Global,
     bytes: Vec<u8>,
     wait: &W,
@@ -387,7 +404,7 @@ fn a_source_without_an_end_ends_at_a_limit(rt: HostRuntime) -> Result<(), Fail> 
 }
 
 // Runs a script without faults, and says whether it is done with this text.
-pub(crate) fn is_answered<W: Wait>(
+pub(crate) fn is_answered<W: Threads + Wait + Sync>(
     alloc: Global,
     script: &[u8],
     text: &[u8],
@@ -482,12 +499,16 @@ fn a_delete_is_cut_into_blocks(rt: HostRuntime) -> Result<(), Fail> {
 }
 
 // How a run over these keepers ends, what it writes, and the counts of the keepers.
-pub(crate) fn run_with<K: Keepers, W: Wait>(
+pub(crate) fn run_with<K: Keepers, W: Threads + Wait + Sync>(
     alloc: Global,
     script: &[u8],
     keepers: &mut K,
     wait: &W,
-) -> Result<(Status, MemorySink, u64, u64), Fail> {
+) -> Result<(Status, MemorySink, u64, u64), Fail>
+where
+    K::K: Send + Sync,
+    <K::K as Keeper>::Desk: Send,
+{
     let words = words_of(alloc, &["run"])?;
     let mut script = MemorySource::new(Bytes::from_slice(alloc, script)?, 0, List::new(alloc));
     let mut out = MemorySink::new(Bytes::new(alloc), 0, List::new(alloc));
@@ -498,12 +519,13 @@ pub(crate) fn run_with<K: Keepers, W: Wait>(
         &mut out,
         keepers,
         wait,
+        wait,
     );
     Ok((status, out, keepers.faults(), keepers.lost()))
 }
 
 // The same over a keeper that fails as planned.
-fn run_failing<W: Wait>(
+fn run_failing<W: Threads + Wait + Sync>(
     alloc: Global,
     commits: &[u64],
     reads: &[u64],
