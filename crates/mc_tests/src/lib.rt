@@ -27,3 +27,5 @@ mod queries;
 mod replicas;
 #[cfg(test)]
 mod rows;
+#[cfg(test)]
+mod storms;
