@@ -4,13 +4,15 @@
      plain FILE puts N        N puts of new keys, each two transactions
      plain FILE batches N     N batches of 100 puts of new keys, each two transactions
      plain FILE gets N        N gets, spread over the keys that are there
-     plain FILE queries N     N queries of 10 rows, spread likewise */
+     plain FILE queries N     N queries of 10 of the 100 rows of a prefix, spread likewise
+   Gets and queries write the seconds of processor and of the clock that they took, without the open. */
 #include <openssl/sha.h>
 #include <sqlite3.h>
 #include <stdint.h>
 #include <stdio.h>
 #include <stdlib.h>
 #include <string.h>
+#include <time.h>
 
 static const char *const TABLES =
     "CREATE TABLE meta (id INTEGER PRIMARY KEY, layout INTEGER NOT NULL, dirty INTEGER NOT NULL);"
@@ -89,7 +91,7 @@ static void big_endian(uint64_t number, unsigned char *out) {
     for (int i = 0; i < 8; i++) out[i] = number >> (56 - 8 * i);
 }
 
-static int key_of(long number, char *out) { return sprintf(out, "/k/%ld", number); }
+static int key_of(long number, char *out) { return sprintf(out, "/k/%ld/%ld", number / 100, number % 100); }
 
 /* Puts of the keys from `first` on, all in one block, which is the `height`-th. */
 static void put(long first, long count, long height) {
@@ -149,9 +151,15 @@ static void get(long number) {
 
 static void query(long number) {
     char key[64];
-    struct bytes bound = {key, key_of(number, key)};
+    struct bytes bound = {key, sprintf(key, "/k/%ld/", number / 100)};
     if (run(FROM, 1, &bound, &bound) != 1) fail("a key that is not there");
     for (int row = 1; row < 10; row++) run(ABOVE, 1, &bound, &bound);
+}
+
+static double seconds(clockid_t clock) {
+    struct timespec now;
+    clock_gettime(clock, &now);
+    return now.tv_sec + now.tv_nsec / 1e9;
 }
 
 int main(int count, char **words) {
@@ -168,12 +176,14 @@ int main(int count, char **words) {
     sqlite3_step(counted);
     keys = sqlite3_column_int64(counted, 0);
     sqlite3_finalize(counted);
+    double processor = seconds(CLOCK_PROCESS_CPUTIME_ID), clock = seconds(CLOCK_MONOTONIC);
     for (long i = 0; i < number; i++) {
         if (!strcmp(words[2], "puts")) put(i, 1, i + 1);
         if (!strcmp(words[2], "batches")) put(100 * i, 100, i + 1);
         if (!strcmp(words[2], "gets")) get(i * 7919 % keys);
         if (!strcmp(words[2], "queries")) query(i * 7919 % keys);
     }
+    if (!writes) printf("%f %f\n", seconds(CLOCK_PROCESS_CPUTIME_ID) - processor, seconds(CLOCK_MONOTONIC) - clock);
     for (int kind = 0; kind < STATEMENTS; kind++) sqlite3_finalize(statements[kind]);
     return sqlite3_close(db) == SQLITE_OK ? 0 : 1;
 }

@@ -4,6 +4,7 @@ use mc_app::{Status, run};
 use mc_base::{Bytes, Counted, List, MemorySink, MemorySource};
 use mc_keep::{Keeper, Keepers};
 use mc_keep_any::RealKeepers;
+use mc_worker::Open;
 use std::alloc::Global;
 use std::fs;
 use std::sync::Wait;
@@ -32,6 +33,7 @@ where
         &mut script,
         &mut out,
         keepers,
+        &Open,
         wait,
         wait,
     );

@@ -1,9 +1,12 @@
 // Scripts over three replicas in which workers process what is wanted, and repair.
 use crate::replicas::is_answered_with_a_failing_desk;
-use crate::tests::{is_answered, is_so, without_fault};
+use crate::tests::{is_answered, is_answered_past, is_so, without_fault};
 use mc_app::Status;
+use mc_worker::Gate;
 use std::alloc::Global;
 use std::sync::Wait;
+use std::sync::atomic::AtomicU64;
+use std::sync::atomic::Ordering::SeqCst;
 use std::test::Fail;
 use std::thread::Threads;
 
@@ -208,6 +211,56 @@ fn a_desk_that_fails_ends_the_work(rt: HostRuntime) -> Result<(), Fail> {
             is_answered_with_a_failing_desk(rt.alloc(), script, text, 1, &rt)?,
             "at {script}"
         );
+    }
+    Ok(())
+}
+
+// A gate that holds whoever comes first until another has come, for at most so many turns.
+#[derive(Drop)]
+struct Meeting {
+    come: AtomicU64,
+    alone: AtomicU64,
+}
+
+const TURNS: u64 = 300_000_000;
+
+impl Gate for Meeting {
+    fn pass<W: Wait>(&self, _worker: u64, _turn: u64, _wait: &W) {
+        if self.come.fetch_add(1, SeqCst) > 0 {
+            return;
+        }
+        for _ in 0..TURNS {
+            if self.come.load(SeqCst) > 1 {
+                return;
+            }
+        }
+        self.alone.store(1, SeqCst);
+    }
+}
+
+#[test]
+fn workers_pass_the_gate_beside_one_another(rt: HostRuntime) -> Result<(), Fail> {
+    let rows = [(
+        "put a /a 01\nput b /b 02\ncast a\ncast b\nhear c 1\nhear c 2\nwork c 2\nquery c / 0 9",
+        "ok 1\nok 1\nmessage 1\nmessage 2\nqueued 1\nqueued 1\nworked 2 0 0\nrows 2\n/a 01\n/b 02\n",
+    )];
+    for (script, written) in rows {
+        let gate = Meeting {
+            come: AtomicU64::new(0),
+            alone: AtomicU64::new(0),
+        };
+        assert!(rt;
+            is_answered_past(
+                rt.alloc(),
+                script.as_bytes(),
+                written.as_bytes(),
+                &gate,
+                &rt
+            )?,
+            "at {script}"
+        );
+        assert!(rt; gate.come.load(SeqCst) == 2);
+        assert!(rt; gate.alone.load(SeqCst) == 0);
     }
     Ok(())
 }

@@ -2,6 +2,7 @@
 use Rattle.std.proofs.Common.{◌≡◌, ◌≤◌, ◌+◌, ◌-◌, ◌^◌, ℕ, List, [], ◌∷◌, length, Option, None, Some, refl, sym, ◌∙◌, ap, subst, arith, inl, inr, false}
 use Rattle.std.specs.Prelude.{map, min}
 use Rattle.std.specs.List.{sum_by}
+use Rattle.std.proofs.Math.Seq.{take-length}
 use Rattle.std.proofs.lemmas.List.Sums.{sum_by-cons}
 use Rattle.mc_base.specs.Causes.{Rose}
 use Rattle.mc_base.specs.Told.{Told}
@@ -14,20 +15,21 @@ use Rattle.mc_model.specs.State.{Running, durable_of}
 use Rattle.mc_model.specs.Wanted.{no_queue}
 use Rattle.mc_core.specs.declared.replica.OpenCause.{OpenCause}
 use Rattle.mc_core.specs.declared.replica.OpenCause.TheVariants as causes
-use Rattle.mc_app.specs.declared.seat.Held.{Held}
-use Rattle.mc_app.specs.declared.seat.Held.TheVariants.{Up, Down}
-use Rattle.mc_app.specs.declared.seat.Seat.{Seat}
-use Rattle.mc_app.specs.declared.world.Part.{Part}
-use Rattle.mc_app.specs.Keepers.{desks_in, keeper_in, keeper_of, own_in}
-use Rattle.mc_app.specs.Openings.{AreLeft, AreRefused, counted_of, owns_of, parts_of, starts_of, unopened_status}
-use Rattle.mc_app.specs.Outcome.{AreStarts, EndsAt, IsFirst, Outcome, TakenFrom, TakesSome, contents_of}
-use Rattle.mc_app.specs.Plans.{OpensAs}
-use Rattle.mc_app.specs.Runs.{Answer, MayAnswer}
-use Rattle.mc_app.specs.Words.{place}
-use Rattle.mc_app.specs.Worlds.{Place, WorldState, place_with}
+use Rattle.mc_world.specs.declared.seat.Held.{Held}
+use Rattle.mc_world.specs.declared.seat.Held.TheVariants.{Up, Down}
+use Rattle.mc_world.specs.declared.seat.Seat.{Seat}
+use Rattle.mc_world.specs.declared.world.Part.{Part}
+use Rattle.mc_world.specs.Keepers.{desks_in, keeper_in, keeper_of, own_in}
+use Rattle.mc_world.specs.Openings.{AreLeft, AreRefused, counted_of, owns_of, parts_of, starts_of}
+use Rattle.mc_app.specs.Outcome.{EndsAt, Outcome, TakenFrom, TakesSome, contents_of, unopened_status}
+use Rattle.mc_world.specs.Effects.{OpensAs}
+use Rattle.mc_runs.specs.Runs.{Answer, MayAnswer}
+use Rattle.mc_world.specs.Words.{place}
+use Rattle.mc_world.specs.Worlds.{Place, WorldState, place_with}
 use Rattle.mc_app.specs.declared.status.Status.{Status}
 use Rattle.mc_app.specs.declared.status.Status.TheVariants as status
 use Rattle.mc_app.proofs.RunFacts.{gives_up_first, nothing_said, untouched}
+use Rattle.mc_world.specs.Starts.{AreStarts, IsFirst}
 
 -- a replica that was opened over what a keeper tells
 abbrev opens_run : Option Kept → Option Running
@@ -126,6 +128,10 @@ module _ {M K D : Type 0} (takes : M → K → List D → M → Type 0) (told : 
   -- the keepers of the last world are given back
   pub ends_taken : (end : Status) (starts contents : List (Option Kept)) (before last : M) (w : WorldState) → contents_of w ≡ contents → TakenFrom takes told before contents last → EndsAt takes told end starts last w
   ends_taken end starts contents before last w same taken = inl (before, subst (λ (l : List (Option Kept)). TakenFrom takes told before l last) (sym same) taken)
+
+  -- all keepers that were made were taken back as they were
+  pub all_taken : (starts contents : List (Option Kept)) (before last : M) → contents ≡ starts → TakenFrom takes told before contents last → TakesSome takes told starts last
+  all_taken starts contents before last same taken = (length starts, (before, subst (λ (l : List (Option Kept)). TakenFrom takes told before l last) (same ∙ sym (take-length starts)) taken))
 
   -- not all keepers were made
   pub unmade_outcome : (cause : OpenCause) (end : Status) (starts : List (Option Kept)) (last : M) (calm : Type 0) (lost lost_now : ℕ) (first old : Option (List ℕ)) → end ≡ unopened_status cause → TakesSome takes told starts last → min lost (2 ^ 64 - 1) ≤ lost_now

@@ -9,14 +9,14 @@ use Rattle.mc_gen.specs.Summary.{summary_text}
 use Rattle.mc_app.specs.declared.command_line.Request.{Request}
 use Rattle.mc_app.specs.declared.command_line.Request.TheVariants.{Gen as GenFrom, Run as RunOver}
 use Rattle.mc_app.specs.Generating.{EndsSummary, Generates, IsAllAnswered, IsSaid, IsStoppedBad, replies_of}
-use Rattle.mc_app.specs.Openings.{unopened_status}
 use Rattle.mc_app.specs.Progress.{bad_line_text}
 use Rattle.mc_app.specs.Refusal.{EndsBad}
-use Rattle.mc_app.specs.Runs.{Answer}
-use Rattle.mc_app.specs.Worlds.{WorldState}
+use Rattle.mc_runs.specs.Runs.{Answer}
+use Rattle.mc_world.specs.Worlds.{WorldState}
 use Rattle.mc_app.specs.declared.status.Status.{Status}
 use Rattle.mc_app.specs.declared.status.Status.TheVariants.{Done, Usage, BadLine, ReadFault, WriteFault, KeeperFault, Memory}
 use Rattle.mc_app.proofs.RunFacts.{keeps_same, progress_map}
+use Rattle.mc_app.specs.Outcome.{unopened_status}
 
 module _ (script : List ℕ) (First First2 : WorldState → Type 0)
     (May May2 : List (List ℕ) → List (Option Answer) → Type 0) (Ends Ends2 : WorldState → Type 0)

@@ -4,17 +4,17 @@ use Rattle.std.specs.Prelude.{map}
 use Rattle.mc_gen.specs.Summary.{Sums}
 use Rattle.mc_gen.specs.declared.summary.Summary.{Summary}
 use Rattle.mc_script.specs.Line.{line_of}
-use Rattle.mc_app.specs.Executes.{Tally}
 use Rattle.mc_app.specs.Generating.{IsAllAnswered, IsStoppedBad, replies_of}
 use Rattle.mc_app.specs.LineWords.{MayEnd}
 use Rattle.mc_app.specs.Lines.{IsTooLong, lines_of, script_max}
 use Rattle.mc_app.specs.Progress.{IsBadCommand, Progress}
-use Rattle.mc_app.specs.Runs.{Answer, text_of_answer}
+use Rattle.mc_runs.specs.Runs.{Answer, text_of_answer}
 use Rattle.mc_app.specs.Summing.{SumsLine, SumsUp}
 use Rattle.mc_app.specs.Taking.{TakesLine}
-use Rattle.mc_app.specs.Worlds.{WorldState}
+use Rattle.mc_world.specs.Worlds.{WorldState}
 use Rattle.mc_app.specs.declared.summing.Summed.TheVariants.{Whole, Bad}
 use Rattle.mc_app.proofs.RunFacts.{MayTally, SoFar, may_end, nothing_tallied, nothing_yet, progress_map, progress_more}
+use Rattle.mc_world.specs.Keepers.{Tally}
 
 -- where the loop over the lines of a generated script stands
 pub record IsSumming (Frame : Type 0) (First : WorldState → Type 0) (base : Tally) (script ahead : List ℕ)

@@ -6,7 +6,7 @@ ghost use Rattle.mc_base.specs.Told.{AppendsPart};
 ghost use Rattle.mc_script.specs.Limits.{IsInLimits};
 ghost use Rattle.mc_script.specs.Line.{line_of};
 ghost use Rattle.mc_script.specs.ReplyText.{reply_text};
-ghost use Rattle.mc_app.specs.Asks.{is_there};
+ghost use Rattle.mc_world.specs.Asks.{is_there};
 ghost use Rattle.mc_app.specs.LineWords.{
   AnswersIn,
   CutsShortIn,
@@ -16,15 +16,16 @@ ghost use Rattle.mc_app.specs.LineWords.{
   SameWorld,
 };
 ghost use Rattle.mc_app.specs.Progress.{IsBadCommand};
-ghost use Rattle.mc_app.specs.Record.{IsLonger};
-ghost use Rattle.mc_app.specs.Words.{state};
+ghost use Rattle.mc_world.specs.Record.{IsLonger};
+ghost use Rattle.mc_world.specs.Words.{state};
 ghost use Rattle.mc_app.specs.declared.execute.ExecuteError.TheVariants.{Failed as WriteFailed, Memory};
 
 use crate::write::write_text;
-use crate::{ActError, LineEntry, World, act};
 use mc_base::{Bytes, Failed, List, Sink};
 use mc_keep::{Fused, Keeper};
 use mc_script::{Command, LineError, Reply, read_line, write_reply};
+use mc_worker::Gate;
+use mc_world::{ActError, LineEntry, World, act};
 use std::alloc::{AllocError, Global};
 use std::mem::replace;
 use std::sync::Wait;
@@ -65,11 +66,18 @@ impl From<AllocError> for ExecuteError {
 /// message that isn't there, and then nothing is written and nothing changes. `Failed` comes only where the sink failed,
 /// and then some first bytes of the reply are written. Under `Memory` nothing is written, and the command was done, or
 /// nothing or a part of it.
-pub fn execute_line<K: Keeper + Send + Sync, O: Sink, T: Threads + Sync, W: Wait + Sync>(
+pub fn execute_line<
+    K: Keeper + Send + Sync,
+    O: Sink,
+    G: Gate + Sync,
+    T: Threads + Sync,
+    W: Wait + Sync,
+>(
     alloc: Global,
     world: &mut World<Fused<K>>,
     line: &[u8],
     out: &mut O,
+    gate: &G,
     threads: &T,
     wait: &W,
 ) -> Result<(), ExecuteError>
@@ -89,7 +97,7 @@ where
     ensures cause { Counts (O.faults out.old) (O.faults out.new) (IsErrOf result ExecuteError.Failed) }
 {
     match read_line(alloc, line) {
-        Ok(Some(command)) => answer(alloc, world, &command, out, threads, wait),
+        Ok(Some(command)) => answer(alloc, world, &command, out, gate, threads, wait),
         Ok(None) => Ok(()),
         Err(LineError::Bad) => Err(ExecuteError::Bad),
         Err(LineError::Memory) => Err(ExecuteError::Memory),
@@ -97,11 +105,18 @@ where
 }
 
 /// Executes a line of a world whose record is empty, writes its reply as `execute_line` does, and empties the record.
-pub fn execute_and_clear<K: Keeper + Send + Sync, O: Sink, T: Threads + Sync, W: Wait + Sync>(
+pub fn execute_and_clear<
+    K: Keeper + Send + Sync,
+    O: Sink,
+    G: Gate + Sync,
+    T: Threads + Sync,
+    W: Wait + Sync,
+>(
     alloc: Global,
     world: &mut World<Fused<K>>,
     line: &[u8],
     out: &mut O,
+    gate: &G,
     threads: &T,
     wait: &W,
 ) -> Result<(), ExecuteError>
@@ -122,7 +137,7 @@ where
     ensures entries { world.new.entries ≡ [] }
     ensures cause { Counts (O.faults out.old) (O.faults out.new) (IsErrOf result ExecuteError.Failed) }
 {
-    let result = execute_line(alloc, world, line, out, threads, wait);
+    let result = execute_line(alloc, world, line, out, gate, threads, wait);
     clear_record(alloc, &mut world.entries);
     result
 }
@@ -137,11 +152,12 @@ fn clear_record(alloc: Global, entries: &mut List<LineEntry>)
 }
 
 // Does a command, and writes its reply.
-fn answer<K: Keeper + Send + Sync, O: Sink, T: Threads + Sync, W: Wait + Sync>(
+fn answer<K: Keeper + Send + Sync, O: Sink, G: Gate + Sync, T: Threads + Sync, W: Wait + Sync>(
     alloc: Global,
     world: &mut World<Fused<K>>,
     command: &Command,
     out: &mut O,
+    gate: &G,
     threads: &T,
     wait: &W,
 ) -> Result<(), ExecuteError>
@@ -161,7 +177,7 @@ where
     ensures entries { IsLonger world.old.entries world.new.entries }
     ensures cause { Counts (O.faults out.old) (O.faults out.new) (IsErrOf result ExecuteError.Failed) }
 {
-    let reply = match act_on(alloc, world, command, threads, wait) {
+    let reply = match act_on(alloc, world, command, gate, threads, wait) {
         Ok(reply) => reply,
         Err(ActError::BadLine) => return Err(ExecuteError::Bad),
         Err(ActError::Memory) => return Err(ExecuteError::Memory),
@@ -185,10 +201,11 @@ fn write_answer<O: Sink>(alloc: Global, reply: &Reply, out: &mut O) -> Result<()
 }
 
 // Does a command, in the words of a line.
-fn act_on<K: Keeper + Send + Sync, T: Threads + Sync, W: Wait + Sync>(
+fn act_on<K: Keeper + Send + Sync, G: Gate + Sync, T: Threads + Sync, W: Wait + Sync>(
     alloc: Global,
     world: &mut World<Fused<K>>,
     command: &Command,
+    gate: &G,
     threads: &T,
     wait: &W,
 ) -> Result<Reply, ActError>
@@ -203,5 +220,5 @@ where
         CutsShortIn ⟦<Fused<K> as Keeper>⟧ K.Desk.faults command.now world.old world.new }
     ensures entries { IsLonger world.old.entries world.new.entries }
 {
-    act(world, alloc, command, threads, wait)
+    act(world, alloc, command, gate, threads, wait)
 }

@@ -6,29 +6,25 @@ ghost use Rattle.mc_gen.specs.Script.{script_text};
 ghost use Rattle.mc_gen.specs.Summary.{Sums, summary_text};
 ghost use Rattle.mc_keep.specs.declared.keepers.KeeperPlan.TheVariants.{Memory as InMemory};
 ghost use Rattle.mc_app.specs.Generating.{EndsSummary, Generates};
-ghost use Rattle.mc_app.specs.Keepers.{armed_in, counted_in, is_calm};
+ghost use Rattle.mc_world.specs.Keepers.{armed_in, counted_in, is_calm};
 ghost use Rattle.mc_app.specs.LineWords.{MayEnd};
-ghost use Rattle.mc_app.specs.Openings.{AreFresh, are_calm, counted_of, owns_of, starts_of};
-ghost use Rattle.mc_app.specs.Outcome.{
-  CountsKeepers,
-  EndsAt,
-  IsFirst,
-  TakesSome,
-  contents_of,
-  starts_from,
-};
-ghost use Rattle.mc_app.specs.Runs.{MayAnswer};
-ghost use Rattle.mc_app.specs.Words.{state, tally};
+ghost use Rattle.mc_world.specs.Openings.{AreFresh, are_calm, counted_of, owns_of, starts_of};
+ghost use Rattle.mc_app.specs.Outcome.{CountsKeepers, EndsAt, TakesSome, contents_of, starts_from};
+ghost use Rattle.mc_runs.specs.Runs.{MayAnswer};
+ghost use Rattle.mc_world.specs.Words.{state, tally};
+ghost use Rattle.mc_world.specs.Starts.{IsFirst};
 
+use crate::Status;
 use crate::keeping::{give_back, make_parts};
 use crate::refuse::refuse;
 use crate::running::{close, status_of};
 use crate::summing::{Summed, sum_script};
 use crate::write::write_text;
-use crate::{NoWorld, Part, Status, World};
 use mc_base::{Bytes, List, Sink};
 use mc_gen::{Summary, script};
 use mc_keep::{Fused, Keeper, KeeperPlan, Keepers};
+use mc_worker::Gate;
+use mc_world::{NoWorld, Part, World};
 use std::alloc::Global;
 use std::sync::Wait;
 use std::thread::Threads;
@@ -38,12 +34,13 @@ const REPLICAS: u64 = 3;
 
 /// Runs the script that is generated from a start and a count over the keepers of three replicas in memory, and writes the
 /// summary of its output, or `bad line N` alone where a line of it is bad. Nothing else is written.
-pub(crate) fn generate<O: Sink, K: Keepers, T: Threads + Sync, W: Wait + Sync>(
+pub(crate) fn generate<O: Sink, K: Keepers, G: Gate + Sync, T: Threads + Sync, W: Wait + Sync>(
     alloc: Global,
     start: u64,
     count: u64,
     out: &mut O,
     keepers: &mut K,
+    gate: &G,
     threads: &T,
     wait: &W,
 ) -> Status
@@ -71,18 +68,19 @@ where
         Ok(parts) => parts,
         Err(cause) => return status_of(cause),
     };
-    let (status, parts) = generate_in(alloc, text, count, out, parts, threads, wait);
+    let (status, parts) = generate_in(alloc, text, count, out, parts, gate, threads, wait);
     give_back(keepers, parts);
     status
 }
 
 // Opens the world of some keepers, runs the script in it, and hands the keepers back.
-fn generate_in<O: Sink, K: Keeper + Send + Sync, T: Threads + Sync, W: Wait + Sync>(
+fn generate_in<O: Sink, K: Keeper + Send + Sync, G: Gate + Sync, T: Threads + Sync, W: Wait + Sync>(
     alloc: Global,
     text: Bytes,
     count: u64,
     out: &mut O,
     parts: List<Part<Fused<K>>>,
+    gate: &G,
     threads: &T,
     wait: &W,
 ) -> (Status, List<Part<Fused<K>>>)
@@ -106,7 +104,7 @@ where
     ensures calm_opens { are_calm ⟦<Fused<K> as Keeper>⟧ parts ≡ true → result.0 ≢ Status.KeeperFault }
 {
     match World::new(alloc, parts) {
-        Ok(world) => generate_world(alloc, text, count, out, world, threads, wait),
+        Ok(world) => generate_world(alloc, text, count, out, world, gate, threads, wait),
         Err(refused) => {
             let NoWorld { cause, parts } = refused;
             (status_of(cause), parts)
@@ -115,12 +113,19 @@ where
 }
 
 // Runs the script in a world of which nothing has failed, and ends it.
-fn generate_world<O: Sink, K: Keeper + Send + Sync, T: Threads + Sync, W: Wait + Sync>(
+fn generate_world<
+    O: Sink,
+    K: Keeper + Send + Sync,
+    G: Gate + Sync,
+    T: Threads + Sync,
+    W: Wait + Sync,
+>(
     alloc: Global,
     text: Bytes,
     count: u64,
     out: &mut O,
     world: World<Fused<K>>,
+    gate: &G,
     threads: &T,
     wait: &W,
 ) -> (Status, List<Part<Fused<K>>>)
@@ -141,17 +146,18 @@ where
     ensures write_cause { Counts (O.faults out.old) (O.faults out.new) (result.0 ≡ Status.WriteFault) }
 {
     let mut world = world;
-    let status = sum_and_say(alloc, text, count, out, &mut world, threads, wait);
+    let status = sum_and_say(alloc, text, count, out, &mut world, gate, threads, wait);
     (status, close(world))
 }
 
 // Runs the script in a world whose record is empty, and writes what is said of its output.
-fn sum_and_say<O: Sink, K: Keeper + Send + Sync, T: Threads + Sync, W: Wait + Sync>(
+fn sum_and_say<O: Sink, K: Keeper + Send + Sync, G: Gate + Sync, T: Threads + Sync, W: Wait + Sync>(
     alloc: Global,
     text: Bytes,
     count: u64,
     out: &mut O,
     world: &mut World<Fused<K>>,
+    gate: &G,
     threads: &T,
     wait: &W,
 ) -> Status
@@ -170,7 +176,7 @@ where
     ensures write_cause { Counts (O.faults out.old) (O.faults out.new) (result ≡ Status.WriteFault) }
 {
     let mut summary = Summary::new(alloc, count);
-    match sum_script(alloc, text, world, &mut summary, threads, wait) {
+    match sum_script(alloc, text, world, &mut summary, gate, threads, wait) {
         Summed::Whole => say(alloc, summary, out),
         Summed::Bad { line } => refuse(alloc, line, out),
         Summed::Short => Status::Memory,

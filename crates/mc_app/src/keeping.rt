@@ -1,18 +1,17 @@
 // The keepers of a run: how they are made, and given back.
-ghost use Rattle.std.specs.Prelude.{◌≡◌, ◌≤◌, ◌+◌, ◌-◌, ◌^◌, min, ℕ, true, IfOk, IsErrOf, OnErr};
+ghost use Rattle.std.specs.Prelude.{◌≡◌, ◌≤◌, ◌<◌, ◌+◌, ◌-◌, ◌^◌, ◌∷◌, min, ℕ, true, vec_len, vec_capacity, IfOk, IsErrOf, OnErr};
 ghost use Rattle.mc_base.specs.Causes.{Rose};
 ghost use Rattle.mc_keep.specs.Causes.{CountGoes};
 ghost use Rattle.mc_keep.specs.Plan.{is_fault};
 ghost use Rattle.mc_keep.specs.declared.keepers.KeeperPlan.{KeeperPlan as MadeBy};
-ghost use Rattle.mc_app.specs.Keepers.{is_calm_keeper};
-ghost use Rattle.mc_app.specs.Openings.{AreFresh, IsFresh, are_calm, counted_of, owns_of, starts_of};
+ghost use Rattle.mc_world.specs.Keepers.{is_calm_keeper};
+ghost use Rattle.mc_world.specs.Openings.{AreFresh, IsFresh, are_calm, counted_of, owns_of, starts_of};
 ghost use Rattle.mc_app.specs.Outcome.{TakenFrom, TakesSome, starts_from};
 
-use crate::Part;
-use crate::seats::take_first;
 use mc_base::List;
 use mc_core::OpenCause;
 use mc_keep::{Fused, KeepError, Keeper, KeeperPlan, Keepers};
+use mc_world::Part;
 use std::alloc::Global;
 
 // Makes so many keepers of a plan, in order of their replicas. Where one is not made, those that were made are given back.
@@ -97,4 +96,14 @@ pub(crate) fn give_back<K: Keepers>(keepers: &mut K, parts: List<Part<Fused<K::K
         keepers.end(keeper.end(), desks);
     }
     parts.destroy_empty();
+}
+
+// Takes the first thing out.
+fn take_first<T>(things: &mut Vec<T>) -> T
+    requires { 0 < vec_len things.old }
+    ensures items { things.old.items ≡ result ∷ things.new.items }
+    ensures len { vec_len things.new + 1 ≡ vec_len things.old }
+    ensures capacity { vec_capacity things.new ≡ vec_capacity things.old }
+{
+    things.remove(0)
 }

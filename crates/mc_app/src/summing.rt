@@ -2,18 +2,19 @@
 ghost use Rattle.std.specs.Prelude.{◌≡◌, ℕ, [], OnOk, IsErrOf};
 ghost use Rattle.mc_gen.specs.Summary.{Sums};
 ghost use Rattle.mc_script.specs.Line.{line_of};
-ghost use Rattle.mc_app.specs.Keepers.{counted_in};
+ghost use Rattle.mc_world.specs.Keepers.{counted_in};
 ghost use Rattle.mc_app.specs.LineWords.{MayEnd, SameWorld};
 ghost use Rattle.mc_app.specs.Progress.{IsBadCommand};
 ghost use Rattle.mc_app.specs.Summing.{SumsLine, SumsUp};
-ghost use Rattle.mc_app.specs.Words.{state, tally};
+ghost use Rattle.mc_world.specs.Words.{state, tally};
 
-use crate::World;
 use crate::execute::{ExecuteError, execute_and_clear};
 use crate::line_reader::{LineReader, ReadError};
 use mc_base::{Bytes, List, MemorySink, MemorySource};
 use mc_gen::Summary;
 use mc_keep::{Fused, Keeper};
+use mc_worker::Gate;
+use mc_world::World;
 use std::alloc::Global;
 use std::sync::Wait;
 use std::thread::Threads;
@@ -30,11 +31,12 @@ pub enum Summed {
 }
 
 /// Runs a script in a world whose record is empty, as it is again before each line, and sums up the replies.
-pub fn sum_script<K: Keeper + Send + Sync, T: Threads + Sync, W: Wait + Sync>(
+pub fn sum_script<K: Keeper + Send + Sync, G: Gate + Sync, T: Threads + Sync, W: Wait + Sync>(
     alloc: Global,
     script: Bytes,
     world: &mut World<Fused<K>>,
     summary: &mut Summary,
+    gate: &G,
     threads: &T,
     wait: &W,
 ) -> Summed
@@ -60,7 +62,7 @@ where
             // A source in memory of which no call is planned to fail does not fail.
             Err(ReadError::Failed) | Err(ReadError::Memory) => return Summed::Short,
         }
-        match sum_line(alloc, world, reader.line(), summary, threads, wait) {
+        match sum_line(alloc, world, reader.line(), summary, gate, threads, wait) {
             Ok(()) => executed += 1,
             Err(ExecuteError::Bad) => return Summed::Bad { line: executed + 1 },
             Err(ExecuteError::Failed) | Err(ExecuteError::Memory) => return Summed::Short,
@@ -69,11 +71,12 @@ where
 }
 
 // Executes a line, and takes its reply into the summary. The reply is held in memory, where only want of memory fails.
-fn sum_line<K: Keeper + Send + Sync, T: Threads + Sync, W: Wait + Sync>(
+fn sum_line<K: Keeper + Send + Sync, G: Gate + Sync, T: Threads + Sync, W: Wait + Sync>(
     alloc: Global,
     world: &mut World<Fused<K>>,
     line: &[u8],
     summary: &mut Summary,
+    gate: &G,
     threads: &T,
     wait: &W,
 ) -> Result<(), ExecuteError>
@@ -90,7 +93,7 @@ where
     ensures entries { world.new.entries ≡ [] }
 {
     let mut reply = MemorySink::new(Bytes::new(alloc), 0, List::new(alloc));
-    match execute_and_clear(alloc, world, line, &mut reply, threads, wait) {
+    match execute_and_clear(alloc, world, line, &mut reply, gate, threads, wait) {
         Ok(()) => {}
         Err(error) => return Err(error),
     }

@@ -19,7 +19,7 @@ use Rattle.mc_model.specs.Front.{same_cid}
 use Rattle.mc_model.specs.Graph.{Vertex, has, in_graph}
 use Rattle.mc_model.specs.Kept.{bytes_at}
 use Rattle.mc_model.specs.Offer.{Damage, offer}
-use Rattle.mc_model.specs.State.{Durable, IsSound, Running, stored_of}
+use Rattle.mc_model.specs.State.{Durable, IsSound, Running, State, stored_of}
 use Rattle.mc_model.proofs.Prefix.{goes_on_then}
 use Rattle.mc_core.specs.declared.error.CoreError.{CoreError}
 use Rattle.mc_core.specs.Calls.{Call, Faults, IsRefused}
@@ -28,9 +28,9 @@ use Rattle.mc_core.specs.Jobs.{DeliverPlan, DeliverShort, DeliversIn, NextPlan, 
 use Rattle.mc_core.specs.Reads.{read_refusal}
 use Rattle.mc_core.specs.Refusals.{ByKind, Is, is_fault, kind_of}
 use Rattle.mc_core.proofs.GrowthFacts.{GrowLaw}
-use Rattle.mc_drain.specs.Leads.{Always, Leads, all_processes, count}
+use Rattle.mc_drain.specs.Leads.{Always, Leads, LeadsBy, all_processes, count}
 use Rattle.mc_drain.specs.Words.{IsNoBlock}
-use Rattle.mc_drain.proofs.EventFacts.{Asked, GoesLaw, StayLaw, breaks_leads, goes_leads, stays_leads}
+use Rattle.mc_drain.proofs.EventFacts.{Asked, AskedBy, GoesLaw, StayLaw, breaks_by, breaks_leads, goes_by, goes_leads, stays_by, stays_leads}
 use Rattle.mc_drain.proofs.FuseFacts.{IsPaced, all_extras, burns_then, longer}
 
 -- what is told at two moments, and what is known of the first
@@ -81,7 +81,7 @@ takes_back : (known : Map) (c : Cid) (durable : Durable) (run : Option Running) 
 takes_back known c durable None may = absurd may
 takes_back known c durable (Some run) may = tt
 
-found_for : (known : Map) (c : Cid) (found : Option (List ℕ)) → known c ≡ found → IsFoundFor known c found
+pub found_for : (known : Map) (c : Cid) (found : Option (List ℕ)) → known c ≡ found → IsFoundFor known c found
 found_for known c None e = tt
 found_for known c (Some bytes) e = e
 
@@ -137,6 +137,9 @@ delivery_paced graph c (Some bytes) = taken_paced (in_graph graph c) c bytes (of
 delivers_paced : (inside : Bool) (durable : Durable) (c : Cid) (found : Option (List ℕ)) (events : List Event) (answer : Delivered) → DeliversIn inside durable c found events answer → IsPaced events
 delivers_paced true durable c found events answer plan = subst IsPaced (sym plan.0) (delivery_paced durable.graph c found)
 delivers_paced false durable c found events answer plan = subst IsPaced (sym plan.1) none_paced
+
+nothing_asked : (c : Cid) (found : Option (List ℕ)) (state : State) (events : List Event) → events ≡ [] → AskedBy (λ known kept. IsFoundFor known c found) (λ known kept. known c ≡ found) state events
+nothing_asked c found state events none = (λ known kept p. subst (TakesAll known state) (sym none) tt, λ known kept p. subst (AllSayRight (offers_of known)) (sym none) tt)
 
 module _ (grow_law : GrowLaw) (goes_law : GoesLaw) (stay_law : StayLaw) where
   next_asked : (s : ReplicaState) → is_some s.state.run ≡ true → Asked Always s.state (Want ∷ [])
@@ -204,37 +207,38 @@ module _ (grow_law : GrowLaw) (goes_law : GoesLaw) (stay_law : StayLaw) where
 
   module _ (takes_law : TakesLaw) (says_law : SaysLaw) where
     delivers_asked : (c : Cid) (found : Option (List ℕ)) (durable : Durable) (run : Option Running) (events : List Event) (answer : Delivered) → DeliversIn (has c (queue_in run).flight) durable c found events answer
-        → Asked (λ known kept. known c ≡ found) (record { durable = durable; run = run }) events × (all_processes events ≤ all_processes (delivery durable.graph c found))
-    delivers_asked c found durable None events answer plan =
-        (λ known kept is. subst (λ events. TakesAll known (record { durable = durable; run = None }) events × AllSayRight (offers_of known) events) (sym plan.1) (tt, tt), let l = ap all_processes plan.1 in omega (arith, l))
+        → AskedBy (λ known kept. IsFoundFor known c found) (λ known kept. known c ≡ found) (record { durable = durable; run = run }) events × (all_processes events ≤ all_processes (delivery durable.graph c found))
+    delivers_asked c found durable None events answer plan = (nothing_asked c found (record { durable = durable; run = None }) events plan.1, let l = ap all_processes plan.1 in omega (arith, l))
     delivers_asked c found durable (Some run) events answer plan =
         elim (has c run.queue.flight) as (λ t. has c run.queue.flight ≡ t → DeliversIn t durable c found events answer
-        → Asked (λ known kept. known c ≡ found) (record { durable = durable; run = Some run }) events × (all_processes events ≤ all_processes (delivery durable.graph c found))) [
+        → AskedBy (λ known kept. IsFoundFor known c found) (λ known kept. known c ≡ found) (record { durable = durable; run = Some run }) events × (all_processes events ≤ all_processes (delivery durable.graph c found))) [
           | true ↦ λ e plan. (
-            λ known kept is. subst (λ events. TakesAll known (record { durable = durable; run = Some run }) events × AllSayRight (offers_of known) events) (sym plan.0)
-                (takes_law known durable run c found e (found_for known c found is), says_law known durable c found is),
+            (
+              λ known kept is. subst (TakesAll known (record { durable = durable; run = Some run })) (sym plan.0) (takes_law known durable run c found e is),
+              λ known kept is. subst (AllSayRight (offers_of known)) (sym plan.0) (says_law known durable c found is),
+            ),
             let l = ap all_processes plan.0 in omega (arith, l),
           )
-          | false ↦ λ e plan. (λ known kept is. subst (λ events. TakesAll known (record { durable = durable; run = Some run }) events × AllSayRight (offers_of known) events) (sym plan.1) (tt, tt), let l = ap all_processes plan.1 in omega (arith, l))
+          | false ↦ λ e plan. (nothing_asked c found (record { durable = durable; run = Some run }) events plan.1, let l = ap all_processes plan.1 in omega (arith, l))
         ] refl plan
 
-    pub deliver_leads : (c : Cid) (found : Option (List ℕ)) (more : ℕ) (rose : Type 0) (result : Result Delivered CoreError) (s new : ReplicaState) → IsSound s.state → all_processes (delivery s.state.durable.graph c found) ≤ more
-        → Call (Is (read_refusal s)) (DeliverPlan s c found) (DeliverShort s c) rose result s new → Leads (is_fault result) (count s + more) (λ known kept. known c ≡ found) s new
-    deliver_leads c found more rose (Ok answer) s new sound few call =
+    pub deliver_by : (c : Cid) (found : Option (List ℕ)) (more : ℕ) (rose : Type 0) (result : Result Delivered CoreError) (s new : ReplicaState) → IsSound s.state → all_processes (delivery s.state.durable.graph c found) ≤ more
+        → Call (Is (read_refusal s)) (DeliverPlan s c found) (DeliverShort s c) rose result s new → LeadsBy (is_fault result) (count s + more) (λ known kept. IsFoundFor known c found) (λ known kept. known c ≡ found) s new
+    deliver_by c found more rose (Ok answer) s new sound few call =
         let asked = delivers_asked c found s.state.durable s.state.run call.events answer call.plan in
-        goes_leads grow_law goes_law stay_law (λ known kept. known c ≡ found) call.events s new (count s + more) call.goes sound (omega (arith, asked.1, few)) (delivers_paced (has c (queue_in s.state.run).flight) s.state.durable c found call.events answer call.plan) asked.0
-    deliver_leads c found more rose (Err error) s new sound few call = over (kind_of error) call
+        goes_by grow_law goes_law stay_law (λ known kept. IsFoundFor known c found) (λ known kept. known c ≡ found) call.events s new (count s + more) call.goes sound (omega (arith, asked.1, few)) (delivers_paced (has c (queue_in s.state.run).flight) s.state.durable c found call.events answer call.plan) asked.0
+    deliver_by c found more rose (Err error) s new sound few call = over (kind_of error) call
       where
-        over : (kind : Kind) → ByKind (IsRefused (Is (read_refusal s)) error s new) (Faults (DeliverPlan s c found) rose s new) (DeliverShort s c new) kind → Leads (is_fault_kind kind) (count s + more) (λ known kept. known c ≡ found) s new
-        over Refusal refused = stays_leads grow_law goes_law stay_law (λ known kept. known c ≡ found) s new (count s + more) refused.1 (omega arith)
+        over : (kind : Kind) → ByKind (IsRefused (Is (read_refusal s)) error s new) (Faults (DeliverPlan s c found) rose s new) (DeliverShort s c new) kind → LeadsBy (is_fault_kind kind) (count s + more) (λ known kept. IsFoundFor known c found) (λ known kept. known c ≡ found) s new
+        over Refusal refused = stays_by grow_law goes_law stay_law (λ known kept. IsFoundFor known c found) (λ known kept. known c ≡ found) s new (count s + more) refused.1 (omega arith)
         over Fault faults = elim faults.begins [
-          | inl none ↦ breaks_leads grow_law goes_law stay_law (λ known kept. known c ≡ found) faults.events rose s new (count s + more) faults.breaks sound (let l = ap all_processes none in omega (arith, l)) (subst IsPaced (sym none) none_paced)
-              (λ known kept p. subst (λ events. TakesAll known s.state events × AllSayRight (offers_of known) events) (sym none) (tt, tt))
+          | inl none ↦ breaks_by grow_law goes_law stay_law (λ known kept. IsFoundFor known c found) (λ known kept. known c ≡ found) faults.events rose s new (count s + more) faults.breaks sound (let l = ap all_processes none in omega (arith, l)) (subst IsPaced (sym none) none_paced)
+              (nothing_asked c found s.state faults.events none)
           | inr (answer, plan) ↦ (let asked = delivers_asked c found s.state.durable s.state.run faults.events answer plan in
-              breaks_leads grow_law goes_law stay_law (λ known kept. known c ≡ found) faults.events rose s new (count s + more) faults.breaks sound (omega (arith, asked.1, few)) (delivers_paced (has c (queue_in s.state.run).flight) s.state.durable c found faults.events answer plan) asked.0)
+              breaks_by grow_law goes_law stay_law (λ known kept. IsFoundFor known c found) (λ known kept. known c ≡ found) faults.events rose s new (count s + more) faults.breaks sound (omega (arith, asked.1, few)) (delivers_paced (has c (queue_in s.state.run).flight) s.state.durable c found faults.events answer plan) asked.0)
         ]
-        over Shortage short = goes_leads grow_law goes_law stay_law (λ known kept. known c ≡ found) (GiveBack c ∷ []) s new (count s + more) short.1 sound (omega arith) (back_paced true c)
-            (λ known kept p. ((takes_back known c s.state.durable s.state.run short.1.may.0, tt), (tt, tt)))
+        over Shortage short = goes_by grow_law goes_law stay_law (λ known kept. IsFoundFor known c found) (λ known kept. known c ≡ found) (GiveBack c ∷ []) s new (count s + more) short.1 sound (omega arith) (back_paced true c)
+            (λ known kept p. (takes_back known c s.state.durable s.state.run short.1.may.0, tt), λ known kept p. (tt, tt))
 
 -- two parts of a call
 pub leads_then : (failed : Bool) (first most : ℕ) (P Q R : Map → List Cid → Type 0) (s mid new : ReplicaState) → Leads false first P s mid → Leads failed most Q mid new
@@ -257,4 +261,15 @@ leads_weaker failed few most P Q s new a more weaker = record {
   goes = λ e known kept q. a.goes e known kept (weaker known kept q);
   parts = λ e known kept q. a.parts e known kept (weaker known kept q);
   breaks = λ e known kept q. a.breaks e known kept (weaker known kept q);
+}
+
+-- the same of a delivery where all is known that is found
+pub leads_alike : (failed : Bool) (most : ℕ) (P R : Map → List Cid → Type 0) (s new : ReplicaState) → LeadsBy failed most P R s new → ((known : Map) (kept : List Cid) → R known kept → P known kept) → Leads failed most R s new
+leads_alike failed most P R s new a weaker = record {
+  grows = a.grows;
+  few = a.few;
+  fuse = a.fuse;
+  goes = λ e known kept r. a.goes e known kept (weaker known kept r);
+  parts = a.parts;
+  breaks = λ e known kept r. a.breaks e known kept (weaker known kept r);
 }

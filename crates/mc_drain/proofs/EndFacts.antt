@@ -37,7 +37,7 @@ stuck_fits map q missing bad = (subst (λ (cids : List Cid). AllNothing (offers_
 
 -- it came to an end before the limit
 pub drain_ended : (end : DrainEnd) (limit : ℕ) (offers : Option Map) (a m b : Option ReplicaState) → end ≢ Spent → Told a m (λ s mid. Leads false (count s) Always s mid) → IfSome m NothingStuck
-    → Told m b (λ s new. Leads (is_keeper end) (up_to limit s) (Fetched offers) s new) → Told a b (λ s new. DrainLeads end limit offers s new)
+    → Told m b (λ s new. Leads (is_keeper end) (up_to limit s) (Fetched offers) s new) → Told a b (λ s new. DrainLeads end limit (Fetched offers) s new)
 drain_ended end limit offers None m b unspent first stuck next = tt
 drain_ended end limit offers (Some s) None b unspent first stuck next = absurd first
 drain_ended end limit offers (Some s) (Some mid) None unspent first stuck next = absurd next
@@ -55,7 +55,7 @@ drain_ended end limit offers (Some s) (Some mid) (Some new) unspent first stuck 
 -- it came to the limit, and what waits was parted
 pub drain_parted : (end : DrainEnd) (limit : ℕ) (offers : Option Map) (waiting : List Cid) (a m n b : Option ReplicaState) → Told a m (λ s mid. Leads false (count s) Always s mid) → IfSome m NothingStuck
     → Told m n (λ s new. Leads false (up_to limit s) (Fetched offers) s new) → IfSome n (λ s. limit ≤ count s) → Told n b (λ s new. Leads (is_keeper end) (count s) (Fetched offers) s new)
-    → IfSome n (λ s. end ≡ Spent → AllGood offers s waiting) → (end ≡ Spent → IfSome b (λ s. (queue_in s.state.run).waiting ≡ waiting)) → Told a b (λ s new. DrainLeads end limit offers s new)
+    → IfSome n (λ s. end ≡ Spent → AllGood (Fetched offers) s waiting) → (end ≡ Spent → IfSome b (λ s. (queue_in s.state.run).waiting ≡ waiting)) → Told a b (λ s new. DrainLeads end limit (Fetched offers) s new)
 drain_parted end limit offers waiting None m n b first stuck next spent last good shown = tt
 drain_parted end limit offers waiting (Some s) None n b first stuck next spent last good shown = absurd first
 drain_parted end limit offers waiting (Some s) (Some mid) None b first stuck next spent last good shown = absurd next

@@ -14,7 +14,7 @@ use Rattle.mc_keep.specs.Causes.{fires, CommitFails}
 use Rattle.mc_core.specs.Events.{Breaks, Goes, IsCutShort, ReplicaState, all_happen}
 use Rattle.mc_core.proofs.GrowthFacts.{GrowLaw, breaks_grows, goes_grows, same_goes}
 use Rattle.mc_core.proofs.SoundFacts.{all_after, goes_sound, may_all}
-use Rattle.mc_drain.specs.Leads.{HasBrokenOff, Leads, all_processes, count, processes}
+use Rattle.mc_drain.specs.Leads.{HasBrokenOff, Leads, LeadsBy, all_processes, count, processes}
 use Rattle.mc_drain.proofs.FuseFacts.{IsPaced, breaks_burns, burns_none, goes_burns}
 
 abbrev order_of : State → List Cid
@@ -115,6 +115,14 @@ StayLaw = (found : Offers) (state : State) (events : List Event) → AllSayRight
 abbrev pub Asked : (Map → List Cid → Type 0) → State → List Event → Type 0
 Asked P state events = (map : Map) (kept : List Cid) → P map kept → TakesAll map state events × AllSayRight (offers_of map) events
 
+-- the same, the first wherever P holds and the second wherever R does
+abbrev pub AskedBy : (Map → List Cid → Type 0) → (Map → List Cid → Type 0) → State → List Event → Type 0
+AskedBy P R state events =
+    ((map : Map) (kept : List Cid) → P map kept → TakesAll map state events) × ((map : Map) (kept : List Cid) → R map kept → AllSayRight (offers_of map) events)
+
+pub asked_by : (P : Map → List Cid → Type 0) (state : State) (events : List Event) → Asked P state events → AskedBy P P state events
+asked_by P state events asked = (λ map kept p. (asked map kept p).0, λ map kept p. (asked map kept p).1)
+
 -- what is left where the keeper failed at a commit
 pub fails_left : (map : Map) (old : Durable) (start : List Cid) (fire : Option Bool) (rose : Type 0) (before whole left : Durable) → CommitFails fire rose before whole left → HasBrokenOff map old start before → HasBrokenOff map old start whole
     → HasBrokenOff map old start left
@@ -133,8 +141,8 @@ fails_count (Some true) rose before whole left more (inr (r, e)) p = let l = ap 
 
 module _ (grow_law : GrowLaw) (goes_law : GoesLaw) (stay_law : StayLaw) where
   -- all events have happened
-  pub goes_leads : (P : Map → List Cid → Type 0) (events : List Event) (s new : ReplicaState) (most : ℕ) → Goes events s new → IsSound s.state → count s + all_processes events ≤ most → IsPaced events → Asked P s.state events → Leads false most P s new
-  goes_leads P events s new most goes sound few paced asked =
+  pub goes_by : (P R : Map → List Cid → Type 0) (events : List Event) (s new : ReplicaState) (most : ℕ) → Goes events s new → IsSound s.state → count s + all_processes events ≤ most → IsPaced events → AskedBy P R s.state events → LeadsBy false most P R s new
+  goes_by P R events s new most goes sound few paced asked =
       let is : new.state ≡ after s.state events = ap (λ (x : ReplicaState). x.state) goes.ends ∙ all_after events s in
       let grown = all_grown s.state events in
       let len : count new ≡ length (order_of (after s.state events)) = ap (λ (x : State). length (order_of x)) is in
@@ -142,14 +150,17 @@ module _ (grow_law : GrowLaw) (goes_law : GoesLaw) (stay_law : StayLaw) where
         grows = goes_grows grow_law events s new goes;
         few = omega (arith, grown.1, len, few);
         fuse = goes_burns events s new goes paced;
-        goes = λ ok map kept p old start h. subst (HasDrained map kept old start) (sym is) (goes_law map kept old start s.state events sound (may_all events s goes.may) (asked map kept p).0 h);
-        parts = λ ok map kept p old start h f. subst (λ (x : State). PartsFit (offers_of map) (queue_in x.run)) (sym is) (stay_law (offers_of map) s.state events (asked map kept p).1 f);
+        goes = λ ok map kept p old start h. subst (HasDrained map kept old start) (sym is) (goes_law map kept old start s.state events sound (may_all events s goes.may) (asked.0 map kept p) h);
+        parts = λ ok map kept p old start h f. subst (λ (x : State). PartsFit (offers_of map) (queue_in x.run)) (sym is) (stay_law (offers_of map) s.state events (asked.1 map kept p) f);
         breaks = λ e. absurd (false≢true e);
       }
 
+  pub goes_leads : (P : Map → List Cid → Type 0) (events : List Event) (s new : ReplicaState) (most : ℕ) → Goes events s new → IsSound s.state → count s + all_processes events ≤ most → IsPaced events → Asked P s.state events → Leads false most P s new
+  goes_leads P events s new most goes sound few paced asked = goes_by P P events s new most goes sound few paced (asked_by P s.state events asked)
+
   -- nothing has happened
-  pub stays_leads : (P : Map → List Cid → Type 0) (s new : ReplicaState) (most : ℕ) → new ≡ s → count s ≤ most → Leads false most P s new
-  stays_leads P s new most same few = record {
+  pub stays_by : (P R : Map → List Cid → Type 0) (s new : ReplicaState) (most : ℕ) → new ≡ s → count s ≤ most → LeadsBy false most P R s new
+  stays_by P R s new most same few = record {
     grows = subst (λ (x : ReplicaState). GoesOn s.state.durable x.state.durable) (sym same) (same_goes s.state.durable);
     few = let e = ap count same in omega (arith, e, few);
     fuse = burns_none false s new same;
@@ -157,6 +168,9 @@ module _ (grow_law : GrowLaw) (goes_law : GoesLaw) (stay_law : StayLaw) where
     parts = λ ok map kept p old start h f. subst (λ (x : ReplicaState). PartsFit (offers_of map) (queue_in x.state.run)) (sym same) f;
     breaks = λ e. absurd (false≢true e);
   }
+
+  pub stays_leads : (P : Map → List Cid → Type 0) (s new : ReplicaState) (most : ℕ) → new ≡ s → count s ≤ most → Leads false most P s new
+  stays_leads P s new most same few = stays_by P P s new most same few
 
   cut_count : (events : List Event) (rose : Type 0) (s new : ReplicaState) → IsCutShort events rose s new → Grown (count s) (all_processes events) (count new)
   cut_count [] rose s new cut = let l = ap count cut.1 in (omega (arith, l), omega (arith, l))
@@ -176,8 +190,8 @@ module _ (grow_law : GrowLaw) (goes_law : GoesLaw) (stay_law : StayLaw) where
       (broken_at map kept old start (happens s.state event) (goes_law map kept old start s.state (event ∷ []) sound (b.may, tt) (takes.0, tt) h)))
 
   -- the events are cut short
-  pub breaks_leads : (P : Map → List Cid → Type 0) (events : List Event) (rose : Type 0) (s new : ReplicaState) (most : ℕ) → Breaks events rose s new → IsSound s.state → count s + all_processes events ≤ most → IsPaced events → Asked P s.state events → Leads true most P s new
-  breaks_leads P events rose s new most b sound few paced asked =
+  pub breaks_by : (P R : Map → List Cid → Type 0) (events : List Event) (rose : Type 0) (s new : ReplicaState) (most : ℕ) → Breaks events rose s new → IsSound s.state → count s + all_processes events ≤ most → IsPaced events → AskedBy P R s.state events → LeadsBy true most P R s new
+  breaks_by P R events rose s new most b sound few paced asked =
       let mid : ReplicaState = all_happen s b.so_far in
       let is : mid.state ≡ after s.state b.so_far = all_after b.so_far s in
       let sum = ap all_processes b.split ∙ processes-append b.so_far b.rest in
@@ -191,8 +205,11 @@ module _ (grow_law : GrowLaw) (goes_law : GoesLaw) (stay_law : StayLaw) where
         goes = λ e. absurd (false≢true (sym e));
         parts = λ e. absurd (false≢true (sym e));
         breaks = λ e map kept p old start h.
-            let takes : TakesAll map s.state (b.so_far ++ b.rest) = subst (TakesAll map s.state) b.split (asked map kept p).0 in
+            let takes : TakesAll map s.state (b.so_far ++ b.rest) = subst (TakesAll map s.state) b.split (asked.0 map kept p) in
             cut_left map kept old start b.rest rose mid new b.fate (goes_sound b.so_far s mid (record { may = b.may; ends = refl }) sound)
             (subst (λ (x : State). TakesAll map x b.rest) (sym is) (takes_back map s.state b.so_far b.rest takes))
             (subst (HasDrained map kept old start) (sym is) (goes_law map kept old start s.state b.so_far sound (may_all b.so_far s b.may) (takes_front map s.state b.so_far b.rest takes) h));
       }
+
+  pub breaks_leads : (P : Map → List Cid → Type 0) (events : List Event) (rose : Type 0) (s new : ReplicaState) (most : ℕ) → Breaks events rose s new → IsSound s.state → count s + all_processes events ≤ most → IsPaced events → Asked P s.state events → Leads true most P s new
+  breaks_leads P events rose s new most b sound few paced asked = breaks_by P P events rose s new most b sound few paced (asked_by P s.state events asked)

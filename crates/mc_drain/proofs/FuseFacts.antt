@@ -4,9 +4,8 @@ use Rattle.std.specs.Prelude.{is_some, nat_lt, if◌then◌else◌}
 use Rattle.std.proofs.lemmas.Bool.{false≢true}
 use Rattle.std.proofs.lemmas.Bool.Decides.{nat_tests}
 use Rattle.mc_base.specs.declared.cid.Cid.{Cid}
-use Rattle.mc_model.specs.Events.{Event, Store, Process, Hear, Want, GiveBack, Missing, Bad, Requeue, WalkBegin, WalkVisit, WalkEnd, Batch, Stop, Open, GoesOn, MayCome, MayRun, happens, is_commit, runs, visited}
-use Rattle.mc_model.specs.State.{Durable, Running, State}
-use Rattle.mc_model.proofs.Prefix.{goes_on_then}
+use Rattle.mc_model.specs.Events.{Event, Store, Process, Hear, Want, GiveBack, Missing, Bad, Requeue, WalkBegin, WalkVisit, WalkEnd, Batch, Stop, Open, GoesOn, MayCome, MayRun, is_commit, runs, visited}
+use Rattle.mc_model.specs.State.{Durable, Running}
 use Rattle.mc_keep.specs.Causes.{burnt, fires}
 use Rattle.mc_keep.specs.declared.fuse.Fuse.{Fuse}
 use Rattle.mc_core.specs.Events.{Breaks, Goes, IsCutShort, MayHappen, ReplicaState, all_happen, burnt_by, fires_by, goes_on}

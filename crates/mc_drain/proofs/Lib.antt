@@ -2,8 +2,11 @@ pub mod CallFacts
 pub mod EndFacts
 pub mod EventFacts
 pub mod FuseFacts
+pub mod GoOnFacts
+pub mod LeaveFacts
 pub mod QueueFacts
 pub mod ReachFacts
+pub mod RepairAnswers
 pub mod RepairFacts
 pub mod SortFacts
 pub mod TurnFacts

@@ -1,19 +1,20 @@
 -- From a walk's and a drain's end to the answer of a repair.
-use Rattle.std.proofs.Common.{◌≡◌, ◌≢◌, ◌+◌, ◌-◌, ℕ, Bool, true, false, List, [], Option, Some, None, Result, Ok, Err, refl, sym, ap, ◌∙◌, subst, arith}
-use Rattle.std.specs.Prelude.{IfSome, is_some}
+use Rattle.std.proofs.Common.{◌≡◌, ◌≤◌, ◌+◌, ◌-◌, ℕ, Bool, true, false, List, Option, Some, None, Result, Ok, Err, refl, sym, ap, ◌∙◌, subst, arith}
+use Rattle.std.specs.Prelude.{IfSome, is_some, ⊤}
 use Rattle.std.proofs.lemmas.Bool.{false≢true}
 use Rattle.mc_base.specs.Told.{Told}
 use Rattle.mc_base.specs.declared.cid.Cid.{Cid}
 use Rattle.mc_fetch.specs.Fits.{Map}
 use Rattle.mc_model.specs.Draining.{HasDrained, bytes_in, queue_in}
 use Rattle.mc_model.specs.Events.{GoesOn}
-use Rattle.mc_model.specs.Graph.{cids_in, has}
+use Rattle.mc_model.specs.Graph.{Vertex, cids_in, has}
 use Rattle.mc_model.specs.Repairing.{HasRepaired, with_gaps}
 use Rattle.mc_model.specs.State.{Durable, IsSound, IsWhole, Running, State, kept_of, wanted_in}
-use Rattle.mc_model.specs.Wanted.{Queue, wanted}
+use Rattle.mc_model.specs.Wanted.{wanted}
 use Rattle.mc_keep.specs.declared.fuse.Fuse.{Fuse}
 use Rattle.mc_model.specs.Kept.{Kept}
 use Rattle.mc_model.proofs.Prefix.{goes_on_then}
+use Rattle.mc_model.proofs.Takings.{bytes_more}
 use Rattle.mc_core.specs.Counted.{capped, run_of}
 use Rattle.mc_core.specs.Events.{ReplicaState, state_of}
 use Rattle.mc_core.proofs.GrowthFacts.{same_goes}
@@ -25,16 +26,18 @@ use Rattle.mc_drain.specs.declared.end.DrainEnd.TheVariants as end
 use Rattle.mc_drain.specs.declared.repairing.Repaired.{Repaired}
 use Rattle.mc_drain.specs.declared.working.WorkError.{WorkError}
 use Rattle.mc_drain.specs.declared.working.WorkError.TheVariants as error
-use Rattle.mc_drain.specs.Finds.{found_from}
-use Rattle.mc_drain.specs.Leads.{Always, Leads, commits_between, count}
-use Rattle.mc_drain.specs.Repairs.{RepairAnswer, RepairLeads, RepairWants, Walks, has_walked, repair_start, repaired_of, walk_error}
-use Rattle.mc_drain.specs.Words.{DrainLeads, IsBroken, is_keeper, is_peer}
-use Rattle.mc_drain.specs.Works.{IsAtEnd, keeper_broke, peer_broke}
+use Rattle.mc_drain.specs.Finds.{first_bytes, found_from}
+use Rattle.mc_drain.specs.Leads.{Always, FuseGoes, Leads, LeadsBy, Never, commits_between, count, up_to}
+use Rattle.mc_drain.specs.Repairs.{RepairAnswer, RepairLeads, Walks, repair_start, repaired_of, walk_error}
+use Rattle.mc_drain.specs.Rounds.{FindsFrom, HasWalkedFrom, HasWorkedFrom}
+use Rattle.mc_drain.specs.Words.{DrainLeads, Fetched, IsBroken, is_keeper}
+use Rattle.mc_drain.specs.Works.{IsAtEnd}
 use Rattle.mc_drain.proofs.EventFacts.{broken_at}
-use Rattle.mc_drain.proofs.FuseFacts.{burns_around, burns_before, fuse_stays, longer}
+use Rattle.mc_drain.proofs.FuseFacts.{burns_around, burns_before, fuse_more, fuse_stays, fuse_then, longer}
+use Rattle.mc_drain.proofs.GoOnFacts.{leads_go_on, leads_itself}
 use Rattle.mc_drain.proofs.ReachFacts.{MayReach}
 use Rattle.mc_drain.proofs.WalkFacts.{broken_repair, walks_stay}
-use Rattle.mc_drain.proofs.WorkFacts.{BeginsLaw, ClosedLaw, DrainedLaw, Leaves, SoFarLaw, begun, drained_at, wanted_same}
+use Rattle.mc_drain.proofs.WorkFacts.{BeginsLaw, ClosedLaw, DrainedLaw, Leaves, SoFarLaw, begun, drain_after, drained_at, kept_bytes, some_is, wanted_same}
 
 abbrev pub RepairBeginsLaw : Type 0
 RepairBeginsLaw = (bytes_of : Map) (kept : List Cid) (state : State) → ((c : Cid) (bytes : List ℕ) → bytes_in state.durable.graph c ≡ Some bytes → bytes_of c ≡ Some bytes) → ((c : Cid) → has c kept ≡ true → is_some (bytes_in state.durable.graph c) ≡ true)
@@ -51,10 +54,28 @@ pub record IsWalked (s : ReplicaState) : Type 0 where
   pub sound : IsSound s.state
   pub whole : IsWhole s.state.run
 
--- blocks that came around a walk
-goes_around : (s r m new : ReplicaState) → Leads false (count s) Always s r → Walks false 1 r m → GoesOn m.state.durable new.state.durable → GoesOn s.state.durable new.state.durable
-goes_around s r m new first walks last =
-    goes_on_then s.state.durable r.state.durable new.state.durable first.grows (goes_on_then r.state.durable m.state.durable new.state.durable walks.grows last)
+-- the fuse after a walk, and after what came then
+burns_walked : (failed : Bool) (root m new : ReplicaState) → count m ≡ count root → count m ≤ count new → FuseGoes false 1 root.fuse m.fuse → FuseGoes failed (commits_between failed m new) m.fuse new.fuse → FuseGoes failed (commits_between failed root new + 1) root.fuse new.fuse
+burns_walked failed root m new same more walk next = burns_around failed root root m new (omega arith) same more (fuse_stays false (commits_between false root root) root.fuse) walk next
+
+-- what is found is as before where no other bytes are stored
+same_bytes : (graph more : List Vertex) (offered map : Map) → ((c : Cid) → is_some (bytes_in graph c) ≡ true → is_some (bytes_in more c) ≡ true) → ((c : Cid) (bytes : List ℕ) → bytes_in more c ≡ Some bytes → map c ≡ Some bytes)
+    → (λ (c : Cid). first_bytes (bytes_in graph c) (offered c)) ≡ map → (c : Cid) → first_bytes (bytes_in more c) (offered c) ≡ map c
+same_bytes graph more offered map grows stored is c = over (bytes_in more c) (bytes_in graph c) refl refl
+  where
+    over : (now old : Option (List ℕ)) → bytes_in more c ≡ now → bytes_in graph c ≡ old → first_bytes now (offered c) ≡ map c
+    over (Some bytes) old e f = sym (stored c bytes e)
+    over None None e f = ap (λ (own : Option (List ℕ)). first_bytes own (offered c)) (sym f) ∙ ap (λ (m : Map). m c) is
+    over None (Some bytes) e f = absurd (false≢true (ap is_some (sym e) ∙ grows c (ap is_some f)))
+
+stay_stored : (old new : Durable) → GoesOn old new → (c : Cid) → is_some (bytes_in old.graph c) ≡ true → is_some (bytes_in new.graph c) ≡ true
+stay_stored old new grows c there = subst (λ (graph : List Vertex). is_some (bytes_in graph c) ≡ true) (sym grows.graph) (bytes_more old.graph grows.stored c there)
+
+still_found : (graph more : List Vertex) (offers : Option Map) (map : Map) → ((c : Cid) → is_some (bytes_in graph c) ≡ true → is_some (bytes_in more c) ≡ true) → ((c : Cid) (bytes : List ℕ) → bytes_in more c ≡ Some bytes → map c ≡ Some bytes)
+    → found_from graph offers ≡ Some map → found_from more offers ≡ Some map
+still_found graph more None map grows stored is = is
+still_found graph more (Some offered) map grows stored is =
+    let each = same_bytes graph more offered map grows stored (some_is (λ c. first_bytes (bytes_in graph c) (offered c)) map is) in λ i. Some (λ c. each c i)
 
 -- a replica that had stopped
 pub still_repairs : (budget : ℕ) (offers : Option Map) (a : Option ReplicaState) → IfSome a (λ s. IsSound s.state) → Told a a (λ s new. RepairLeads budget offers (Err error.Stopped) s new)
@@ -68,6 +89,17 @@ still_repairs budget offers (Some s) sound = record {
   sound = sound;
   is = λ map here. refl;
 }
+
+pub repairs_still : (a : Option ReplicaState) → IfSome a (λ s. IsSound s.state) → Told a a (λ s new. (budget : ℕ) (offers : Option Map) → RepairLeads budget offers (Err error.Stopped) s new)
+repairs_still None sound = tt
+repairs_still (Some s) sound = λ budget offers. still_repairs budget offers (Some s) sound
+
+-- both are told, and nothing is said of them
+pub nothing_walked : (failed : Bool) (a r b : Option ReplicaState) → Told a r (λ s new. Leads false (count s) Always s new) → Told r b (λ s new. Walks failed 1 s new) → Told a b (λ s new. ⊤)
+nothing_walked failed None r b first walks = tt
+nothing_walked failed (Some s) None b first walks = absurd first
+nothing_walked failed (Some s) (Some r) None first walks = absurd walks
+nothing_walked failed (Some s) (Some r) (Some new) first walks = tt
 
 module _ (begins : BeginsLaw) (repair_begins : RepairBeginsLaw) (joins : JoinsLaw) (whole : WholeLaw) where
   -- a repair has come to the state after the recall
@@ -89,103 +121,158 @@ module _ (begins : BeginsLaw) (repair_begins : RepairBeginsLaw) (joins : JoinsLa
       let kept : List Cid = cids_in s.state.durable.graph in
       whole map kept s.state.durable (wanted_in s.state.run) m.state here.sound here.whole (walks.goes refl map kept s.state.durable (wanted_in s.state.run) (started offers map s r is sound sound_r first))
 
+  -- a repair has begun: what is found is as it was, and its drain has begun
+  walked_from : (s r m : ReplicaState) → IsSound s.state → IsSound r.state → Leads false (count s) Always s r → Walks false 1 r m → IsWalked m → HasWalkedFrom s m
+  walked_from s r m sound sound_r first walks here = record {
+    same = let more = longer s r first.grows in omega (arith, first.few, more, walks.same);
+    grows = goes_on_then s.state.durable r.state.durable m.state.durable first.grows walks.grows;
+    fuse = fuse_more false (commits_between false s r + 1) 1 s.fuse m.fuse (omega (arith, first.few)) (fuse_then false (commits_between false s r) 1 s.fuse r.fuse m.fuse first.fuse walks.fuse);
+    sound = here.sound;
+    whole = here.whole;
+    finds = λ offers map is.
+        let h = walked offers map s r m is sound sound_r first walks here in (
+          still_found s.state.durable.graph m.state.durable.graph offers map (stay_stored s.state.durable m.state.durable (goes_on_then s.state.durable r.state.durable m.state.durable first.grows walks.grows)) h.stored is,
+          record { draining = h.draining; stored = h.stored; taken = h.taken; own = kept_bytes m.state.durable.graph },
+        );
+  }
+
+  pub walked_told : (before : ℕ) (a r m : Option ReplicaState) → IfSome a (λ s. before ≡ capped (count s)) → IfSome a (λ s. IsSound s.state) → IfSome r (λ s. IsSound s.state) → IfSome m IsWalked → Told a r (λ s new. Leads false (count s) Always s new)
+      → Told r m (λ s new. Walks false 1 s new) → Told a m (λ s new. (before ≡ capped (count new)) × HasWalkedFrom s new)
+  walked_told before None r m at sound sound_r here first walks = tt
+  walked_told before (Some s) None m at sound sound_r here first walks = absurd first
+  walked_told before (Some s) (Some r) None at sound sound_r here first walks = absurd walks
+  walked_told before (Some s) (Some r) (Some new) at sound sound_r here first walks = let begun = walked_from s r new sound sound_r first walks here in (at ∙ ap capped (sym begun.same), begun)
+
   module _ (closed : ClosedLaw) (so_far : SoFarLaw) (drained : DrainedLaw) where
-    repair_is : (stop : DrainEnd) (budget limit before : ℕ) (offers : Option Map) (result : Result Repaired WorkError) (s r m new : ReplicaState) → limit ≡ capped (before + budget) → before ≡ capped (count s) → RepairAnswer stop before (Some new) result
-        → IsSound s.state → IsSound r.state → IsWalked m → Leaves stop new → MayReach new → Leads false (count s) Always s r → Walks false 1 r m → DrainLeads stop limit offers m new → RepairLeads budget offers result s new
-    repair_is end.Idle budget limit before offers result s r m new is at answer sound sound_r here leaves reached first walks leads =
+    repair_is : (stop : DrainEnd) (budget limit before : ℕ) (offers : Option Map) (result : Result Repaired WorkError) (s m new : ReplicaState) → limit ≡ capped (before + budget) → before ≡ capped (count m) → RepairAnswer stop before (Some new) result
+        → HasWalkedFrom s m → Leaves stop new → MayReach new → DrainLeads stop limit (FindsFrom offers m.state.durable.graph) m new → RepairLeads budget offers result s new
+    repair_is end.Idle budget limit before offers result s m new is at answer here leaves reached leads =
         subst (λ (x : Result Repaired WorkError). RepairLeads budget offers x s new) (sym answer.1) (by_gaps answer.0 answer.2)
       where
         at_end : (map : Map) → found_from s.state.durable.graph offers ≡ Some map → IsAtEnd map (repair_start s) s new
         at_end map f =
-            let h = walked offers map s r m f sound sound_r first walks here in
-            let fetched = (begun begins s offers map f).1 in
-            let kept : List Cid = cids_in s.state.durable.graph in
-            let parts = leads.parts refl map kept fetched s.state.durable (repair_start s) h in
+            let finds = here.finds offers map f in
+            let kept : List Cid = cids_in m.state.durable.graph in
+            let parts = leads.parts refl map kept (finds.0, refl) s.state.durable (repair_start s) finds.1 in
             record {
-              closure = closed map kept s.state.durable (repair_start s) new.state leaves.sound (drained_at drained map new.state.run parts (leaves.waiting refl) (leaves.flight refl)) (leads.goes refl map kept fetched s.state.durable (repair_start s) h);
+              closure = closed map kept s.state.durable (repair_start s) new.state leaves.sound (drained_at drained map new.state.run parts (leaves.waiting refl) (leaves.flight refl)) (leads.goes refl map kept (finds.0, refl) s.state.durable (repair_start s) finds.1);
               parts = parts;
             }
 
         by_gaps : (left : Settled) → left ≡ settled_with (gap_count (kept_of new.state.durable)) → RepairLeads budget offers (Ok (repaired_of left)) s new
         by_gaps settled.Clean e = record {
-          grows = goes_around s r m new first walks leads.grows;
-          within = let a = longer s r first.grows in let b = longer m new leads.grows in omega (arith, first.few, a, walks.same, leads.within, b, is, at);
-          fuse = burns_around false s r m new (longer s r first.grows) walks.same (longer m new leads.grows) first.fuse walks.fuse leads.fuse;
+          grows = goes_on_then s.state.durable m.state.durable new.state.durable here.grows leads.grows;
+          within = let more = longer m new leads.grows in omega (arith, here.same, leads.within, more, is, at);
+          fuse = burns_walked false s m new here.same (longer m new leads.grows) here.fuse leads.fuse;
           counts = sym e;
           reaches = reached (sym e);
           sound = leaves.sound;
           is = at_end;
         }
         by_gaps (settled.Open gaps) e = record {
-          grows = goes_around s r m new first walks leads.grows;
-          within = let a = longer s r first.grows in let b = longer m new leads.grows in omega (arith, first.few, a, walks.same, leads.within, b, is, at);
-          fuse = burns_around false s r m new (longer s r first.grows) walks.same (longer m new leads.grows) first.fuse walks.fuse leads.fuse;
+          grows = goes_on_then s.state.durable m.state.durable new.state.durable here.grows leads.grows;
+          within = let more = longer m new leads.grows in omega (arith, here.same, leads.within, more, is, at);
+          fuse = burns_walked false s m new here.same (longer m new leads.grows) here.fuse leads.fuse;
           counts = sym e;
           reaches = tt;
           sound = leaves.sound;
           is = at_end;
         }
-    repair_is end.Spent budget limit before offers result s r m new is at answer sound sound_r here leaves reached first walks leads =
+    repair_is end.Spent budget limit before offers result s m new is at answer here leaves reached leads =
         subst (λ (x : Result Repaired WorkError). RepairLeads budget offers x s new) (sym answer.1) (record {
-          grows = goes_around s r m new first walks leads.grows;
-          within = let a = longer s r first.grows in let b = longer m new leads.grows in omega (arith, first.few, a, walks.same, leads.within, b, is, at);
-          fuse = burns_around false s r m new (longer s r first.grows) walks.same (longer m new leads.grows) first.fuse walks.fuse leads.fuse;
-          counts = (answer.2 ∙ ap (λ (n : ℕ). capped (count new) - n) at, let spent = leads.spent refl in omega (arith, spent, is, at));
+          grows = goes_on_then s.state.durable m.state.durable new.state.durable here.grows leads.grows;
+          within = let more = longer m new leads.grows in omega (arith, here.same, leads.within, more, is, at);
+          fuse = burns_walked false s m new here.same (longer m new leads.grows) here.fuse leads.fuse;
+          counts = (answer.2 ∙ ap (λ (n : ℕ). capped (count new) - n) (at ∙ ap capped here.same), let spent = leads.spent refl in omega (arith, spent, is, at, here.same));
           reaches = tt;
           sound = leaves.sound;
           is = λ map f.
-              let h = walked offers map s r m f sound sound_r first walks here in
-              let fetched = (begun begins s offers map f).1 in
-              let kept : List Cid = cids_in s.state.durable.graph in
+              let finds = here.finds offers map f in
+              let kept : List Cid = cids_in m.state.durable.graph in
               record {
-                so_far = so_far map kept s.state.durable (repair_start s) new.state leaves.sound (leads.goes refl map kept fetched s.state.durable (repair_start s) h);
-                parts = leads.parts refl map kept fetched s.state.durable (repair_start s) h;
-                good = leads.good refl map kept fetched s.state.durable (repair_start s) h;
+                so_far = so_far map kept s.state.durable (repair_start s) new.state leaves.sound (leads.goes refl map kept (finds.0, refl) s.state.durable (repair_start s) finds.1);
+                parts = leads.parts refl map kept (finds.0, refl) s.state.durable (repair_start s) finds.1;
+                good = leads.good refl map kept (finds.0, refl) s.state.durable (repair_start s) finds.1;
               };
         })
-    repair_is end.KeeperFault budget limit before offers result s r m new is at answer sound sound_r here leaves reached first walks leads =
+    repair_is end.KeeperFault budget limit before offers result s m new is at answer here leaves reached leads =
         subst (λ (x : Result Repaired WorkError). RepairLeads budget offers x s new) (sym answer) (record {
-          grows = goes_around s r m new first walks leads.grows;
-          within = let a = longer s r first.grows in let b = longer m new leads.grows in omega (arith, first.few, a, walks.same, leads.within, b, is, at);
-          fuse = burns_around true s r m new (longer s r first.grows) walks.same (longer m new leads.grows) first.fuse walks.fuse leads.fuse;
+          grows = goes_on_then s.state.durable m.state.durable new.state.durable here.grows leads.grows;
+          within = let more = longer m new leads.grows in omega (arith, here.same, leads.within, more, is, at);
+          fuse = burns_walked true s m new here.same (longer m new leads.grows) here.fuse leads.fuse;
           counts = tt;
           reaches = tt;
           sound = leaves.sound;
-          is = λ map f. leads.breaks refl map (cids_in s.state.durable.graph) (begun begins s offers map f).1 s.state.durable (repair_start s) (walked offers map s r m f sound sound_r first walks here);
+          is = λ map f. let finds = here.finds offers map f in leads.breaks refl map (cids_in m.state.durable.graph) (finds.0, refl) s.state.durable (repair_start s) finds.1;
         })
-    repair_is end.PeerFault budget limit before offers result s r m new is at answer sound sound_r here leaves reached first walks leads =
+    repair_is end.PeerFault budget limit before offers result s m new is at answer here leaves reached leads =
         subst (λ (x : Result Repaired WorkError). RepairLeads budget offers x s new) (sym answer) (record {
-          grows = goes_around s r m new first walks leads.grows;
-          within = let a = longer s r first.grows in let b = longer m new leads.grows in omega (arith, first.few, a, walks.same, leads.within, b, is, at);
-          fuse = burns_around false s r m new (longer s r first.grows) walks.same (longer m new leads.grows) first.fuse walks.fuse leads.fuse;
+          grows = goes_on_then s.state.durable m.state.durable new.state.durable here.grows leads.grows;
+          within = let more = longer m new leads.grows in omega (arith, here.same, leads.within, more, is, at);
+          fuse = burns_walked false s m new here.same (longer m new leads.grows) here.fuse leads.fuse;
           counts = tt;
           reaches = tt;
           sound = leaves.sound;
           is = λ map f.
-              let goes = leads.goes refl map (cids_in s.state.durable.graph) (begun begins s offers map f).1 s.state.durable (repair_start s) (walked offers map s r m f sound sound_r first walks here) in
-              (so_far map (cids_in s.state.durable.graph) s.state.durable (repair_start s) new.state leaves.sound goes, broken_at map (cids_in s.state.durable.graph) s.state.durable (repair_start s) new.state goes);
+              let finds = here.finds offers map f in
+              let kept : List Cid = cids_in m.state.durable.graph in
+              let goes = leads.goes refl map kept (finds.0, refl) s.state.durable (repair_start s) finds.1 in
+              (so_far map kept s.state.durable (repair_start s) new.state leaves.sound goes, broken_at map kept s.state.durable (repair_start s) new.state goes);
         })
-    repair_is end.Memory budget limit before offers result s r m new is at answer sound sound_r here leaves reached first walks leads =
+    repair_is end.Memory budget limit before offers result s m new is at answer here leaves reached leads =
         subst (λ (x : Result Repaired WorkError). RepairLeads budget offers x s new) (sym answer) (record {
-          grows = goes_around s r m new first walks leads.grows;
-          within = let a = longer s r first.grows in let b = longer m new leads.grows in omega (arith, first.few, a, walks.same, leads.within, b, is, at);
-          fuse = burns_around false s r m new (longer s r first.grows) walks.same (longer m new leads.grows) first.fuse walks.fuse leads.fuse;
+          grows = goes_on_then s.state.durable m.state.durable new.state.durable here.grows leads.grows;
+          within = let more = longer m new leads.grows in omega (arith, here.same, leads.within, more, is, at);
+          fuse = burns_walked false s m new here.same (longer m new leads.grows) here.fuse leads.fuse;
           counts = tt;
           reaches = tt;
           sound = leaves.sound;
-          is = λ map f. broken_at map (cids_in s.state.durable.graph) s.state.durable (repair_start s) new.state
-              (leads.goes refl map (cids_in s.state.durable.graph) (begun begins s offers map f).1 s.state.durable (repair_start s) (walked offers map s r m f sound sound_r first walks here));
+          is = λ map f.
+              let finds = here.finds offers map f in
+              let kept : List Cid = cids_in m.state.durable.graph in
+              broken_at map kept s.state.durable (repair_start s) new.state (leads.goes refl map kept (finds.0, refl) s.state.durable (repair_start s) finds.1);
         })
 
-    pub repair_told : (stop : DrainEnd) (budget limit before : ℕ) (offers : Option Map) (result : Result Repaired WorkError) (a r m b : Option ReplicaState) → limit ≡ capped (before + budget) → IfSome a (λ s. before ≡ capped (count s)) → RepairAnswer stop before b result
-        → IfSome a (λ s. IsSound s.state) → IfSome r (λ s. IsSound s.state) → IfSome m IsWalked → IfSome b (Leaves stop) → IfSome b MayReach → Told a r (λ s new. Leads false (count s) Always s new) → Told r m (λ s new. Walks false 1 s new) → Told m b (λ s new. DrainLeads stop limit offers s new)
-        → Told a b (λ s new. RepairLeads budget offers result s new)
-    repair_told stop budget limit before offers result None r m b is at answer sound sound_r here leaves reached first walks leads = tt
-    repair_told stop budget limit before offers result (Some s) None m b is at answer sound sound_r here leaves reached first walks leads = absurd first
-    repair_told stop budget limit before offers result (Some s) (Some r) None b is at answer sound sound_r here leaves reached first walks leads = absurd walks
-    repair_told stop budget limit before offers result (Some s) (Some r) (Some m) None is at answer sound sound_r here leaves reached first walks leads = absurd leads
-    repair_told stop budget limit before offers result (Some s) (Some r) (Some m) (Some new) is at answer sound sound_r here leaves reached first walks leads =
-        repair_is stop budget limit before offers result s r m new is at answer sound sound_r here leaves reached first walks leads
+    -- where workers have led from the walk's end, and a drain from there
+    pub finish_repair_told : (stop : DrainEnd) (budget limit before : ℕ) (offers : Option Map) (result : Result Repaired WorkError) (a b : Option ReplicaState) → limit ≡ capped (before + budget) → RepairAnswer stop before b result
+        → IfSome b (Leaves stop) → IfSome b MayReach → Told a b (λ s new. DrainLeads stop limit (Fetched offers) s new)
+        → Told a b (λ s new. (root walked : ReplicaState) → HasWalkedFrom root walked → HasWorkedFrom false before budget offers walked s → RepairLeads budget offers result root new)
+    finish_repair_told stop budget limit before offers result None b is answer leaves reached leads = tt
+    finish_repair_told stop budget limit before offers result (Some s) None is answer leaves reached leads = absurd leads
+    finish_repair_told stop budget limit before offers result (Some s) (Some new) is answer leaves reached leads = λ root walked here worked.
+        repair_is stop budget limit before offers result root walked new is worked.counted answer here leaves reached
+        (drain_after begins stop limit offers walked s new (subst (λ (n : ℕ). LeadsBy false (up_to n walked) (FindsFrom offers walked.state.durable.graph) Never walked s) (sym is) worked.leads) leads)
+
+    -- the keeper of the workers failed
+    pub repair_broken : (before budget : ℕ) (offers : Option Map) (root m s : ReplicaState) → IsSound s.state → HasWalkedFrom root m → HasWorkedFrom true before budget offers m s → RepairLeads budget offers (Err error.KeeperFault) root s
+    repair_broken before budget offers root m s sound here worked = record {
+      grows = goes_on_then root.state.durable m.state.durable s.state.durable here.grows worked.leads.grows;
+      within = let few = worked.leads.few in let at = worked.counted in omega (arith, here.same, few, at);
+      fuse = burns_walked true root m s here.same (longer m s worked.leads.grows) here.fuse worked.leads.fuse;
+      counts = tt;
+      reaches = tt;
+      sound = sound;
+      is = λ map f. let finds = here.finds offers map f in worked.leads.breaks refl map (cids_in m.state.durable.graph) (finds.0, refl) root.state.durable (repair_start root) finds.1;
+    }
+
+    -- a fetch of theirs failed, and all was recalled
+    pub repair_recalled : (before budget : ℕ) (offers : Option Map) (root m s new : ReplicaState) → IsSound new.state → HasWalkedFrom root m → HasWorkedFrom false before budget offers m s → Leads false (count s) Always s new → RepairLeads budget offers (Err error.PeerFault) root new
+    repair_recalled before budget offers root m s new sound here worked recalled = record {
+      grows = goes_on_then root.state.durable m.state.durable new.state.durable here.grows leads.grows;
+      within = let few = leads.few in let at = worked.counted in omega (arith, here.same, few, at);
+      fuse = burns_walked false root m new here.same (longer m new leads.grows) here.fuse leads.fuse;
+      counts = tt;
+      reaches = tt;
+      sound = sound;
+      is = λ map f.
+          let finds = here.finds offers map f in
+          let kept : List Cid = cids_in m.state.durable.graph in
+          let goes = leads.goes refl map kept (finds.0, refl) root.state.durable (repair_start root) finds.1 in
+          (so_far map kept root.state.durable (repair_start root) new.state sound goes, broken_at map kept root.state.durable (repair_start root) new.state goes);
+    }
+      where
+        leads : LeadsBy false (up_to (capped (before + budget)) m) (FindsFrom offers m.state.durable.graph) Never m new
+        leads = leads_go_on false (up_to (capped (before + budget)) m) (count s) (up_to (capped (before + budget)) m) (FindsFrom offers m.state.durable.graph) Always Always m s new worked.leads recalled worked.leads.few (λ map kept old start p h. tt)
 
   -- the walk came to no end
   cut_is : (stop : DrainEnd) (budget : ℕ) (offers : Option Map) (s r new : ReplicaState) → IsBroken stop → IsSound s.state → IsSound r.state → IsSound new.state → Leads false (count s) Always s r → Walks (is_keeper stop) 1 r new → RepairLeads budget offers (Err (walk_error stop)) s new
@@ -211,12 +298,12 @@ module _ (begins : BeginsLaw) (repair_begins : RepairBeginsLaw) (joins : JoinsLa
     is = λ map f. broken_repair map (cids_in s.state.durable.graph) s.state.durable (wanted_in s.state.run) new.state (walks.goes refl map (cids_in s.state.durable.graph) s.state.durable (wanted_in s.state.run) (started offers map s r f sound sound_r first));
   }
 
-  pub cut_told : (stop : DrainEnd) (budget : ℕ) (offers : Option Map) (error : WorkError) (a r b : Option ReplicaState) → error ≡ walk_error stop → IsBroken stop → IfSome a (λ s. IsSound s.state) → IfSome r (λ s. IsSound s.state) → IfSome b (λ s. IsSound s.state) → Told a r (λ s new. Leads false (count s) Always s new)
-      → Told r b (λ s new. Walks (is_keeper stop) 1 s new) → Told a b (λ s new. RepairLeads budget offers (Err error) s new)
-  cut_told stop budget offers error None r b is broken sound sound_r sound_new first walks = tt
-  cut_told stop budget offers error (Some s) None b is broken sound sound_r sound_new first walks = absurd first
-  cut_told stop budget offers error (Some s) (Some r) None is broken sound sound_r sound_new first walks = absurd walks
-  cut_told stop budget offers error (Some s) (Some r) (Some new) is broken sound sound_r sound_new first walks =
+  pub cut_each : (stop : DrainEnd) (error : WorkError) (a r b : Option ReplicaState) → error ≡ walk_error stop → IsBroken stop → IfSome a (λ s. IsSound s.state) → IfSome r (λ s. IsSound s.state) → IfSome b (λ s. IsSound s.state) → Told a r (λ s new. Leads false (count s) Always s new)
+      → Told r b (λ s new. Walks (is_keeper stop) 1 s new) → Told a b (λ s new. (budget : ℕ) (offers : Option Map) → RepairLeads budget offers (Err error) s new)
+  cut_each stop error None r b is broken sound sound_r sound_new first walks = tt
+  cut_each stop error (Some s) None b is broken sound sound_r sound_new first walks = absurd first
+  cut_each stop error (Some s) (Some r) None is broken sound sound_r sound_new first walks = absurd walks
+  cut_each stop error (Some s) (Some r) (Some new) is broken sound sound_r sound_new first walks = λ budget offers.
       subst (λ (e : WorkError). RepairLeads budget offers (Err e) s new) (sym is) (cut_is stop budget offers s r new broken sound sound_r sound_new first walks)
 
   -- it was given up before the walk
@@ -226,86 +313,20 @@ module _ (begins : BeginsLaw) (repair_begins : RepairBeginsLaw) (joins : JoinsLa
   given_up_told budget offers (Some s) None sound sound_new first = absurd first
   given_up_told budget offers (Some s) (Some new) sound sound_new first = cut_is end.Memory budget offers s new new tt sound sound_new sound_new first (walks_stay 1 new new refl)
 
--- an answer fails as its walk or its drain does
+-- it has come to no walk's end, whatever the budget and the offers are
+pub unwalked_told : (budget : ℕ) (offers : Option Map) (error : WorkError) (a b : Option ReplicaState) → Told a b (λ s new. (budget : ℕ) (offers : Option Map) → RepairLeads budget offers (Err error) s new) → Told a b (λ s new. RepairLeads budget offers (Err error) s new)
+unwalked_told budget offers error None b leads = tt
+unwalked_told budget offers error (Some s) None leads = absurd leads
+unwalked_told budget offers error (Some s) (Some new) leads = leads budget offers
 
-pub cut_keeper : (stop : DrainEnd) (error : WorkError) → error ≡ walk_error stop → keeper_broke {T = Repaired} (Err error) ≡ is_keeper stop
-cut_keeper end.Idle error is = ap (λ (e : WorkError). keeper_broke {T = Repaired} (Err e)) is
-cut_keeper end.Spent error is = ap (λ (e : WorkError). keeper_broke {T = Repaired} (Err e)) is
-cut_keeper end.KeeperFault error is = ap (λ (e : WorkError). keeper_broke {T = Repaired} (Err e)) is
-cut_keeper end.PeerFault error is = ap (λ (e : WorkError). keeper_broke {T = Repaired} (Err e)) is
-cut_keeper end.Memory error is = ap (λ (e : WorkError). keeper_broke {T = Repaired} (Err e)) is
-
-pub cut_peer : (stop : DrainEnd) (error : WorkError) → error ≡ walk_error stop → peer_broke {T = Repaired} (Err error) ≡ false
-cut_peer end.Idle error is = ap (λ (e : WorkError). peer_broke {T = Repaired} (Err e)) is
-cut_peer end.Spent error is = ap (λ (e : WorkError). peer_broke {T = Repaired} (Err e)) is
-cut_peer end.KeeperFault error is = ap (λ (e : WorkError). peer_broke {T = Repaired} (Err e)) is
-cut_peer end.PeerFault error is = ap (λ (e : WorkError). peer_broke {T = Repaired} (Err e)) is
-cut_peer end.Memory error is = ap (λ (e : WorkError). peer_broke {T = Repaired} (Err e)) is
-
-pub cut_walks : (stop : DrainEnd) (error : WorkError) → error ≡ walk_error stop → IsBroken stop → has_walked (Err error) ≡ false
-cut_walks end.Idle error is broken = absurd broken
-cut_walks end.Spent error is broken = absurd broken
-cut_walks end.KeeperFault error is broken = ap (λ (e : WorkError). has_walked (Err e)) is
-cut_walks end.PeerFault error is broken = absurd broken
-cut_walks end.Memory error is broken = ap (λ (e : WorkError). has_walked (Err e)) is
-
-pub cut_wants : (stop : DrainEnd) (error : WorkError) (q : Queue) → error ≡ walk_error stop → q.flight ≡ [] → RepairWants (Err error) q
-cut_wants end.Idle error q is none = subst (λ (e : WorkError). RepairWants (Err e) q) (sym is) none
-cut_wants end.Spent error q is none = subst (λ (e : WorkError). RepairWants (Err e) q) (sym is) none
-cut_wants end.KeeperFault error q is none = subst (λ (e : WorkError). RepairWants (Err e) q) (sym is) tt
-cut_wants end.PeerFault error q is none = subst (λ (e : WorkError). RepairWants (Err e) q) (sym is) none
-cut_wants end.Memory error q is none = subst (λ (e : WorkError). RepairWants (Err e) q) (sym is) none
-
-abbrev was_stopped : Result Repaired WorkError → Bool
-was_stopped (Ok value) = false
-was_stopped (Err error.KeeperFault) = false
-was_stopped (Err error.PeerFault) = false
-was_stopped (Err error.Stopped) = true
-was_stopped (Err error.Memory) = false
-
-cut_runs_at : (stop : DrainEnd) → was_stopped (Err (walk_error stop)) ≡ false
-cut_runs_at end.Idle = refl
-cut_runs_at end.Spent = refl
-cut_runs_at end.KeeperFault = refl
-cut_runs_at end.PeerFault = refl
-cut_runs_at end.Memory = refl
-
-pub cut_runs : (stop : DrainEnd) (why : WorkError) → why ≡ walk_error stop → ◌≢◌ {A = Result Repaired WorkError} (Err why) (Err error.Stopped)
-cut_runs stop why is e = absurd (false≢true (sym (cut_runs_at stop) ∙ ap (λ (x : WorkError). was_stopped (Err x)) (sym is) ∙ ap was_stopped e))
-
-pub repair_keeper : (stop : DrainEnd) (before : ℕ) (state : Option ReplicaState) (result : Result Repaired WorkError) → RepairAnswer stop before state result → keeper_broke result ≡ is_keeper stop
-repair_keeper end.Idle before state result answer = ap keeper_broke answer.1
-repair_keeper end.Spent before state result answer = ap keeper_broke answer.1
-repair_keeper end.KeeperFault before state result answer = ap keeper_broke answer
-repair_keeper end.PeerFault before state result answer = ap keeper_broke answer
-repair_keeper end.Memory before state result answer = ap keeper_broke answer
-
-pub repair_peer : (stop : DrainEnd) (before : ℕ) (state : Option ReplicaState) (result : Result Repaired WorkError) → RepairAnswer stop before state result → peer_broke result ≡ is_peer stop
-repair_peer end.Idle before state result answer = ap peer_broke answer.1
-repair_peer end.Spent before state result answer = ap peer_broke answer.1
-repair_peer end.KeeperFault before state result answer = ap peer_broke answer
-repair_peer end.PeerFault before state result answer = ap peer_broke answer
-repair_peer end.Memory before state result answer = ap peer_broke answer
-
-pub repair_runs : (stop : DrainEnd) (before : ℕ) (state : Option ReplicaState) (result : Result Repaired WorkError) → RepairAnswer stop before state result → result ≢ Err error.Stopped
-repair_runs end.Idle before state result answer e = absurd (false≢true (ap was_stopped (sym answer.1 ∙ e)))
-repair_runs end.Spent before state result answer e = absurd (false≢true (ap was_stopped (sym answer.1 ∙ e)))
-repair_runs end.KeeperFault before state result answer e = absurd (false≢true (ap was_stopped (sym answer ∙ e)))
-repair_runs end.PeerFault before state result answer e = absurd (false≢true (ap was_stopped (sym answer ∙ e)))
-repair_runs end.Memory before state result answer e = absurd (false≢true (ap was_stopped (sym answer ∙ e)))
-
-settled_wants : (left : Settled) (q : Queue) → q.waiting ≡ [] → q.flight ≡ [] → RepairWants (Ok (repaired_of left)) q
-settled_wants settled.Clean q waiting flight = (waiting, flight)
-settled_wants (settled.Open gaps) q waiting flight = (waiting, flight)
-
--- what is wanted then
-pub repair_wants : (stop : DrainEnd) (before : ℕ) (state : Option ReplicaState) (q : Queue) (result : Result Repaired WorkError) → RepairAnswer stop before state result → (is_keeper stop ≡ false → q.flight ≡ []) → (stop ≡ end.Idle → q.waiting ≡ [])
-    → (stop ≡ end.Spent → q.waiting ≢ []) → RepairWants result q
-repair_wants end.Idle before state q result answer flight idle spent = subst (λ (r : Result Repaired WorkError). RepairWants r q) (sym answer.1) (settled_wants answer.0 q (idle refl) (flight refl))
-repair_wants end.Spent before state q result answer flight idle spent = subst (λ (r : Result Repaired WorkError). RepairWants r q) (sym answer.1) (spent refl, flight refl)
-repair_wants end.KeeperFault before state q result answer flight idle spent = subst (λ (r : Result Repaired WorkError). RepairWants r q) (sym answer) tt
-repair_wants end.PeerFault before state q result answer flight idle spent = subst (λ (r : Result Repaired WorkError). RepairWants r q) (sym answer) (flight refl)
-repair_wants end.Memory before state q result answer flight idle spent = subst (λ (r : Result Repaired WorkError). RepairWants r q) (sym answer) (flight refl)
+-- where nobody has worked since the walk
+pub repair_alone_told : (before budget : ℕ) (offers : Option Map) (result : Result Repaired WorkError) (a m b : Option ReplicaState) → Told a m (λ s mid. (before ≡ capped (count mid)) × HasWalkedFrom s mid)
+    → Told m b (λ s new. (root walked : ReplicaState) → HasWalkedFrom root walked → HasWorkedFrom false before budget offers walked s → RepairLeads budget offers result root new) → Told a b (λ s new. RepairLeads budget offers result s new)
+repair_alone_told before budget offers result None m b walked leads = tt
+repair_alone_told before budget offers result (Some s) None b walked leads = absurd walked
+repair_alone_told before budget offers result (Some s) (Some mid) None walked leads = absurd leads
+repair_alone_told before budget offers result (Some s) (Some mid) (Some new) walked leads =
+    leads s mid walked.1 (record { counted = walked.0; leads = leads_itself (up_to (capped (before + budget)) mid) (FindsFrom offers mid.state.durable.graph) Never mid (omega arith) })
 
 -- what is known after the walk, as its state has it
 pub walked_shown : (told : Option Kept) (fuse : Option Fuse) (down : Bool) (run : Running) → down ≡ false → run.whole ≡ true → IfSome (state_of told fuse (run_of down run)) (λ s. IsSound s.state) → IfSome (state_of told fuse (run_of down run)) IsWalked

@@ -32,7 +32,7 @@ pub record IsSorting (offers : Option Map) (s : ReplicaState) (waiting : List Ci
   pub goods : List Cid
   pub is : waiting ≡ rest ++ goods
   pub enough : length rest ≡ left
-  pub good : AllGood offers s goods
+  pub good : AllGood (Fetched offers) s goods
 
 pub sorting_start : (offers : Option Map) (s : ReplicaState) (waiting : List Cid) (left : ℕ) → left ≡ length waiting → IsSorting offers s waiting left
 sorting_start offers s waiting left len = record {
@@ -64,8 +64,8 @@ sorting_on offers s mid before after left less h some next one come =
     }
 
 -- all were
-pub sorted_all : (offers : Option Map) (s : ReplicaState) (waiting : List Cid) (left : ℕ) → IsSorting offers s waiting left → left ≡ 0 → AllGood offers s waiting
-sorted_all offers s waiting left h none = subst (AllGood offers s) (sym (h.is ∙ ap (λ r. r ++ h.goods) (empty h.rest (h.enough ∙ none)))) h.good
+pub sorted_all : (offers : Option Map) (s : ReplicaState) (waiting : List Cid) (left : ℕ) → IsSorting offers s waiting left → left ≡ 0 → AllGood (Fetched offers) s waiting
+sorted_all offers s waiting left h none = subst (AllGood (Fetched offers) s) (sym (h.is ∙ ap (λ r. r ++ h.goods) (empty h.rest (h.enough ∙ none)))) h.good
   where
     empty : (r : List Cid) → length r ≡ 0 → r ≡ []
     empty [] e = refl
@@ -145,10 +145,10 @@ sorting_told offers now result (Some s) None before after left less same none so
 sorting_told offers now result (Some s) (Some mid) before after left less same none some next come h one =
     sorting_on offers s mid before after left less h some next (subst (λ (o : Option Map). SortsFirst o mid before after) same (one none)) (λ map kept f old start d. come.goes refl map kept f old start d)
 
-pub sorted_told : (offers : Option Map) (result : Option DrainEnd) (a : Option ReplicaState) (waiting : List Cid) (left : ℕ) → left ≡ 0 → IfSome a (λ s. IsSorting offers s waiting left) → IfSome a (λ s. result ≡ None → AllGood offers s waiting)
+pub sorted_told : (offers : Option Map) (result : Option DrainEnd) (a : Option ReplicaState) (waiting : List Cid) (left : ℕ) → left ≡ 0 → IfSome a (λ s. IsSorting offers s waiting left) → IfSome a (λ s. result ≡ None → AllGood (Fetched offers) s waiting)
 sorted_told offers result None waiting left none h = tt
 sorted_told offers result (Some s) waiting left none h = λ e. sorted_all offers s waiting left h none
 
-pub good_told : (offers : Option Map) (turn : Option DrainEnd) (end : DrainEnd) (a : Option ReplicaState) (waiting : List Cid) → turn ≡ None → IfSome a (λ s. turn ≡ None → AllGood offers s waiting) → IfSome a (λ s. end ≡ Spent → AllGood offers s waiting)
+pub good_told : (offers : Option Map) (turn : Option DrainEnd) (end : DrainEnd) (a : Option ReplicaState) (waiting : List Cid) → turn ≡ None → IfSome a (λ s. turn ≡ None → AllGood (Fetched offers) s waiting) → IfSome a (λ s. end ≡ Spent → AllGood (Fetched offers) s waiting)
 good_told offers turn end None waiting none h = tt
 good_told offers turn end (Some s) waiting none h = λ e. h none

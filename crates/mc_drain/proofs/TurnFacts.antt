@@ -1,6 +1,7 @@
 -- Parts of a turn, one after another, where the keeper tells.
 use Rattle.std.proofs.Common.{◌≡◌, ◌≤◌, ◌<◌, ◌+◌, ◌^◌, ◌||◌, ℕ, Bool, true, false, List, Option, Some, None, Result, Ok, Err, refl, sym, ap, ◌∙◌, subst, arith}
 use Rattle.std.specs.Prelude.{⊤, IfSome, is_some}
+use Rattle.std.proofs.lemmas.Bool.{false≢true}
 use Rattle.mc_base.specs.Told.{Told}
 use Rattle.mc_base.specs.declared.cid.Cid.{Cid}
 use Rattle.mc_fetch.specs.Fits.{FetchFits, Map}
@@ -32,11 +33,11 @@ use Rattle.mc_core.specs.Reads.{read_refusal}
 use Rattle.mc_core.specs.Refusals.{Is, is_fault}
 use Rattle.mc_core.specs.Reports.{IsReport}
 use Rattle.mc_core.proofs.GrowthFacts.{GrowLaw}
-use Rattle.mc_drain.specs.Leads.{Always, Leads, all_processes, count, up_to}
+use Rattle.mc_drain.specs.Leads.{Always, Leads, LeadsBy, all_processes, count, up_to}
 use Rattle.mc_drain.specs.declared.end.DrainEnd.{DrainEnd}
-use Rattle.mc_drain.specs.Words.{Fetched, FetchedFor, FoundFor, IsNoBlock, end_by, is_keeper, keeper_failed}
+use Rattle.mc_drain.specs.Words.{Fetched, FetchedFor, FoundFor, TakenFor, IsNoBlock, end_by, is_keeper, keeper_failed}
 use Rattle.mc_drain.proofs.EventFacts.{GoesLaw, StayLaw, stays_leads}
-use Rattle.mc_drain.proofs.CallFacts.{SaysLaw, TakesLaw, bytes_same, deliver_leads, leads_then, leads_weaker, next_leads, own_fits, told_with}
+use Rattle.mc_drain.proofs.CallFacts.{SaysLaw, TakesLaw, bytes_same, deliver_by, found_for, leads_alike, leads_then, leads_weaker, next_leads, own_fits, told_with}
 
 -- a replica that has not stopped runs
 pub runs_where : (told : Option Kept) (fuse : Option Fuse) (stop : Bool) (run : Running) → stop ≡ false → IfSome (state_of told fuse (run_of stop run)) (λ s. is_some s.state.run ≡ true)
@@ -113,12 +114,18 @@ next_told grow_law goes_law stay_law rose result failed (Some s) (Some new) flag
 
 pub deliver_told : (grow_law : GrowLaw) (goes_law : GoesLaw) (stay_law : StayLaw) (takes_law : TakesLaw) (says_law : SaysLaw) (cid : Cid) (found : Option (List ℕ)) (rose : Type 0) (result : Result Delivered CoreError) (failed : Bool) (a b : Option ReplicaState) → is_fault result ≡ failed
     → IfSome a (λ s. IsSound s.state) → Told a b (λ s new. Call (Is (read_refusal s)) (DeliverPlan s cid found) (DeliverShort s cid) rose result s new)
-    → Told a b (λ s new. Leads failed (count s + all_processes (delivery s.state.durable.graph cid found)) (FoundFor cid found) s new)
+    → Told a b (λ s new. LeadsBy failed (count s + all_processes (delivery s.state.durable.graph cid found)) (TakenFor cid found) (FoundFor cid found) s new)
 deliver_told grow_law goes_law stay_law takes_law says_law cid found rose result failed None b flag sound t = tt
 deliver_told grow_law goes_law stay_law takes_law says_law cid found rose result failed (Some s) None flag sound t = absurd t
 deliver_told grow_law goes_law stay_law takes_law says_law cid found rose result failed (Some s) (Some new) flag sound t =
-    subst (λ (f : Bool). Leads f (count s + all_processes (delivery s.state.durable.graph cid found)) (FoundFor cid found) s new) flag
-    (deliver_leads grow_law goes_law stay_law takes_law says_law cid found (all_processes (delivery s.state.durable.graph cid found)) rose result s new sound (omega arith) t)
+    subst (λ (f : Bool). LeadsBy f (count s + all_processes (delivery s.state.durable.graph cid found)) (TakenFor cid found) (FoundFor cid found) s new) flag
+    (deliver_by grow_law goes_law stay_law takes_law says_law cid found (all_processes (delivery s.state.durable.graph cid found)) rose result s new sound (omega arith) t)
+
+-- the same where all is known that is found
+pub alike_told : (failed : Bool) (bound : Bound) (cid : Cid) (found : Option (List ℕ)) (a b : Option ReplicaState) → Told a b (λ s new. LeadsBy failed (bound s) (TakenFor cid found) (FoundFor cid found) s new) → Told a b (λ s new. Leads failed (bound s) (FoundFor cid found) s new)
+alike_told failed bound cid found None b t = tt
+alike_told failed bound cid found (Some s) None t = absurd t
+alike_told failed bound cid found (Some s) (Some new) t = leads_alike failed (bound s) (TakenFor cid found) (FoundFor cid found) s new t (λ known kept is. found_for known cid found is)
 
 -- a call that takes no memory, where the keeper tells
 pub plain_told : (P : ReplicaState → ReplicaState → Type 0) (a b : Option ReplicaState) → ((s new : ReplicaState) → P s new → IsSound s.state → Leads false (count s) Always s new) → IfSome a (λ s. IsSound s.state) → Told a b P → Told a b (λ s new. Leads false (count s) Always s new)
@@ -156,6 +163,12 @@ recalled_told bound P (Some s) None b p q = absurd p
 recalled_told bound P (Some s) (Some mid) None p q = absurd q
 recalled_told bound P (Some s) (Some mid) (Some new) p q =
     leads_weaker false (count mid) (bound s) P P s new (leads_then false (bound s) (count mid) P Always P s mid new p q (λ known kept old start r h. (r, tt))) p.few (λ known kept r. r)
+
+-- the same of a part that may have failed, and did not
+pub recalled_end : (failed : Bool) (bound : Bound) (P : Map → List Cid → Type 0) (a m b : Option ReplicaState) → failed ≡ false → Told a m (λ s mid. Leads failed (bound s) P s mid) → Told m b (λ mid new. Leads false (count mid) Always mid new)
+    → Told a b (λ s new. Leads failed (bound s) P s new)
+recalled_end true bound P a m b well p q = absurd (false≢true (sym well))
+recalled_end false bound P a m b well p q = recalled_told bound P a m b p q
 
 -- where the fetch gave no answer
 end_flag : (error : FetchError) (end : DrainEnd) → end ≡ end_by error → is_keeper end ≡ false

@@ -15,6 +15,7 @@ use Rattle.mc_model.specs.State.{Durable, IsSound, Running, State, wanted_in}
 use Rattle.mc_model.specs.Wanted.{Queue, wanted}
 use Rattle.mc_keep.specs.declared.fuse.Fuse.{Fuse}
 use Rattle.mc_model.specs.Kept.{Kept}
+use Rattle.mc_model.proofs.Prefix.{goes_on_then}
 use Rattle.mc_core.specs.Counted.{capped, run_of}
 use Rattle.mc_core.specs.Events.{ReplicaState, state_of}
 use Rattle.mc_core.proofs.GrowthFacts.{same_goes}
@@ -25,13 +26,15 @@ use Rattle.mc_drain.specs.declared.working.WorkError.TheVariants as error
 use Rattle.mc_drain.specs.declared.working.Worked.{Worked}
 use Rattle.mc_drain.specs.declared.working.Worked.TheVariants as worked
 use Rattle.mc_drain.specs.Finds.{first_bytes, found_from}
-use Rattle.mc_drain.specs.Leads.{Always, Leads, commits_between, count}
+use Rattle.mc_drain.specs.Leads.{Always, Leads, LeadsBy, Never, commits_between, count, up_to}
+use Rattle.mc_drain.specs.Rounds.{FindsFrom, HasWorkedFrom}
 use Rattle.mc_drain.specs.Words.{DrainLeads, Fetched, is_keeper, is_peer}
 use Rattle.mc_drain.specs.Works.{AnswerIs, WorkLeads, WorkWants, keeper_broke, peer_broke}
-use Rattle.mc_drain.proofs.FuseFacts.{fuse_stays, longer}
+use Rattle.mc_drain.proofs.FuseFacts.{burns_then, fuse_stays, longer}
+use Rattle.mc_drain.proofs.GoOnFacts.{leads_go_on, leads_itself}
 
 -- what is stored has bytes, and nothing else has
-kept_bytes : (graph : List Vertex) (c : Cid) → has c (cids_in graph) ≡ true → is_some (bytes_in graph c) ≡ true
+pub kept_bytes : (graph : List Vertex) (c : Cid) → has c (cids_in graph) ≡ true → is_some (bytes_in graph c) ≡ true
 kept_bytes [] c e = absurd (false≢true e)
 kept_bytes (v ∷ graph) c e = (elim (same_cid c v.cid) as (λ b. same_cid c v.cid ≡ b → (b || has c (cids_in graph)) ≡ true
     → is_some (option_map (λ (w : Vertex). w.bytes) (cond b (Some v) (find (λ (w : Vertex). same_cid c w.cid) graph))) ≡ true) [
@@ -69,7 +72,7 @@ wanted_same (Some run) = refl
 none_some : {A : Type 0} {P : Type 0} (x : A) → None ≡ Some x → P
 none_some x e = absurd (cc e)
 
-some_is : (x y : Map) → Some x ≡ Some y → x ≡ y
+pub some_is : (x y : Map) → Some x ≡ Some y → x ≡ y
 some_is x y e = ap (λ o. unwrap_or o x) e
 
 -- where the fetch tells, a drain has begun at every state, and the fetch finds what the drain's map has
@@ -86,6 +89,23 @@ begun begins s (Some offered) map is =
       λ c e. ap (λ o. first_bytes o (offered c)) (sym (no_bytes graph c e)) ∙ ap (λ (m : Map). m c) same,
     )
 
+-- a drain after workers
+pub drain_after : BeginsLaw → (stop : DrainEnd) (limit : ℕ) (offers : Option Map) (root s new : ReplicaState) → LeadsBy false (up_to limit root) (FindsFrom offers root.state.durable.graph) Never root s → DrainLeads stop limit (Fetched offers) s new
+    → DrainLeads stop limit (FindsFrom offers root.state.durable.graph) root new
+drain_after begins stop limit offers root s new first next = record {
+  grows = goes_on_then root.state.durable s.state.durable new.state.durable first.grows next.grows;
+  within = let more = longer root s first.grows in omega (arith, more, first.few, next.within);
+  fuse = burns_then (is_keeper stop) root s new (longer root s first.grows) (longer s new next.grows) first.fuse next.fuse;
+  spent = next.spent;
+  goes = λ e map kept p old start h. next.goes e map kept (fetched map kept p) old start (first.goes refl map kept p old start h);
+  parts = λ e map kept p old start h. next.parts e map kept (fetched map kept p) old start (first.goes refl map kept p old start h);
+  breaks = λ e map kept p old start h. next.breaks e map kept (fetched map kept p) old start (first.goes refl map kept p old start h);
+  good = λ e map kept p old start h. next.good e map kept (fetched map kept p) old start (first.goes refl map kept p old start h);
+}
+  where
+    fetched : (map : Map) (kept : List Cid) → FindsFrom offers root.state.durable.graph map kept → Fetched offers map kept
+    fetched map kept p = subst (λ (cids : List Cid). Fetched offers map cids) (sym p.1) (begun begins root offers map p.0).1
+
 -- nothing that is wanted has a good offer
 pub drained_at : DrainedLaw → (map : Map) (run : Option Running) → PartsFit (offers_of map) (queue_in run) → (queue_in run).waiting ≡ [] → (queue_in run).flight ≡ [] → (c : Cid) → has c (wanted_in run) ≡ true → is_found (offers_of map c) ≡ false
 drained_at drained map run parts waiting flight c e = drained (offers_of map) (queue_in run) parts waiting flight c (subst (λ (cids : List Cid). has c cids ≡ true) (sym (wanted_same run)) e)
@@ -98,14 +118,13 @@ pub record Leaves (stop : DrainEnd) (s : ReplicaState) : Type 0 where
 
 module _ (begins : BeginsLaw) (closed : ClosedLaw) (so_far : SoFarLaw) (drained : DrainedLaw) where
   partly : (offers : Option Map) (map : Map) (s new : ReplicaState) → found_from s.state.durable.graph offers ≡ Some map → IsSound new.state
-      → ((map : Map) (kept : List Cid) → Fetched offers map kept → (old : Durable) (start : List Cid) → HasDrained map kept old start s.state → HasDrained map kept old start new.state)
+      → ((map : Map) (kept : List Cid) → FindsFrom offers s.state.durable.graph map kept → (old : Durable) (start : List Cid) → HasDrained map kept old start s.state → HasDrained map kept old start new.state)
       → IsSoFar (offers_of map) s.state.durable (wanted_in s.state.run) new.state.durable (wanted_in new.state.run)
   partly offers map s new is sound goes =
-      let first = begun begins s offers map is in
-      so_far map (cids_in s.state.durable.graph) s.state.durable (wanted_in s.state.run) new.state sound (goes map (cids_in s.state.durable.graph) first.1 s.state.durable (wanted_in s.state.run) first.0)
+      so_far map (cids_in s.state.durable.graph) s.state.durable (wanted_in s.state.run) new.state sound (goes map (cids_in s.state.durable.graph) (is, refl) s.state.durable (wanted_in s.state.run) (begun begins s offers map is).0)
 
   work_is : (stop : DrainEnd) (budget limit before : ℕ) (offers : Option Map) (q : Queue) (result : Result Worked WorkError) (s new : ReplicaState) → limit ≡ capped (before + budget) → before ≡ capped (count s) → AnswerIs stop before (Some new) q result
-      → Leaves stop new → DrainLeads stop limit offers s new → WorkLeads budget offers result s new
+      → Leaves stop new → DrainLeads stop limit (FindsFrom offers s.state.durable.graph) s new → WorkLeads budget offers result s new
   work_is end.Idle budget limit before offers q result s new is first answer leaves leads = subst (λ (r : Result Worked WorkError). WorkLeads budget offers r s new) (sym answer.1) (record {
     grows = leads.grows;
     within = let more = longer s new leads.grows in omega (arith, leads.within, more, is, first);
@@ -113,10 +132,10 @@ module _ (begins : BeginsLaw) (closed : ClosedLaw) (so_far : SoFarLaw) (drained 
     counts = answer.2 ∙ ap (λ (n : ℕ). capped (count new) - n) first;
     sound = leaves.sound;
     is = λ map here. let start = begun begins s offers map here in
-        let parts = leads.parts refl map (cids_in s.state.durable.graph) start.1 s.state.durable (wanted_in s.state.run) start.0 in
+        let parts = leads.parts refl map (cids_in s.state.durable.graph) (here, refl) s.state.durable (wanted_in s.state.run) start.0 in
         record {
           closure = closed map (cids_in s.state.durable.graph) s.state.durable (wanted_in s.state.run) new.state leaves.sound
-              (drained_at drained map new.state.run parts (leaves.waiting refl) (leaves.flight refl)) (leads.goes refl map (cids_in s.state.durable.graph) start.1 s.state.durable (wanted_in s.state.run) start.0);
+              (drained_at drained map new.state.run parts (leaves.waiting refl) (leaves.flight refl)) (leads.goes refl map (cids_in s.state.durable.graph) (here, refl) s.state.durable (wanted_in s.state.run) start.0);
           parts = parts;
         };
   })
@@ -128,8 +147,8 @@ module _ (begins : BeginsLaw) (closed : ClosedLaw) (so_far : SoFarLaw) (drained 
     sound = leaves.sound;
     is = λ map here. let start = begun begins s offers map here in record {
       so_far = partly offers map s new here leaves.sound (leads.goes refl);
-      parts = leads.parts refl map (cids_in s.state.durable.graph) start.1 s.state.durable (wanted_in s.state.run) start.0;
-      good = leads.good refl map (cids_in s.state.durable.graph) start.1 s.state.durable (wanted_in s.state.run) start.0;
+      parts = leads.parts refl map (cids_in s.state.durable.graph) (here, refl) s.state.durable (wanted_in s.state.run) start.0;
+      good = leads.good refl map (cids_in s.state.durable.graph) (here, refl) s.state.durable (wanted_in s.state.run) start.0;
     };
   })
   work_is end.KeeperFault budget limit before offers q result s new is first answer leaves leads = subst (λ (r : Result Worked WorkError). WorkLeads budget offers r s new) (sym answer) (record {
@@ -138,7 +157,7 @@ module _ (begins : BeginsLaw) (closed : ClosedLaw) (so_far : SoFarLaw) (drained 
     fuse = leads.fuse;
     counts = tt;
     sound = leaves.sound;
-    is = λ map here. let start = begun begins s offers map here in leads.breaks refl map (cids_in s.state.durable.graph) start.1 s.state.durable (wanted_in s.state.run) start.0;
+    is = λ map here. let start = begun begins s offers map here in leads.breaks refl map (cids_in s.state.durable.graph) (here, refl) s.state.durable (wanted_in s.state.run) start.0;
   })
   work_is end.PeerFault budget limit before offers q result s new is first answer leaves leads = subst (λ (r : Result Worked WorkError). WorkLeads budget offers r s new) (sym answer) (record {
     grows = leads.grows;
@@ -157,11 +176,39 @@ module _ (begins : BeginsLaw) (closed : ClosedLaw) (so_far : SoFarLaw) (drained 
     is = λ map here. partly offers map s new here leaves.sound (leads.goes refl);
   })
 
-  pub work_told : (stop : DrainEnd) (budget limit before : ℕ) (offers : Option Map) (q : Queue) (result : Result Worked WorkError) (a b : Option ReplicaState) → limit ≡ capped (before + budget) → IfSome a (λ s. before ≡ capped (count s)) → AnswerIs stop before b q result
-      → IfSome b (Leaves stop) → Told a b (λ s new. DrainLeads stop limit offers s new) → Told a b (λ s new. WorkLeads budget offers result s new)
-  work_told stop budget limit before offers q result None b is first answer leaves leads = tt
-  work_told stop budget limit before offers q result (Some s) None is first answer leaves leads = absurd leads
-  work_told stop budget limit before offers q result (Some s) (Some new) is first answer leaves leads = work_is stop budget limit before offers q result s new is first answer leaves leads
+  -- where workers have led from the beginning of the work, and a drain from there
+  pub finish_told : (stop : DrainEnd) (budget limit before : ℕ) (offers : Option Map) (q : Queue) (result : Result Worked WorkError) (a b : Option ReplicaState) → limit ≡ capped (before + budget) → AnswerIs stop before b q result
+      → IfSome b (Leaves stop) → Told a b (λ s new. DrainLeads stop limit (Fetched offers) s new) → Told a b (λ s new. (root : ReplicaState) → HasWorkedFrom false before budget offers root s → WorkLeads budget offers result root new)
+  finish_told stop budget limit before offers q result None b is answer leaves leads = tt
+  finish_told stop budget limit before offers q result (Some s) None is answer leaves leads = absurd leads
+  finish_told stop budget limit before offers q result (Some s) (Some new) is answer leaves leads = λ root worked.
+      work_is stop budget limit before offers q result root new is worked.counted answer leaves
+      (drain_after begins stop limit offers root s new (subst (λ (n : ℕ). LeadsBy false (up_to n root) (FindsFrom offers root.state.durable.graph) Never root s) (sym is) worked.leads) leads)
+
+  -- the keeper of the workers failed
+  pub worked_broken : (before budget : ℕ) (offers : Option Map) (root s : ReplicaState) → IsSound s.state → HasWorkedFrom true before budget offers root s → WorkLeads budget offers (Err error.KeeperFault) root s
+  worked_broken before budget offers root s sound worked = record {
+    grows = worked.leads.grows;
+    within = let few = worked.leads.few in let at = worked.counted in omega (arith, few, at);
+    fuse = worked.leads.fuse;
+    counts = tt;
+    sound = sound;
+    is = λ map here. worked.leads.breaks refl map (cids_in root.state.durable.graph) (here, refl) root.state.durable (wanted_in root.state.run) (begun begins root offers map here).0;
+  }
+
+  -- a fetch of theirs failed, and all was recalled
+  pub worked_recalled : (before budget : ℕ) (offers : Option Map) (root s new : ReplicaState) → IsSound new.state → HasWorkedFrom false before budget offers root s → Leads false (count s) Always s new → WorkLeads budget offers (Err error.PeerFault) root new
+  worked_recalled before budget offers root s new sound worked recalled = record {
+    grows = leads.grows;
+    within = let few = leads.few in let at = worked.counted in omega (arith, few, at);
+    fuse = leads.fuse;
+    counts = tt;
+    sound = sound;
+    is = λ map here. partly offers map root new here sound (leads.goes refl);
+  }
+    where
+      leads : LeadsBy false (up_to (capped (before + budget)) root) (FindsFrom offers root.state.durable.graph) Never root new
+      leads = leads_go_on false (up_to (capped (before + budget)) root) (count s) (up_to (capped (before + budget)) root) (FindsFrom offers root.state.durable.graph) Always Always root s new worked.leads recalled worked.leads.few (λ map kept old start p h. tt)
 
   -- it was given up before it began
   pub work_given_up : (budget : ℕ) (offers : Option Map) (a b : Option ReplicaState) → IfSome b (λ s. IsSound s.state) → Told a b (λ s new. Leads false (count s) Always s new)
@@ -237,6 +284,14 @@ leaves_shown stop (Some kept) fuse down run up sound flight idle = record {
   flight = λ e. subst (λ (b : Bool). (queue_in (run_of b run)).flight ≡ []) (sym (up e)) (flight e);
   waiting = λ e. subst (λ (b : Bool). (queue_in (run_of b run)).waiting ≡ []) (sym (up (ap is_keeper e))) (idle e);
 }
+
+-- where nobody has worked before
+pub alone_told : (before budget : ℕ) (offers : Option Map) (result : Result Worked WorkError) (a b : Option ReplicaState) → IfSome a (λ s. before ≡ capped (count s))
+    → Told a b (λ s new. (root : ReplicaState) → HasWorkedFrom false before budget offers root s → WorkLeads budget offers result root new) → Told a b (λ s new. WorkLeads budget offers result s new)
+alone_told before budget offers result None b at leads = tt
+alone_told before budget offers result (Some s) None at leads = absurd leads
+alone_told before budget offers result (Some s) (Some new) at leads =
+    leads s (record { counted = at; leads = leads_itself (up_to (capped (before + budget)) s) (FindsFrom offers s.state.durable.graph) Never s (omega arith) })
 
 -- what is not true is false
 pub not_true : (b : Bool) → (b ≡ true → ⊥) → b ≡ false

@@ -63,19 +63,27 @@ commits_between failed s new = 2 * (count new - count s) + cond failed 2 0
 -- What some calls lead to, of which the last alone may have failed, and did so where `failed` is true: no block is lost, no
 -- more than `most` are processed then, and the fuse burns by their commits at most; and where P holds of what is found and
 -- of the blocks that were stored at a drain's beginning, a drain that had come to the first state has come to the second,
--- or has broken off there, and missing and bad go on holding what their names say.
-pub record Leads (failed : Bool) (most : ℕ) (P : Map → List Cid → Type 0) (s new : ReplicaState) : Type 0 where
+-- or has broken off there; and where R holds, missing and bad go on holding what their names say.
+pub record LeadsBy (failed : Bool) (most : ℕ) (P R : Map → List Cid → Type 0) (s new : ReplicaState) : Type 0 where
   pub grows : GoesOn s.state.durable new.state.durable
   pub few : count new ≤ most
   pub fuse : FuseGoes failed (commits_between failed s new) s.fuse new.fuse
   pub goes : failed ≡ false → (map : Map) (kept : List Cid) → P map kept → (old : Durable) (start : List Cid)
       → HasDrained map kept old start s.state → HasDrained map kept old start new.state
-  pub parts : failed ≡ false → (map : Map) (kept : List Cid) → P map kept → (old : Durable) (start : List Cid)
+  pub parts : failed ≡ false → (map : Map) (kept : List Cid) → R map kept → (old : Durable) (start : List Cid)
       → HasDrained map kept old start s.state → PartsFit (offers_of map) (queue_in s.state.run)
       → PartsFit (offers_of map) (queue_in new.state.run)
   pub breaks : failed ≡ true → (map : Map) (kept : List Cid) → P map kept → (old : Durable) (start : List Cid)
       → HasDrained map kept old start s.state → HasBrokenOff map old start new.state.durable
 
+-- the same where both are one
+abbrev pub Leads : Bool → ℕ → (Map → List Cid → Type 0) → ReplicaState → ReplicaState → Type 0
+Leads failed most P s new = LeadsBy failed most P P s new
+
 -- whatever is found
 abbrev pub Always : Map → List Cid → Type 0
 Always map kept = ⊤
+
+-- nothing that is found
+abbrev pub Never : Map → List Cid → Type 0
+Never map kept = ⊥

@@ -6,7 +6,7 @@ use Rattle.mc_fetch.specs.declared.error.FetchError.{FetchError}
 use Rattle.mc_fetch.specs.declared.error.FetchError.TheVariants as fetch
 use Rattle.mc_fetch.specs.declared.job.Job.{Job}
 use Rattle.mc_model.specs.Drain.{PartsFit}
-use Rattle.mc_model.specs.Draining.{HasDrained, offers_of, queue_in}
+use Rattle.mc_model.specs.Draining.{HasDrained, IsFoundFor, offers_of, queue_in}
 use Rattle.mc_model.specs.Events.{GoesOn}
 use Rattle.mc_model.specs.Found.{found_as, is_found}
 use Rattle.mc_model.specs.Graph.{has}
@@ -61,6 +61,10 @@ FetchedFor offers cid own map kept = FetchFits (Some map) kept offers × OwnFits
 abbrev pub FoundFor : Cid → Option (List ℕ) → Map → List Cid → Type 0
 FoundFor cid found map kept = map cid ≡ found
 
+-- these bytes are found for a block, where there are any
+abbrev pub TakenFor : Cid → Option (List ℕ) → Map → List Cid → Type 0
+TakenFor cid found map kept = IsFoundFor map cid found
+
 -- the jobs that a call began, and whether it failed
 abbrev pub begin_failed : {T : Type 0} → Result T DrainEnd → Bool
 begin_failed (Ok job) = false
@@ -105,27 +109,27 @@ pub record SortsFirst (offers : Option Map) (s : ReplicaState) (before after : L
   pub is : after ≡ rest ++ goods
   pub good : (map : Map) (kept : List Cid) → Fetched offers map kept → (old : Durable) (start : List Cid) → HasDrained map kept old start s.state → (c : Cid) → has c goods ≡ true → is_found (offers_of map c) ≡ true
 
--- all that wait have good offers
-abbrev pub AllGood : Option Map → ReplicaState → List Cid → Type 0
-AllGood offers s waiting = (map : Map) (kept : List Cid) → Fetched offers map kept → (old : Durable) (start : List Cid)
+-- all that wait have good offers, wherever P holds of what is found
+abbrev pub AllGood : (Map → List Cid → Type 0) → ReplicaState → List Cid → Type 0
+AllGood P s waiting = (map : Map) (kept : List Cid) → P map kept → (old : Durable) (start : List Cid)
     → HasDrained map kept old start s.state → (c : Cid) → has c waiting ≡ true → is_found (offers_of map c) ≡ true
 
 -- nothing is missing or bad
 abbrev pub NothingStuck : ReplicaState → Type 0
 NothingStuck s = ((queue_in s.state.run).missing ≡ []) × ((queue_in s.state.run).bad ≡ [])
 
--- What a drain of the caller's leads to. No block is lost, and the fuse burns by its commits at most. It ends as idle where
--- nothing waits, and as spent where the limit is reached and all that wait have good offers; in both cases missing and bad
--- hold what their names say.
-pub record DrainLeads (end : DrainEnd) (limit : ℕ) (offers : Option Map) (s new : ReplicaState) : Type 0 where
+-- What a drain of the caller's leads to, where P holds of what is found. No block is lost, and the fuse burns by its commits
+-- at most. It ends as idle where nothing waits, and as spent where the limit is reached and all that wait have good offers;
+-- in both cases missing and bad hold what their names say.
+pub record DrainLeads (end : DrainEnd) (limit : ℕ) (P : Map → List Cid → Type 0) (s new : ReplicaState) : Type 0 where
   pub grows : GoesOn s.state.durable new.state.durable
   pub within : count new ≤ up_to limit s
   pub fuse : FuseGoes (is_keeper end) (commits_between (is_keeper end) s new) s.fuse new.fuse
   pub spent : end ≡ Spent → limit ≤ count new
-  pub goes : is_keeper end ≡ false → (map : Map) (kept : List Cid) → Fetched offers map kept
+  pub goes : is_keeper end ≡ false → (map : Map) (kept : List Cid) → P map kept
       → (old : Durable) (start : List Cid) → HasDrained map kept old start s.state → HasDrained map kept old start new.state
-  pub parts : is_keeper end ≡ false → (map : Map) (kept : List Cid) → Fetched offers map kept
+  pub parts : is_keeper end ≡ false → (map : Map) (kept : List Cid) → P map kept
       → (old : Durable) (start : List Cid) → HasDrained map kept old start s.state → PartsFit (offers_of map) (queue_in new.state.run)
-  pub breaks : is_keeper end ≡ true → (map : Map) (kept : List Cid) → Fetched offers map kept
+  pub breaks : is_keeper end ≡ true → (map : Map) (kept : List Cid) → P map kept
       → (old : Durable) (start : List Cid) → HasDrained map kept old start s.state → HasBrokenOff map old start new.state.durable
-  pub good : end ≡ Spent → AllGood offers s (queue_in new.state.run).waiting
+  pub good : end ≡ Spent → AllGood P s (queue_in new.state.run).waiting

@@ -33,8 +33,8 @@ pub fn drain<K: Keeper, F: Fetch, W: Wait>(
     wait: &W,
 ) -> DrainEnd
     requires runs { replica.old.stopped ≡ false }
-    ensures leads { Becomes K.Keeper (λ rose s new. DrainLeads result limit (found_by (F.offers fetch.old)) s new)
-        replica.old replica.new }
+    ensures leads { Becomes K.Keeper (λ rose s new. DrainLeads result limit
+        (Fetched (found_by (F.offers fetch.old))) s new) replica.old replica.new }
     ensures keeps { Continues K.Keeper (is_keeper result) replica.old replica.new }
     ensures rest { RestSame replica.old replica.new }
     ensures asks { Asks F.Fetch (is_peer result) fetch.old fetch.new }
@@ -114,7 +114,7 @@ fn part<K: Keeper, F: Fetch, W: Wait>(
     ensures idle { result ≡ DrainEnd.Idle → (shown replica.new.queue).waiting ≡ [] }
     ensures spent { result ≡ DrainEnd.Spent → (shown replica.new.queue).waiting ≢ [] }
     ensures good { IfSome (replica_state K.told K.fuse replica.old) (λ s. result ≡ DrainEnd.Spent →
-        AllGood (found_by (F.offers fetch.old)) s (shown replica.new.queue).waiting) }
+        AllGood (Fetched (found_by (F.offers fetch.old))) s (shown replica.new.queue).waiting) }
 {
     if let Some(end) = sort_waiting(alloc, replica, fetch, wait) {
         return end;

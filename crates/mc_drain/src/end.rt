@@ -2,7 +2,7 @@
 ghost use Rattle.std.specs.Prelude.{◌≡◌};
 ghost use Rattle.mc_keep.specs.Causes.{is_fault_kind};
 ghost use Rattle.mc_core.specs.Refusals.{kind_of};
-ghost use Rattle.mc_drain.specs.Words.{end_by};
+ghost use Rattle.mc_drain.specs.Words.{end_by, is_keeper};
 
 use mc_core::CoreError;
 use mc_fetch::FetchError;
@@ -38,6 +38,16 @@ pub(crate) fn is_fault(error: CoreError) -> bool
         | CoreError::NoBatch
         | CoreError::BatchOpen
         | CoreError::Memory => false,
+    }
+}
+
+// Whether an end says that the keeper failed.
+pub(crate) fn is_keeper(end: DrainEnd) -> bool
+    ensures { result ≡ is_keeper end }
+{
+    match end {
+        DrainEnd::KeeperFault => true,
+        DrainEnd::Idle | DrainEnd::Spent | DrainEnd::PeerFault | DrainEnd::Memory => false,
     }
 }
 

@@ -1,22 +1,23 @@
 // The jobs of a drain: each begins, and is delivered or given back.
-ghost use Rattle.std.specs.Prelude.{◌≡◌, ◌≢◌, ◌+◌, ◌++◌, ◌∷◌, [], false, None, Some, IfErr, IfOk, IfSome};
+ghost use Rattle.std.specs.Prelude.{◌≡◌, ◌≢◌, ◌+◌, ◌++◌, ◌∷◌, [], false, cond, not, None, Some, IfErr, IfOk, IfSome};
 ghost use Rattle.mc_fetch.specs.Fits.{FoundHas};
 ghost use Rattle.mc_fetch.specs.Offers.{HasDigest};
 ghost use Rattle.mc_fetch.specs.declared.job.Job.{Job as Begun};
 ghost use Rattle.mc_model.specs.Draining.{bytes_in, delivery};
-ghost use Rattle.mc_model.specs.Wanted.{recall, requeue};
+ghost use Rattle.mc_model.specs.Graph.{has};
+ghost use Rattle.mc_model.specs.Wanted.{give_back, recall, requeue};
 ghost use Rattle.mc_queue.specs.Views.{shown};
 ghost use Rattle.mc_core.specs.Exact.{RestSame};
-ghost use Rattle.mc_core.specs.Jobs.{found_in};
+ghost use Rattle.mc_core.specs.Jobs.{WantsAfter, found_in, is_known};
 ghost use Rattle.mc_core.specs.Replica.{replica_state};
 ghost use Rattle.mc_core.specs.Words.{Becomes, Continues};
-ghost use Rattle.mc_drain.specs.Leads.{Always, Leads, all_processes, count};
-ghost use Rattle.mc_drain.specs.Words.{Begins, FoundFor, IsBroken, IsNoBlock, begin_failed, is_keeper, keeper_failed};
+ghost use Rattle.mc_drain.specs.Leads.{Always, Leads, LeadsBy, all_processes, count};
+ghost use Rattle.mc_drain.specs.Words.{Begins, FoundFor, TakenFor, IsBroken, IsNoBlock, begin_failed, is_keeper, keeper_failed};
 
 use crate::DrainEnd;
-use crate::end::is_fault;
+use crate::end::{is_fault, is_keeper};
 use mc_core::Replica;
-use mc_fetch::{Found, Job};
+use mc_fetch::{Delivered, Found, Job};
 use mc_keep::Keeper;
 use mc_model::{
     deliveries_are_drains, found_drains_go_on, order_and_store_grow, parts_stay_right,
@@ -24,7 +25,93 @@ use mc_model::{
 };
 use std::alloc::Global;
 
-// A job begins for the first block that waits, or none where nothing waits.
+/// Begins a job for the first block that waits, which is in flight then, with the bytes that the replica has stored under
+/// it; none exactly where nothing waits. Other jobs may be in flight.
+pub fn begin_job<K: Keeper>(
+    alloc: Global,
+    replica: &mut Replica<K>,
+) -> Result<Option<Job>, DrainEnd>
+    requires runs { replica.old.stopped ≡ false }
+    ensures leads { Becomes K.Keeper (λ rose s new. Leads (begin_failed result) (count s) Always s new)
+        replica.old replica.new }
+    ensures keeps { Continues K.Keeper (begin_failed result) replica.old replica.new }
+    ensures rest { RestSame replica.old replica.new }
+    ensures begins { IfOk result (Begins (shown replica.old.queue) (shown replica.new.queue)) }
+    ensures digest { IfOk result (λ job. IfSome job (λ (job : Begun). IfSome job.own (HasDigest job.cid))) }
+    ensures own { IfSome (replica_state K.told K.fuse replica.old) (λ s. IfOk result (λ job.
+        IfSome job (λ (job : Begun). job.own ≡ bytes_in s.state.durable.graph job.cid))) }
+    ensures broken { IfErr result IsBroken }
+{
+    found_drains_go_on();
+    order_and_store_grow();
+    parts_stay_right();
+    replica.is_sound();
+    match replica.next_job(alloc) {
+        Ok(job) => Ok(job),
+        Err(error) => {
+            if is_fault(error) {
+                return Err(DrainEnd::KeeperFault);
+            }
+            Err(DrainEnd::Memory)
+        }
+    }
+}
+
+/// Delivers what was found for a job, which may be one of many.
+pub fn deliver_job<K: Keeper>(
+    alloc: Global,
+    replica: &mut Replica<K>,
+    job: Job,
+    found: Found,
+) -> Result<Delivered, DrainEnd>
+    requires runs { replica.old.stopped ≡ false }
+    requires digest { FoundHas job.cid found }
+    ensures leads { Becomes K.Keeper (λ rose s new. LeadsBy (begin_failed result)
+        (count s + all_processes (delivery s.state.durable.graph job.cid (found_in found)))
+        (TakenFor job.cid (found_in found)) (FoundFor job.cid (found_in found)) s new) replica.old replica.new }
+    ensures keeps { Continues K.Keeper (begin_failed result) replica.old replica.new }
+    ensures rest { RestSame replica.old replica.new }
+    ensures broken { IfErr result IsBroken }
+    ensures wants { IfOk result (λ delivered.
+        WantsAfter delivered (shown replica.old.queue) (shown replica.new.queue) job.cid) }
+    ensures known { IfOk result (λ delivered.
+        is_known delivered ≡ not (has job.cid (shown replica.old.queue).flight)) }
+    ensures stuck { IfSome (replica_state K.told K.fuse replica.old) (λ s. IfOk result (λ delivered.
+        IsNoBlock job.cid (found_in found) → (shown replica.new.queue).waiting ≡ (shown replica.old.queue).waiting)) }
+{
+    found_drains_go_on();
+    order_and_store_grow();
+    parts_stay_right();
+    deliveries_are_drains();
+    replica.is_sound();
+    match replica.deliver(alloc, job, found) {
+        Ok(delivered) => Ok(delivered),
+        Err(error) => {
+            if is_fault(error) {
+                return Err(DrainEnd::KeeperFault);
+            }
+            Err(DrainEnd::Memory)
+        }
+    }
+}
+
+/// Gives a job back, which may be one of many: its block comes to the back of those that wait, where it is in flight. It
+/// takes no memory and can't fail.
+pub fn give_job_back<K: Keeper>(replica: &mut Replica<K>, job: Job)
+    ensures leads { Becomes K.Keeper (λ rose s new. Leads false (count s) Always s new) replica.old replica.new }
+    ensures keeps { Continues K.Keeper false replica.old replica.new }
+    ensures rest { RestSame replica.old replica.new }
+    ensures wants { shown replica.new.queue ≡ cond (has job.cid (shown replica.old.queue).flight)
+        (give_back (shown replica.old.queue) job.cid) (shown replica.old.queue) }
+{
+    found_drains_go_on();
+    order_and_store_grow();
+    parts_stay_right();
+    replica.is_sound();
+    replica.give_back(job);
+}
+
+// A job begins where none is in flight, and none is where it didn't.
 pub(crate) fn begin<K: Keeper>(
     alloc: Global,
     replica: &mut Replica<K>,
@@ -42,23 +129,19 @@ pub(crate) fn begin<K: Keeper>(
     ensures broken { IfErr result IsBroken }
     ensures flight { IfErr result (λ end. is_keeper end ≡ false → (shown replica.new.queue).flight ≡ []) }
 {
-    found_drains_go_on();
-    order_and_store_grow();
-    parts_stay_right();
-    replica.is_sound();
-    match replica.next_job(alloc) {
+    match begin_job(alloc, replica) {
         Ok(job) => Ok(job),
-        Err(error) => {
-            if is_fault(error) {
-                return Err(DrainEnd::KeeperFault);
+        Err(end) => {
+            if is_keeper(end) {
+                return Err(end);
             }
             recall(replica);
-            Err(DrainEnd::Memory)
+            Err(end)
         }
     }
 }
 
-// What was found for a job is delivered.
+// What was found for the only job is delivered.
 pub(crate) fn deliver<K: Keeper>(
     alloc: Global,
     replica: &mut Replica<K>,
@@ -78,24 +161,19 @@ pub(crate) fn deliver<K: Keeper>(
     ensures stuck { IfSome (replica_state K.told K.fuse replica.old) (λ s. result ≡ None →
         IsNoBlock job.cid (found_in found) → (shown replica.new.queue).waiting ≡ (shown replica.old.queue).waiting) }
 {
-    found_drains_go_on();
-    order_and_store_grow();
-    parts_stay_right();
-    deliveries_are_drains();
-    replica.is_sound();
-    match replica.deliver(alloc, job, found) {
+    match deliver_job(alloc, replica, job, found) {
         Ok(_delivered) => None,
-        Err(error) => {
-            if is_fault(error) {
-                return Some(DrainEnd::KeeperFault);
+        Err(end) => {
+            if is_keeper(end) {
+                return Some(end);
             }
             recall(replica);
-            Some(DrainEnd::Memory)
+            Some(end)
         }
     }
 }
 
-// A job is given back.
+// The only job is given back.
 pub(crate) fn back<K: Keeper>(replica: &mut Replica<K>, job: Job)
     requires flight { (shown replica.old.queue).flight ≡ job.cid ∷ [] }
     ensures leads { Becomes K.Keeper (λ rose s new. Leads false (count s) Always s new) replica.old replica.new }
@@ -104,11 +182,7 @@ pub(crate) fn back<K: Keeper>(replica: &mut Replica<K>, job: Job)
     ensures flight { (shown replica.new.queue).flight ≡ [] }
     ensures waits { (shown replica.new.queue).waiting ≡ (shown replica.old.queue).waiting ++ job.cid ∷ [] }
 {
-    found_drains_go_on();
-    order_and_store_grow();
-    parts_stay_right();
-    replica.is_sound();
-    replica.give_back(job);
+    give_job_back(replica, job);
 }
 
 // All jobs are given back.

@@ -3,6 +3,7 @@
 
 mod draining;
 mod end;
+mod finishing;
 mod giving;
 mod jobs;
 mod numbers;
@@ -14,6 +15,8 @@ mod working;
 
 pub use draining::drain;
 pub use end::DrainEnd;
+pub use finishing::{finish_work, leave_off};
 pub use giving::give_up;
-pub use repairing::{Repaired, repair};
+pub use jobs::{begin_job, deliver_job, give_job_back};
+pub use repairing::{Repaired, begin_repair, finish_repair, repair};
 pub use working::{WorkError, Worked, work};

@@ -1,13 +1,19 @@
 // A repair.
-ghost use Rattle.std.specs.Prelude.{◌≡◌, ◌↔◌, true, false, Err, IfSome};
+ghost use Rattle.std.specs.Prelude.{◌≡◌, ◌≢◌, ◌↔◌, ℕ, true, false, Option, Err, IfErr, IfOk, IfSome, OnOk};
 ghost use Rattle.mc_fetch.specs.Calls.{Asks};
+ghost use Rattle.mc_fetch.specs.Fits.{Map};
 ghost use Rattle.mc_fetch.specs.Offers.{found_by};
 ghost use Rattle.mc_queue.specs.Views.{shown};
 ghost use Rattle.mc_model.specs.State.{kept_of};
+ghost use Rattle.mc_core.specs.Counted.{capped};
+ghost use Rattle.mc_core.specs.Events.{ReplicaState};
+ghost use Rattle.mc_core.specs.Exact.{RestSame};
 ghost use Rattle.mc_core.specs.Replica.{replica_state};
 ghost use Rattle.mc_core.specs.Walks.{gap_count, settled_with};
 ghost use Rattle.mc_core.specs.Words.{Becomes, Continues};
 ghost use Rattle.mc_drain.specs.Repairs.{RepairAnswer, RepairLeads, RepairWants, has_walked, repaired_of, walk_error};
+ghost use Rattle.mc_drain.specs.Leads.{count};
+ghost use Rattle.mc_drain.specs.Rounds.{HasWalkedFrom, HasWorkedFrom};
 ghost use Rattle.mc_drain.specs.Words.{is_keeper};
 ghost use Rattle.mc_drain.specs.Works.{keeper_broke, peer_broke};
 
@@ -60,11 +66,35 @@ pub fn repair<K: Keeper, F: Fetch, W: Wait>(
     ensures still { replica.old.stopped ≡ true → replica.new ≡ replica.old }
     ensures wants { RepairWants result (shown replica.new.queue) }
 {
-    clean_replicas_are_reached();
+    match begin_repair(alloc, replica, wait) {
+        Ok(before) => finish_repair(alloc, replica, fetch, before, budget, wait),
+        Err(error) => Err(error),
+    }
+}
+
+/// Begins a repair: all that was in flight waits again, and the walk is made to its end, so that every gap is wanted. How
+/// many blocks are processed then, at most `u64::MAX`: as many as before. Where there is no answer, the repair's is the
+/// same; `Stopped` comes exactly where an earlier call answered `KeeperFault`, and changes nothing.
+pub fn begin_repair<K: Keeper, W: Wait>(
+    alloc: Global,
+    replica: &mut Replica<K>,
+    wait: &W,
+) -> Result<u64, WorkError>
+    ensures walks { Becomes K.Keeper (λ rose s new. IfOk result (λ before.
+        (before ≡ capped (count new)) × HasWalkedFrom s new)) replica.old replica.new }
+    ensures leads { Becomes K.Keeper (λ rose s new. IfErr result (λ error. (budget : ℕ) (offers : Option Map) →
+        RepairLeads budget offers (Err error) s new)) replica.old replica.new }
+    ensures keeps { Continues K.Keeper (keeper_broke result) replica.old replica.new }
+    ensures batch { replica.new.batch ≡ replica.old.batch }
+    ensures whole { OnOk result (replica.new.whole ≡ true) }
+    ensures walked { IfErr result (λ error. has_walked (Err error) ≡ false) }
+    ensures peers { peer_broke result ≡ false }
+    ensures stopped { result ≡ Err WorkError.Stopped ↔ replica.old.stopped ≡ true }
+    ensures still { replica.old.stopped ≡ true → replica.new ≡ replica.old }
+    ensures wants { IfErr result (λ error. RepairWants (Err error) (shown replica.new.queue)) }
+{
     found_drains_go_on();
     found_repairs_go_on();
-    kept_is_durable();
-    parts_stay_right();
     replica.is_sound();
     let before = match replica.report() {
         Ok(report) => report.processed,
@@ -72,11 +102,45 @@ pub fn repair<K: Keeper, F: Fetch, W: Wait>(
     };
     recall(replica);
     replica.is_sound();
-    if let Some(end) = walk(alloc, replica, wait) {
-        replica.is_sound();
-        return Err(error_of(end));
+    match walk(alloc, replica, wait) {
+        Some(end) => {
+            replica.is_sound();
+            Err(error_of(end))
+        }
+        None => {
+            replica.is_sound();
+            Ok(before)
+        }
     }
-    replica.is_sound();
+}
+
+/// Goes on with a repair that has begun, on the caller's thread, where workers may have worked since: `before` is how
+/// many blocks were processed when it began, and the budget is that of the whole repair. The answer is that of the whole
+/// repair.
+pub fn finish_repair<K: Keeper, F: Fetch, W: Wait>(
+    alloc: Global,
+    replica: &mut Replica<K>,
+    fetch: &mut F,
+    before: u64,
+    budget: u64,
+    wait: &W,
+) -> Result<Repaired, WorkError>
+    requires runs { replica.old.stopped ≡ false }
+    requires whole { replica.old.whole ≡ true }
+    ensures leads { Becomes K.Keeper (λ rose s new. (root walked : ReplicaState) → HasWalkedFrom root walked →
+        HasWorkedFrom false before budget (found_by (F.offers fetch.old)) walked s →
+        RepairLeads budget (found_by (F.offers fetch.old)) result root new) replica.old replica.new }
+    ensures keeps { Continues K.Keeper (keeper_broke result) replica.old replica.new }
+    ensures rest { RestSame replica.old replica.new }
+    ensures asks { Asks F.Fetch (peer_broke result) fetch.old fetch.new }
+    ensures runs { result ≢ Err WorkError.Stopped }
+    ensures wants { RepairWants result (shown replica.new.queue) }
+{
+    clean_replicas_are_reached();
+    found_drains_go_on();
+    found_repairs_go_on();
+    kept_is_durable();
+    parts_stay_right();
     let limit = before.saturating_add(budget);
     let end = drain(alloc, replica, fetch, limit, wait);
     replica.is_sound();

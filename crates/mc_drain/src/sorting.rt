@@ -43,7 +43,7 @@ pub(crate) fn sort_waiting<K: Keeper, F: Fetch, W: Wait>(
     ensures idle { result ≡ Some DrainEnd.Idle → (shown replica.new.queue).waiting ≡ [] }
     ensures unspent { result ≢ Some DrainEnd.Spent }
     ensures good { IfSome (replica_state K.told K.fuse replica.old) (λ s. result ≡ None →
-        AllGood (found_by (F.offers fetch.old)) s (shown replica.new.queue).waiting) }
+        AllGood (Fetched (found_by (F.offers fetch.old))) s (shown replica.new.queue).waiting) }
 {
     found_drains_go_on();
     order_and_store_grow();

@@ -1,21 +1,16 @@
 // A work of the wanted blocks.
-ghost use Rattle.std.specs.Prelude.{◌≡◌, ◌≢◌, ◌↔◌, [], true, false, Err, IfSome};
+ghost use Rattle.std.specs.Prelude.{◌≡◌, ◌↔◌, true, Err};
 ghost use Rattle.mc_fetch.specs.Calls.{Asks};
 ghost use Rattle.mc_fetch.specs.Offers.{found_by};
 ghost use Rattle.mc_queue.specs.Views.{shown};
-ghost use Rattle.mc_core.specs.Counted.{capped};
 ghost use Rattle.mc_core.specs.Exact.{RestSame};
-ghost use Rattle.mc_core.specs.Replica.{replica_state};
 ghost use Rattle.mc_core.specs.Words.{Becomes, Continues};
-ghost use Rattle.mc_drain.specs.Words.{is_keeper};
-ghost use Rattle.mc_drain.specs.Works.{AnswerIs, WorkLeads, WorkWants, keeper_broke, peer_broke};
+ghost use Rattle.mc_drain.specs.Works.{WorkLeads, WorkWants, keeper_broke, peer_broke};
 
-use crate::numbers::{bad, missing, processed};
-use crate::{DrainEnd, drain};
+use crate::finish_work;
 use mc_core::Replica;
 use mc_fetch::Fetch;
 use mc_keep::Keeper;
-use mc_model::{found_drains_go_on, parts_stay_right};
 use std::alloc::Global;
 use std::sync::Wait;
 use thiserror::Error;
@@ -77,35 +72,10 @@ pub fn work<K: Keeper, F: Fetch, W: Wait>(
     ensures still { replica.old.stopped ≡ true → replica.new ≡ replica.old }
     ensures wants { WorkWants result (shown replica.new.queue) }
 {
-    found_drains_go_on();
-    parts_stay_right();
     replica.is_sound();
     let before = match replica.report() {
         Ok(report) => report.processed,
         Err(_) => return Err(WorkError::Stopped),
     };
-    let limit = before.saturating_add(budget);
-    let end = drain(alloc, replica, fetch, limit, wait);
-    replica.is_sound();
-    answer(replica, end, before)
-}
-
-// The answer where a drain has come to this end, before which so many blocks were processed.
-fn answer<K: Keeper>(replica: &Replica<K>, end: DrainEnd, before: u64) -> Result<Worked, WorkError>
-    requires runs { is_keeper end ≡ false → replica.now.stopped ≡ false }
-    ensures { AnswerIs end before (replica_state K.told K.fuse replica.now) (shown replica.now.queue) result }
-{
-    match end {
-        DrainEnd::Idle => Ok(Worked::Done {
-            processed: processed(replica).saturating_sub(before),
-            missing: missing(replica),
-            bad: bad(replica),
-        }),
-        DrainEnd::Spent => Ok(Worked::Again {
-            processed: processed(replica).saturating_sub(before),
-        }),
-        DrainEnd::KeeperFault => Err(WorkError::KeeperFault),
-        DrainEnd::PeerFault => Err(WorkError::PeerFault),
-        DrainEnd::Memory => Err(WorkError::Memory),
-    }
+    finish_work(alloc, replica, fetch, before, budget, wait)
 }

@@ -1,5 +1,5 @@
 -- What lives of the rows of a key, and the block that holds the key's value.
-use Rattle.std.specs.Prelude.{◌≡◌, ℕ, Bool, true, false, ◌&&◌, List, [], ◌∷◌, Option, Some, None, if◌then◌else◌}
+use Rattle.std.specs.Prelude.{◌≡◌, ℕ, Bool, true, false, not, ◌&&◌, List, [], ◌∷◌, filter, Option, Some, None, if◌then◌else◌}
 use Rattle.std.specs.List.{flat_map, list_any}
 use Rattle.mc_base.specs.declared.cid.Cid.{Cid}
 use Rattle.mc_model.specs.declared.block.Block.{Block}
@@ -19,6 +19,14 @@ live_row hidden row = if hidden (id_text row.cid.0) then [] else ranked_of row �
 
 abbrev pub live_rows : (List ℕ → Bool) → List ElementRow → List Ranked
 live_rows hidden rows = flat_map (live_row hidden) rows
+
+-- whether no tombstone of the blocks hides the row of the key
+abbrev pub is_shown : List Block → List ℕ → ElementRow → Bool
+is_shown blocks key row = not (has_tomb blocks key (id_text row.cid.0))
+
+-- the element rows of a key that none hides
+abbrev pub live_element_rows : List Block → List ℕ → List ElementRow
+live_element_rows blocks key = filter (is_shown blocks key) (element_rows_of blocks key)
 
 -- whether this is a row of the block, with the value and the priority
 abbrev pub is_row_of : Cid → Ranked → ElementRow → Bool

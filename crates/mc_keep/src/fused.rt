@@ -171,8 +171,8 @@ impl<K: Keeper> Keeper for Fused<K> {
         self.keeper.heads(alloc)
     }
 
-    fn elements(&mut self, alloc: Global, key: &str) -> Result<List<ElementRow>, KeepError> {
-        self.keeper.elements(alloc, key)
+    fn live_elements(&mut self, alloc: Global, key: &str) -> Result<List<ElementRow>, KeepError> {
+        self.keeper.live_elements(alloc, key)
     }
 
     fn hidden(&mut self, key: &str, id: &str) -> Result<bool, Failed> {

@@ -15,7 +15,7 @@ ghost use Rattle.mc_keep.specs.Frame.{ReadsAt, ReservesAt, CommitsAt};
 ghost use Rattle.mc_keep.specs.Changes.{row_count, changed, heads_in_rows};
 ghost use Rattle.mc_keep.specs.Next.{IsNext};
 ghost use Rattle.mc_keep.specs.ElementOrder.{element_cmp};
-ghost use Rattle.mc_keep.specs.Live.{IsHolder};
+ghost use Rattle.mc_keep.specs.Live.{IsHolder, live_element_rows};
 ghost use Rattle.mc_keep.specs.Plan.{
   Schedule,
   DeskSchedule,
@@ -26,7 +26,7 @@ ghost use Rattle.mc_keep.specs.Plan.{
   is_fault,
   without_desks,
 };
-ghost use Rattle.mc_keep.specs.Tables.{ChangesFit, IsSummary, IsSmall, IsValueRow, element_rows_of};
+ghost use Rattle.mc_keep.specs.Tables.{ChangesFit, IsSummary, IsSmall, IsValueRow};
 
 use crate::{Changes, ElementRow, HeadRow, KeepError, Summary, ValueRow};
 use mc_base::{Bytes, Cid, Counted, Failed, List};
@@ -139,10 +139,11 @@ pub trait Keeper: Counted {
         ensures reads { ReadsAt told fuse spare own Self.faults quiet schedule (is_fault result) self.old self.new }
         ensures planned { ReadsAsPlanned (schedule self.old) (schedule self.new) (is_fault result) };
 
-    /// All element rows of a key, also of hidden elements, ascending by the block and then by the value.
-    fn elements(&mut self, alloc: Global, key: &str) -> Result<List<ElementRow>, KeepError>
+    /// The element rows of a key that no tombstone of a processed block hides, ascending by the block and then by the
+    /// value.
+    fn live_elements(&mut self, alloc: Global, key: &str) -> Result<List<ElementRow>, KeepError>
         ensures row { IfTold (told self.old) result (λ kept rows.
-            Ascends element_cmp rows (element_rows_of (processed kept) key.now)) }
+            Ascends element_cmp rows (live_element_rows (processed kept) key.now)) }
         ensures reads { ReadsAt told fuse spare own Self.faults quiet schedule (is_fault result) self.old self.new }
         ensures planned { ReadsAsPlanned (schedule self.old) (schedule self.new) (is_fault result) };
 

@@ -140,10 +140,10 @@ impl<A: Keeper, B: Keeper> Keeper for AnyKeeper<A, B> {
         }
     }
 
-    fn elements(&mut self, alloc: Global, key: &str) -> Result<List<ElementRow>, KeepError> {
+    fn live_elements(&mut self, alloc: Global, key: &str) -> Result<List<ElementRow>, KeepError> {
         match self {
-            AnyKeeper::Memory(keeper) => keeper.elements(alloc, key),
-            AnyKeeper::File(keeper) => keeper.elements(alloc, key),
+            AnyKeeper::Memory(keeper) => keeper.live_elements(alloc, key),
+            AnyKeeper::File(keeper) => keeper.live_elements(alloc, key),
         }
     }
 

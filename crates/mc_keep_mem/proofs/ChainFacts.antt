@@ -1,17 +1,17 @@
 -- Chains of nodes: what one more node leaves of them.
-use Rattle.std.proofs.Common.{◌≡◌, ℕ, zero, suc, ◌+◌, ◌<◌, ◌≤◌, arith, Bool, true, false, cond, List, [], ◌∷◌, ◌++◌, map, length, Option, Some, None, sym, refl, ap, ◌∙◌, subst, length-append, ltb, get_or}
-use Rattle.std.specs.Prelude.{slice_get, nat_lt}
+use Rattle.std.proofs.Common.{◌≡◌, ℕ, zero, suc, ◌+◌, ◌<◌, ◌≤◌, ◌||◌, ◌⊎◌, inl, inr, arith, Bool, true, false, cond, List, [], ◌∷◌, ◌++◌, map, length, Option, Some, None, sym, refl, ap, ◌∙◌, subst, length-append, ltb, get_or}
+use Rattle.std.specs.Prelude.{slice_get, nat_eq, nat_lt}
 use Rattle.std.specs.Str.{bytes_eq}
 use Rattle.std.specs.HashMap.{HashMap, get_by_text}
 use Rattle.std.specs.declared.string.String.{String}
 use Rattle.std.proofs.lemmas.Bool.Decides.{nat_tests}
-use Rattle.std.proofs.lemmas.Bool.{and_from, and_parts}
+use Rattle.std.proofs.lemmas.Bool.{and_from, and_parts, or_cases}
 use Rattle.std.proofs.lemmas.Slice.Eq.{bytes_eq-Decides}
 use Rattle.mc_keep.specs.declared.rows.ElementRow.{ElementRow}
 use Rattle.mc_keep_mem.specs.declared.elements.Node.{Node}
-use Rattle.mc_keep_mem.specs.Chains.{is_before, lead_back, chain, row_of_node, rows_in, AreChains}
+use Rattle.mc_keep_mem.specs.Chains.{is_before, is_on, lead_back, chain, row_of_node, rows_in, AreChains}
 
-before_later : (place later : ℕ) (at : Option ℕ) → place ≤ later → is_before place at ≡ true → is_before later at ≡ true
+pub before_later : (place later : ℕ) (at : Option ℕ) → place ≤ later → is_before place at ≡ true → is_before later at ≡ true
 before_later place later None l e = refl
 before_later place later (Some at) l e = grind (arith, nat_tests, e, l)
 
@@ -42,12 +42,12 @@ get_last : {A : Type 0} (xs : List A) (y : A) → slice_get (xs ++ y ∷ []) (le
 get_last [] y = refl
 get_last (x ∷ xs) y = get_last xs y
 
-is_below : (place at : ℕ) → nat_lt at place ≡ true → at < place
+pub is_below : (place at : ℕ) → nat_lt at place ≡ true → at < place
 is_below place at e = grind (arith, nat_tests, e)
 
 module _ (nodes : List Node) (back : lead_back 0 nodes ≡ true) where
   -- the node at a place leads to one before that place
-  node_leads : (place : ℕ) (node : Node) → slice_get nodes place ≡ Some node → is_before place node.before ≡ true
+  pub node_leads : (place : ℕ) (node : Node) → slice_get nodes place ≡ Some node → is_before place node.before ≡ true
   node_leads place node got = subst (λ z. is_before z node.before ≡ true) (omega arith) (leads_back 0 place nodes node back got)
 
   abbrev next : List Node → ℕ → Option Node → List Node
@@ -83,6 +83,53 @@ module _ (nodes : List Node) (back : lead_back 0 nodes ≡ true) where
       by go None got a = refl
       by go (Some n) got a = ap (λ rest. n ∷ rest) (go n.before (before_later at most n.before a (node_leads at n got)))
 
+  abbrev on_next : List Node → ℕ → ℕ → ℕ → Option Node → Bool
+  on_next all most at place found = elim found [ None ↦ false | Some node ↦ nat_eq at place || is_on all most node.before place ]
+
+  -- one more node is on none of the old ways
+  on_push : (node : Node) (most : ℕ) (at : Option ℕ) (place : ℕ) → is_before (length nodes) at ≡ true → is_on (nodes ++ node ∷ []) most at place ≡ is_on nodes most at place
+  on_push node zero at place e = refl
+  on_push node (suc most) None place e = refl
+  on_push node (suc most) (Some at) place e =
+      let below = is_below (length nodes) at e in
+      ap (λ found. on_next (nodes ++ node ∷ []) most at place found) (get_push nodes node at below)
+      ∙ by (λ at' f. on_push node most at' place f) (slice_get nodes at) refl (omega (arith, below))
+    where
+      by : ((at' : Option ℕ) → is_before (length nodes) at' ≡ true → is_on (nodes ++ node ∷ []) most at' place ≡ is_on nodes most at' place)
+          → (found : Option Node) → slice_get nodes at ≡ found → at ≤ length nodes → on_next (nodes ++ node ∷ []) most at place found ≡ on_next nodes most at place found
+      by go None got l = refl
+      by go (Some n) got l = ap (λ rest. nat_eq at place || rest) (go n.before (before_later at (length nodes) n.before l (node_leads at n got)))
+
+  -- a way ends within as many steps as its place counts
+  pub on_more : (most more : ℕ) (at : Option ℕ) (place : ℕ) → is_before most at ≡ true → most ≤ more → is_on nodes most at place ≡ is_on nodes more at place
+  on_more zero zero at place e l = refl
+  on_more zero (suc more) None place e l = refl
+  on_more zero (suc more) (Some at) place e l = absurd (let below = is_below 0 at e in omega (arith, below))
+  on_more (suc most) zero at place e l = absurd (omega (arith, l))
+  on_more (suc most) (suc more) None place e l = refl
+  on_more (suc most) (suc more) (Some at) place e l =
+      let below = is_below (suc most) at e in
+      by (λ at' f. on_more most more at' place f (omega (arith, l))) (slice_get nodes at) refl (omega (arith, below))
+    where
+      by : ((at' : Option ℕ) → is_before most at' ≡ true → is_on nodes most at' place ≡ is_on nodes more at' place)
+          → (found : Option Node) → slice_get nodes at ≡ found → at ≤ most → on_next nodes most at place found ≡ on_next nodes more at place found
+      by go None got a = refl
+      by go (Some n) got a = ap (λ rest. nat_eq at place || rest) (go n.before (before_later at most n.before a (node_leads at n got)))
+
+  -- what is on a way is below its end
+  on_below : (bound most : ℕ) (at : Option ℕ) (place : ℕ) → is_before bound at ≡ true → is_on nodes most at place ≡ true → place < bound
+  on_below bound zero at place b e = absurd (let f : false ≡ true = e in cc)
+  on_below bound (suc most) None place b e = absurd (let f : false ≡ true = e in cc)
+  on_below bound (suc most) (Some at) place b e = by (λ at' c f. on_below bound most at' place c f) (slice_get nodes at) refl (is_below bound at b) e
+    where
+      by : ((at' : Option ℕ) → is_before bound at' ≡ true → is_on nodes most at' place ≡ true → place < bound)
+          → (found : Option Node) → slice_get nodes at ≡ found → at < bound → on_next nodes most at place found ≡ true → place < bound
+      by go None got l f = absurd (let g : false ≡ true = f in cc)
+      by go (Some n) got l f = elim (or_cases (nat_eq at place) (is_on nodes most n.before place) f) [
+        | inl same ↦ grind (arith, nat_tests, same, l)
+        | inr later ↦ go n.before (before_later at bound n.before (omega (arith, l)) (node_leads at n got)) later
+      ]
+
 -- the table after one more row
 pub record IsRowPut {Y S : Type 0} (nodes new_nodes : List Node) (lasts new_lasts : HashMap (String Y) ℕ S) (row : ElementRow) : Type 0 where
   pub chains : AreChains new_nodes new_lasts
@@ -97,10 +144,40 @@ module _ {Y S : Type 0} (nodes : List Node) (lasts new_lasts : HashMap (String Y
   before_end : is_before (length nodes) node.before ≡ true
   before_end = ap (is_before (length nodes)) leads ∙ chains.there key
 
+  abbrev OnAfter : List ℕ → ℕ → Type 0
+  OnAfter other place = ((key ≡ other) × (place ≡ length nodes)) ⊎ (is_on nodes (length nodes) (get_by_text lasts other) place ≡ true)
+
+  -- what is on the way of a key is the new node, or was there before
+  on_after : (other : List ℕ) (place : ℕ) → is_on (nodes ++ node ∷ []) (length (nodes ++ node ∷ [])) (get_by_text new_lasts other) place ≡ true → OnAfter other place
+  on_after other place e =
+      by (bytes_eq key other) refl
+      (ap (λ z. is_on (nodes ++ node ∷ []) (suc (length nodes)) z place) (sym (updates other)) ∙ ap (λ z. is_on (nodes ++ node ∷ []) z (get_by_text new_lasts other) place) (sym longer) ∙ e)
+    where
+      own : key ≡ other → (nat_eq (length nodes) place || is_on (nodes ++ node ∷ []) (length nodes) node.before place) ≡ true → OnAfter other place
+      own same f = elim (or_cases (nat_eq (length nodes) place) (is_on (nodes ++ node ∷ []) (length nodes) node.before place) f) [
+        | inl new ↦ inl (same, grind (arith, nat_tests, new))
+        | inr old ↦ inr (
+            ap (λ z. is_on nodes (length nodes) z place) (sym (leads ∙ ap (get_by_text lasts) same))
+            ∙ sym (on_push nodes chains.back node (length nodes) node.before place before_end) ∙ old)
+      ]
+
+      by : (b : Bool) → bytes_eq key other ≡ b → is_on (nodes ++ node ∷ []) (suc (length nodes)) (cond b (Some (length nodes)) (get_by_text lasts other)) place ≡ true → OnAfter other place
+      by true same f = own ((bytes_eq-Decides key other).0 same) (ap (λ found. on_next nodes chains.back (nodes ++ node ∷ []) (length nodes) (length nodes) place found) (sym (get_last nodes node)) ∙ f)
+      by false other' f = inr (
+          on_more nodes chains.back (length nodes) (suc (length nodes)) (get_by_text lasts other) place (chains.there other) (omega arith)
+          ∙ sym (on_push nodes chains.back node (suc (length nodes)) (get_by_text lasts other) place (chains.there other)) ∙ f)
+
+  still_apart : (a b : List ℕ) (place : ℕ) → OnAfter a place → OnAfter b place → a ≡ b
+  still_apart a b place (inl x) (inl y) = sym x.0 ∙ y.0
+  still_apart a b place (inl x) (inr y) = absurd (let at = x.1 in let below = on_below nodes chains.back (length nodes) (length nodes) (get_by_text lasts b) place (chains.there b) y in omega (arith, at, below))
+  still_apart a b place (inr x) (inl y) = absurd (let at = y.1 in let below = on_below nodes chains.back (length nodes) (length nodes) (get_by_text lasts a) place (chains.there a) x in omega (arith, at, below))
+  still_apart a b place (inr x) (inr y) = chains.apart a b place x y
+
   still_chains : AreChains (nodes ++ node ∷ []) new_lasts
   still_chains = record {
     back = back_push 0 nodes node chains.back (subst (λ z. is_before z node.before ≡ true) (omega arith) before_end);
     there = λ other. ap (is_before (length (nodes ++ node ∷ []))) (updates other) ∙ ap (λ z. is_before z (cond (bytes_eq key other) (Some (length nodes)) (get_by_text lasts other))) longer ∙ by other (bytes_eq key other);
+    apart = λ a b place x y. still_apart a b place (on_after a place x) (on_after b place y);
   }
     where
       by : (other : List ℕ) (b : Bool) → is_before (suc (length nodes)) (cond b (Some (length nodes)) (get_by_text lasts other)) ≡ true
@@ -174,7 +251,11 @@ pub same_chains : {Y S : Type 0} (nodes new_nodes : List Node) (lasts new_lasts 
 same_chains nodes new_nodes lasts new_lasts e same chains = record {
   back = ap (lead_back 0) e ∙ chains.back;
   there = λ key. ap (λ z. is_before (length z) (get_by_text new_lasts key)) e ∙ ap (is_before (length nodes)) (same key) ∙ chains.there key;
+  apart = λ a b place x y. chains.apart a b place (back a place x) (back b place y);
 }
+  where
+    back : (key : List ℕ) (place : ℕ) → is_on new_nodes (length new_nodes) (get_by_text new_lasts key) place ≡ true → is_on nodes (length nodes) (get_by_text lasts key) place ≡ true
+    back key place f = ap (λ z. is_on nodes (length nodes) z place) (sym (same key)) ∙ ap (λ z. is_on z (length z) (get_by_text new_lasts key) place) (sym e) ∙ f
 
 pub same_rows : {Y S : Type 0} (nodes new_nodes : List Node) (lasts new_lasts : HashMap (String Y) ℕ S) → new_nodes ≡ nodes
     → ((key : List ℕ) → get_by_text new_lasts key ≡ get_by_text lasts key) → (key : List ℕ) → rows_in new_nodes new_lasts key ≡ rows_in nodes lasts key

@@ -1,30 +1,32 @@
 -- What a commit leaves fits.
 use Rattle.std.proofs.Common.{◌≡◌, ℕ, Bool, true, false, not, List, [], ◌++◌, map, ◌||◌, ◌&&◌, sym, refl, ap, ◌∙◌, subst}
-use Rattle.std.specs.Prelude.{fold}
+use Rattle.std.specs.Prelude.{filter, fold}
 use Rattle.std.specs.List.{list_any}
 use Rattle.std.specs.Str.{bytes_eq}
 use Rattle.std.specs.declared.hash.BuildHasher as build
 use Rattle.std.specs.declared.hash.Hasher as hash
 use Rattle.std.proofs.lemmas.List.Folds.{list_any-append}
 use Rattle.std.proofs.lemmas.List.Concat.{flat_map-append}
-use Rattle.std.proofs.Math.Bool.{and-true}
 use Rattle.mc_base.specs.declared.cid.Cid.{Cid}
 use Rattle.mc_model.specs.declared.block.Block.{Block}
+use Rattle.mc_model.specs.Id.{id_text}
 use Rattle.mc_model.specs.SameMembers.{SameMembers}
 use Rattle.mc_model.specs.Front.{same_cid, is_among, is_linked, is_processed, is_gap, head_at}
 use Rattle.mc_model.specs.Live.{has_tomb, value_row}
 use Rattle.mc_model.specs.Kept.{Kept, IsKept, processed}
 use Rattle.mc_model.proofs.Blocks.{is_processed_has}
-use Rattle.mc_model.proofs.Members.{list_any-filter}
+use Rattle.mc_model.proofs.Members.{any_agree, list_any-filter}
 use Rattle.mc_keep.specs.declared.rows.ElementRow.{ElementRow}
 use Rattle.mc_keep.specs.declared.changes.Changes.{Changes}
 use Rattle.mc_keep.specs.Changes.{changed, newly_processed, has_tomb_row, values_after, head_after}
+use Rattle.mc_keep.specs.Live.{is_shown, live_element_rows}
 use Rattle.mc_keep.specs.Tables.{element_row, element_rows, element_rows_of, ChangesFit}
 use Rattle.mc_keep_mem.specs.declared.tables.Tables.{Tables}
-use Rattle.mc_keep_mem.specs.Chains.{rows_in}
+use Rattle.mc_keep_mem.specs.Chains.{is_live, rows_in}
 use Rattle.mc_keep_mem.specs.Front.{closed_by}
 use Rattle.mc_keep_mem.specs.Fits.{kept_in, tomb_in, Fits, Applied}
 use Rattle.mc_keep_mem.proofs.Fit.{elements_put, tombs_put, closed_all, opened_all}
+use Rattle.mc_keep_mem.proofs.HolderFacts.{backed_put}
 
 -- the rows of a key over further blocks
 pub rows_of-append : (test : ElementRow → Bool) (key : List ℕ) (blocks more : List Block)
@@ -60,15 +62,53 @@ module _ {S X : Type 0} {g : build.Ghosts S X} {h : hash.Ghosts X} (old new : Ta
   blocks_after : processed (kept_in new) ≡ processed (kept_in old) ++ newly_processed (kept_in old) changes
   blocks_after = ap processed told_after ∙ processed_after
 
-  elements_after : (key : List ℕ) → SameMembers (rows_in new.elements.nodes.items new.elements.lasts key) (element_rows_of (processed (kept_in new)) key)
+  tombs_after : (key id : List ℕ) → tomb_in new key id ≡ has_tomb (processed (kept_in new)) key id
+  tombs_after key id =
+      applied.tombs key id ∙ tombs_put key id (tomb_in old key id) changes.tombs ∙ ap (λ t. t || has_tomb_row changes.tombs key id) (fits.tombs key id)
+      ∙ sym (meet.rows.tombs key id) ∙ ap (λ z. has_tomb z key id) (sym blocks_after)
+
+  -- what is live after the commit was live before it
+  still_hidden : (key : List ℕ) (row : ElementRow) → is_live (tomb_in new key) row ≡ true → is_live (tomb_in old key) row ≡ true
+  still_hidden key row e = by (tomb_in old key (id_text row.cid.0)) refl
+    where
+      by : (b : Bool) → tomb_in old key (id_text row.cid.0) ≡ b → not (tomb_in old key (id_text row.cid.0)) ≡ true
+      by true gone =
+          let f : false ≡ true =
+          ap (λ t. not (t || has_tomb_row changes.tombs key (id_text row.cid.0))) (sym gone)
+          ∙ ap not (sym (applied.tombs key (id_text row.cid.0) ∙ tombs_put key (id_text row.cid.0) (tomb_in old key (id_text row.cid.0)) changes.tombs)) ∙ e in
+          absurd (cc)
+      by false free = ap not free
+
+  both : (a b c : Bool) → (b ≡ true → a ≡ true) → (a && (b && c)) ≡ (b && c)
+  both a true c up = ap (λ t. t && c) (up refl)
+  both true false c up = refl
+  both false false c up = refl
+
+  -- whether a row is live after the commit, and passes a test
+  abbrev passes : List ℕ → (ElementRow → Bool) → ElementRow → Bool
+  passes key test row = is_live (tomb_in new key) row && test row
+
+  old_rows : (key : List ℕ) (test : ElementRow → Bool) → list_any (passes key test) (rows_in old.elements.nodes.items old.elements.lasts key) ≡ list_any (passes key test) (element_rows_of (processed (kept_in old)) key)
+  old_rows key test =
+      sym (any_agree (λ row. is_live (tomb_in old key) row && passes key test row) (passes key test) (λ row. both (is_live (tomb_in old key) row) (is_live (tomb_in new key) row) (test row) (still_hidden key row)) (rows_in old.elements.nodes.items old.elements.lasts key))
+      ∙ sym (list_any-filter (passes key test) (is_live (tomb_in old key)) (rows_in old.elements.nodes.items old.elements.lasts key))
+      ∙ (fits.elements key).same (passes key test)
+      ∙ list_any-filter (passes key test) (is_shown (processed (kept_in old)) key) (element_rows_of (processed (kept_in old)) key)
+      ∙ any_agree (λ row. is_shown (processed (kept_in old)) key row && passes key test row) (passes key test)
+      (λ row. ap (λ t. not t && passes key test row) (sym (fits.tombs key (id_text row.cid.0))) ∙ both (is_live (tomb_in old key) row) (is_live (tomb_in new key) row) (test row) (still_hidden key row)) (element_rows_of (processed (kept_in old)) key)
+
+  elements_after : (key : List ℕ) → SameMembers (filter (is_live (tomb_in new key)) (rows_in new.elements.nodes.items new.elements.lasts key)) (live_element_rows (processed (kept_in new)) key)
   elements_after key = record {
     same = λ test.
-        ap (list_any test) (applied.elements key)
-        ∙ elements_put test key (rows_in old.elements.nodes.items old.elements.lasts key) changes.elements
-        ∙ ap (λ t. t || list_any (λ (row : ElementRow). bytes_eq row.key key && test row) changes.elements) ((fits.elements key).same test)
-        ∙ ap (λ t. list_any test (element_rows_of (processed (kept_in old)) key) || t) (meet.rows.elements.same (λ (row : ElementRow). bytes_eq row.key key && test row))
-        ∙ sym (rows_of-append test key (processed (kept_in old)) (newly_processed (kept_in old) changes))
-        ∙ ap (λ z. list_any test (element_rows_of z key)) (sym blocks_after);
+        list_any-filter test (is_live (tomb_in new key)) (rows_in new.elements.nodes.items new.elements.lasts key)
+        ∙ ap (list_any (passes key test)) (applied.elements key)
+        ∙ elements_put (passes key test) key (rows_in old.elements.nodes.items old.elements.lasts key) changes.elements
+        ∙ ap (λ t. t || list_any (λ (row : ElementRow). bytes_eq row.key key && passes key test row) changes.elements) (old_rows key test)
+        ∙ ap (λ t. list_any (passes key test) (element_rows_of (processed (kept_in old)) key) || t) (meet.rows.elements.same (λ (row : ElementRow). bytes_eq row.key key && passes key test row))
+        ∙ sym (rows_of-append (passes key test) key (processed (kept_in old)) (newly_processed (kept_in old) changes))
+        ∙ ap (λ z. list_any (passes key test) (element_rows_of z key)) (sym blocks_after)
+        ∙ any_agree (passes key test) (λ row. is_shown (processed (kept_in new)) key row && test row) (λ row. ap (λ t. not t && test row) (tombs_after key (id_text row.cid.0))) (element_rows_of (processed (kept_in new)) key)
+        ∙ sym (list_any-filter test (is_shown (processed (kept_in new)) key) (element_rows_of (processed (kept_in new)) key));
   }
 
   gaps_after : (cid : Cid) → is_among new.gaps.keys cid ≡ is_gap (processed (kept_in new)) cid
@@ -83,23 +123,16 @@ module _ {S X : Type 0} {g : build.Ghosts S X} {h : hash.Ghosts X} (old new : Ta
       ∙ ap (λ t. is_linked (processed (kept_in old) ++ newly_processed (kept_in old) changes) cid && not t) (sym (processed_has (kept_in old) changes cid))
       ∙ ap (λ z. is_gap z cid) (sym blocks_after)
 
-  links_after : (cid : Cid) → is_among new.links.keys cid ≡ is_linked (processed (kept_in new)) cid
-  links_after cid =
-      applied.links cid ∙ opened_all [] cid (is_among old.links.keys cid) changes.links
-      ∙ ap (λ t. t || (is_among changes.links cid && true)) (fits.links cid) ∙ ap (λ t. is_linked (processed (kept_in old)) cid || t) (and-true (is_among changes.links cid))
-      ∙ sym (meet.front.links cid) ∙ ap (λ z. is_linked z cid) (sym blocks_after)
-
   pub fits_after : Fits new
   fits_after = record {
     kept = subst IsKept (sym told_after) sound_after;
     elements = elements_after;
-    tombs = λ key id.
-        applied.tombs key id ∙ tombs_put key id (tomb_in old key id) changes.tombs ∙ ap (λ t. t || has_tomb_row changes.tombs key id) (fits.tombs key id)
-        ∙ sym (meet.rows.tombs key id) ∙ ap (λ z. has_tomb z key id) (sym blocks_after);
+    tombs = tombs_after;
     values = λ key. applied.values key ∙ ap (λ z. values_after key z changes.values) (fits.values key) ∙ sym (meet.rows.values key) ∙ ap (λ z. value_row z key) (sym blocks_after);
     covered = applied.covered;
-    backed = applied.backed;
-    links = links_after;
+    backed = applied.backed (tomb_in new)
+        (backed_put (tomb_in old) (tomb_in new) old.elements.nodes.items new.elements.nodes.items old.elements.lasts new.elements.lasts old.values.rows changes.elements changes.tombs
+        applied.elements applied.tombs fits.backed);
     gaps = gaps_after;
     heads = λ cid. applied.heads cid ∙ ap (λ z. head_after cid z changes.heads_out changes.heads_in) (fits.heads cid) ∙ sym (meet.front.heads cid) ∙ ap (λ z. head_at z cid) (sym blocks_after);
   }

@@ -1,31 +1,35 @@
 -- The block of a key's value: found among the rows of the key, it holds the value.
-use Rattle.std.proofs.Common.{◌≡◌, ℕ, Bool, true, false, not, cond, List, [], ◌∷◌, ◌&&◌, ◌||◌, Option, Some, None, sym, refl, ap, ◌∙◌}
-use Rattle.std.specs.Prelude.{find, fold}
+use Rattle.std.proofs.Common.{◌≡◌, ℕ, Bool, true, false, not, cond, List, [], ◌∷◌, ◌&&◌, ◌||◌, ◌⊎◌, inl, inr, Option, Some, None, sym, refl, ap, ◌∙◌}
+use Rattle.std.specs.Prelude.{filter, find, fold}
 use Rattle.std.specs.HashMap.{HashMap, get_by_text}
 use Rattle.std.specs.Str.{bytes_eq}
 use Rattle.std.specs.declared.string.String.{String}
 use Rattle.std.specs.List.{list_any}
 use Rattle.std.specs.Option.{option_map}
-use Rattle.std.proofs.lemmas.Bool.{and_parts, not-true, or_right}
+use Rattle.std.proofs.lemmas.Bool.{and_parts, not-true, or_cases, or_left, or_right}
 use Rattle.std.proofs.lemmas.Slice.Eq.{bytes_eq-Decides}
 use Rattle.mc_base.specs.declared.cid.Cid.{Cid}
 use Rattle.mc_model.specs.declared.block.Block.{Block}
+use Rattle.mc_model.specs.Front.{same_cid}
 use Rattle.mc_model.specs.Id.{id_text}
 use Rattle.mc_model.specs.Live.{has_tomb, live, value_row}
 use Rattle.mc_model.specs.Rank.{Ranked, same_ranked}
 use Rattle.mc_model.specs.SameMembers.{SameMembers}
 use Rattle.mc_model.proofs.Greatest.{greatest_member}
-use Rattle.mc_model.proofs.Counts.{cid_itself}
-use Rattle.mc_model.proofs.Members.{any_agree}
+use Rattle.mc_model.proofs.Counts.{cid_is, cid_itself}
+use Rattle.mc_model.proofs.Members.{any_agree, list_any-filter}
 use Rattle.mc_keep.specs.declared.rows.ElementRow.{ElementRow}
-use Rattle.mc_keep.specs.Live.{ranked_of, is_row_of, HoldsValue, IsHolder}
+use Rattle.mc_keep.specs.declared.rows.TombRow.{TombRow}
+use Rattle.mc_keep.specs.Changes.{has_tomb_row}
+use Rattle.mc_keep.specs.Live.{ranked_of, is_row_of, live_element_rows, HoldsValue, IsHolder}
 use Rattle.mc_keep.specs.Tables.{element_rows_of}
 use Rattle.mc_keep.proofs.Lives.{live_rows-element_rows_of, live_rows_any}
 use Rattle.mc_keep_mem.specs.declared.elements.Node.{Node}
 use Rattle.mc_keep_mem.specs.declared.values.Held.{Held}
-use Rattle.mc_keep_mem.specs.Chains.{rows_in, with_element}
+use Rattle.mc_keep_mem.specs.Chains.{is_live, rows_in, with_element, Pruned}
 use Rattle.mc_keep_mem.specs.Holder.{AreBacked, is_backed, is_held, block_among, holder_among, stands_for}
-use Rattle.mc_keep_mem.proofs.Fit.{elements_put}
+use Rattle.mc_keep_mem.specs.Tombs.{with_tomb}
+use Rattle.mc_keep_mem.proofs.Fit.{elements_put, tombs_put}
 
 -- what is found: a row that passes, and that is one of the list
 pub record IsFound (test : ElementRow → Bool) (rows : List ElementRow) (row : ElementRow) : Type 0 where
@@ -72,25 +76,69 @@ some_row blocks key ranked e =
     turned false true = refl
     turned false false = refl
 
+-- what is held is live
+held_is_live : (hidden : List ℕ → Bool) (ranked : Ranked) (rows : List ElementRow) → list_any (is_held hidden ranked) (filter (is_live hidden) rows) ≡ list_any (is_held hidden ranked) rows
+held_is_live hidden ranked rows =
+    list_any-filter (is_held hidden ranked) (is_live hidden) rows
+    ∙ any_agree (λ (row : ElementRow). is_live hidden row && is_held hidden ranked row) (is_held hidden ranked) (λ row. twice (is_live hidden row) (same_ranked ranked (ranked_of row))) rows
+  where
+    twice : (a b : Bool) → (a && (b && a)) ≡ (b && a)
+    twice true b = refl
+    twice false true = refl
+    twice false false = refl
+
+-- a row that passes more tests passes one
+any_weaker : (a b : ElementRow → Bool) (rows : List ElementRow) → list_any (λ row. a row && b row) rows ≡ true → list_any b rows ≡ true
+any_weaker a b [] e = e
+any_weaker a b (r ∷ rows) e = elim (or_cases (a r && b r) (list_any (λ row. a row && b row) rows) e) [
+  | inl both ↦ or_left (b r) (list_any b rows) (and_parts (a r) (b r) both).1
+  | inr more ↦ or_right (b r) (list_any b rows) (any_weaker a b rows more)
+]
+
+-- a row of a block that is not hidden is live
+pub of_live_block : (hidden : List ℕ → Bool) (cid : Cid) (ranked : Ranked) (rows : List ElementRow) → hidden (id_text cid.0) ≡ false
+    → list_any (is_row_of cid ranked) (filter (is_live hidden) rows) ≡ list_any (is_row_of cid ranked) rows
+of_live_block hidden cid ranked rows free =
+    list_any-filter (is_row_of cid ranked) (is_live hidden) rows
+    ∙ any_agree (λ (row : ElementRow). is_live hidden row && is_row_of cid ranked row) (is_row_of cid ranked) (λ row. by row (same_cid cid row.cid) refl) rows
+  where
+    none : (a : Bool) → (a && false) ≡ false
+    none true = refl
+    none false = refl
+
+    by : (row : ElementRow) (b : Bool) → same_cid cid row.cid ≡ b → (is_live hidden row && (same_cid cid row.cid && same_ranked ranked (ranked_of row))) ≡ (same_cid cid row.cid && same_ranked ranked (ranked_of row))
+    by row true e = ap (λ t. not t && (same_cid cid row.cid && same_ranked ranked (ranked_of row))) (ap (λ (z : Cid). hidden (id_text z.0)) (sym (cid_is cid row.cid e)) ∙ free)
+    by row false e =
+        ap (λ t. is_live hidden row && (t && same_ranked ranked (ranked_of row))) e ∙ none (is_live hidden row) ∙ ap (λ t. t && same_ranked ranked (ranked_of row)) (sym e)
+
 module _ (blocks : List Block) (key : List ℕ) (rows : List ElementRow) (hidden : List ℕ → Bool) (ranked : Ranked)
-    (same : SameMembers rows (element_rows_of blocks key)) (alike : (id : List ℕ) → hidden id ≡ has_tomb blocks key id) (is_value : value_row blocks key ≡ Some ranked) where
+    (same : SameMembers (filter (is_live hidden) rows) (live_element_rows blocks key)) (alike : (id : List ℕ) → hidden id ≡ has_tomb blocks key id) (is_value : value_row blocks key ≡ Some ranked) where
   none : find (is_held hidden ranked) rows ≡ None → ⊥
   none e =
       let here : list_any (is_held hidden ranked) rows ≡ true =
-      same.same (is_held hidden ranked) ∙ any_agree (is_held hidden ranked) (is_held (has_tomb blocks key) ranked) (λ row. ap (λ b. same_ranked ranked (ranked_of row) && not b) (alike (id_text row.cid.0))) (element_rows_of blocks key)
+      sym (held_is_live hidden ranked rows) ∙ same.same (is_held hidden ranked)
+      ∙ any_agree (is_held hidden ranked) (is_held (has_tomb blocks key) ranked) (λ row. ap (λ b. same_ranked ranked (ranked_of row) && not b) (alike (id_text row.cid.0))) (live_element_rows blocks key)
+      ∙ held_is_live (has_tomb blocks key) ranked (element_rows_of blocks key)
       ∙ some_row blocks key ranked is_value in
       let no : true ≡ false = sym here ∙ none_found (is_held hidden ranked) rows e in
       cc
+
+  -- a live row of the table is one of the blocks
+  of_blocks : (cid : Cid) → list_any (is_row_of cid ranked) (filter (is_live hidden) rows) ≡ true → list_any (is_row_of cid ranked) (element_rows_of blocks key) ≡ true
+  of_blocks cid e =
+      any_weaker (is_live (has_tomb blocks key)) (is_row_of cid ranked) (element_rows_of blocks key)
+      (sym (list_any-filter (is_row_of cid ranked) (is_live (has_tomb blocks key)) (element_rows_of blocks key)) ∙ sym (same.same (is_row_of cid ranked)) ∙ e)
 
   held : (row : ElementRow) → find (is_held hidden ranked) rows ≡ Some row → HoldsValue blocks key row.cid
   held row e =
       let found = found_row (is_held hidden ranked) rows row e in
       let parts = and_parts (same_ranked ranked (ranked_of row)) (not (hidden (id_text row.cid.0))) found.passes in
+      let free = not-true (hidden (id_text row.cid.0)) parts.1 in
       record {
         ranked = ranked;
         is_value = is_value;
-        there = sym (same.same (is_row_of row.cid ranked)) ∙ found.there (is_row_of row.cid ranked) (ap (λ b. b && same_ranked ranked (ranked_of row)) (cid_itself row.cid) ∙ parts.0);
-        lives = sym (alike (id_text row.cid.0)) ∙ not-true (hidden (id_text row.cid.0)) parts.1;
+        there = of_blocks row.cid (of_live_block hidden row.cid ranked rows free ∙ found.there (is_row_of row.cid ranked) (ap (λ b. b && same_ranked ranked (ranked_of row)) (cid_itself row.cid) ∙ parts.0));
+        lives = sym (alike (id_text row.cid.0)) ∙ free;
       }
 
   pub holder_holds : IsHolder blocks key (holder_among hidden ranked rows)
@@ -100,49 +148,88 @@ module _ (blocks : List Block) (key : List ℕ) (rows : List ElementRow) (hidden
       by None e = absurd (none e)
       by (Some row) e = held row e
 
+  -- the block that is named beside a value holds it, where it is not hidden
+  pub named_holds : (cid : Cid) → stands_for hidden rows ranked (Some cid) ≡ true → has_tomb blocks key (id_text cid.0) ≡ false → HoldsValue blocks key cid
+  named_holds cid there free =
+      let own = alike (id_text cid.0) ∙ free in
+      record {
+        ranked = ranked;
+        is_value = is_value;
+        there = of_blocks cid (of_live_block hidden cid ranked rows own ∙ ap (λ b. b || list_any (is_row_of cid ranked) rows) (sym own) ∙ there);
+        lives = free;
+      }
+
 -- the block of the first row with a value has it
-pub found_backs : (rows : List ElementRow) (ranked : Ranked) → stands_for rows ranked (block_among ranked rows) ≡ true
-found_backs rows ranked = by (find (λ (row : ElementRow). same_ranked ranked (ranked_of row)) rows) refl
+pub found_backs : (hidden : List ℕ → Bool) (rows : List ElementRow) (ranked : Ranked) → stands_for hidden rows ranked (block_among ranked rows) ≡ true
+found_backs hidden rows ranked = by (find (λ (row : ElementRow). same_ranked ranked (ranked_of row)) rows) refl
   where
-    by : (found : Option ElementRow) → find (λ (row : ElementRow). same_ranked ranked (ranked_of row)) rows ≡ found → stands_for rows ranked (option_map (λ (row : ElementRow). row.cid) found) ≡ true
+    by : (found : Option ElementRow) → find (λ (row : ElementRow). same_ranked ranked (ranked_of row)) rows ≡ found → stands_for hidden rows ranked (option_map (λ (row : ElementRow). row.cid) found) ≡ true
     by None e = refl
     by (Some row) e =
         let found = found_row (λ (row : ElementRow). same_ranked ranked (ranked_of row)) rows row e in
-        found.there (is_row_of row.cid ranked) (ap (λ b. b && same_ranked ranked (ranked_of row)) (cid_itself row.cid) ∙ found.passes)
+        or_right (hidden (id_text row.cid.0)) (list_any (is_row_of row.cid ranked) rows)
+        (found.there (is_row_of row.cid ranked) (ap (λ b. b && same_ranked ranked (ranked_of row)) (cid_itself row.cid) ∙ found.passes))
 
--- more rows take nothing away
-backed_more : (test : ElementRow → Bool) (key : List ℕ) (rows new : List ElementRow) → list_any test rows ≡ true → list_any test (fold (with_element key) rows new) ≡ true
-backed_more test key rows new e = elements_put test key rows new ∙ ap (λ b. b || list_any (λ (row : ElementRow). bytes_eq row.key key && test row) new) e
-
-is_backed_more : (key : List ℕ) (rows new : List ElementRow) (held : Option Held) → is_backed rows held ≡ true → is_backed (fold (with_element key) rows new) held ≡ true
-is_backed_more key rows new None e = refl
-is_backed_more key rows new (Some held) e = by held.holder e
+-- more rows and more hidden blocks take nothing away
+more_stands : (hidden more : List ℕ → Bool) (rows new : List ElementRow) (held : Option Held) → ((id : List ℕ) → hidden id ≡ true → more id ≡ true)
+    → ((test : ElementRow → Bool) → list_any test rows ≡ true → list_any test new ≡ true) → is_backed hidden rows held ≡ true → is_backed more new held ≡ true
+more_stands hidden more rows new None up on e = refl
+more_stands hidden more rows new (Some held) up on e = by held.holder e
   where
-    by : (holder : Option Cid) → stands_for rows (held.priority, held.value) holder ≡ true → stands_for (fold (with_element key) rows new) (held.priority, held.value) holder ≡ true
+    by : (holder : Option Cid) → stands_for hidden rows (held.priority, held.value) holder ≡ true → stands_for more new (held.priority, held.value) holder ≡ true
     by None e = refl
-    by (Some cid) e = backed_more (is_row_of cid (held.priority, held.value)) key rows new e
+    by (Some cid) e = elim (or_cases (hidden (id_text cid.0)) (list_any (is_row_of cid (held.priority, held.value)) rows) e) [
+      | inl gone ↦ or_left (more (id_text cid.0)) (list_any (is_row_of cid (held.priority, held.value)) new) (up (id_text cid.0) gone)
+      | inr there ↦ or_right (more (id_text cid.0)) (list_any (is_row_of cid (held.priority, held.value)) new) (on (is_row_of cid (held.priority, held.value)) there)
+    ]
 
-pub backed_put : {Y Z S T : Type 0} (nodes new_nodes : List Node) (lasts new_lasts : HashMap (String Y) ℕ S) (rows : HashMap (String Z) Held T) (new : List ElementRow)
-    → ((key : List ℕ) → rows_in new_nodes new_lasts key ≡ fold (with_element key) (rows_in nodes lasts key) new) → AreBacked nodes lasts rows → AreBacked new_nodes new_lasts rows
-backed_put nodes new_nodes lasts new_lasts rows new put backed = record {
-  each = λ key. ap (λ r. is_backed r (get_by_text rows key)) (put key) ∙ is_backed_more key (rows_in nodes lasts key) new (get_by_text rows key) (backed.each key);
+pub backed_put : {Y Z S T : Type 0} (hidden more : List ℕ → List ℕ → Bool) (nodes new_nodes : List Node) (lasts new_lasts : HashMap (String Y) ℕ S) (rows : HashMap (String Z) Held T) (new : List ElementRow) (tombs : List TombRow)
+    → ((key : List ℕ) → rows_in new_nodes new_lasts key ≡ fold (with_element key) (rows_in nodes lasts key) new) → ((key id : List ℕ) → more key id ≡ fold (with_tomb key id) (hidden key id) tombs)
+    → AreBacked hidden nodes lasts rows → AreBacked more new_nodes new_lasts rows
+backed_put hidden more nodes new_nodes lasts new_lasts rows new tombs put buried backed = record {
+  each = λ key. more_stands (hidden key) (more key) (rows_in nodes lasts key) (rows_in new_nodes new_lasts key) (get_by_text rows key)
+      (λ id e. buried key id ∙ tombs_put key id (hidden key id) tombs ∙ or_left (hidden key id) (has_tomb_row tombs key id) e)
+      (λ test e. ap (list_any test) (put key) ∙ elements_put test key (rows_in nodes lasts key) new ∙ or_left (list_any test (rows_in nodes lasts key)) (list_any (λ (row : ElementRow). bytes_eq row.key key && test row) new) e)
+      (backed.each key);
 }
 
 -- a key's value is set, or goes
-pub backed_set : {Y Z S T : Type 0} (nodes : List Node) (lasts : HashMap (String Y) ℕ S) (old new : HashMap (String Z) Held T) (key : List ℕ) (held : Option Held)
-    → ((other : List ℕ) → get_by_text new other ≡ cond (bytes_eq key other) held (get_by_text old other)) → is_backed (rows_in nodes lasts key) held ≡ true → AreBacked nodes lasts old → AreBacked nodes lasts new
-backed_set nodes lasts old new key held set own backed = record { each = λ other. ap (is_backed (rows_in nodes lasts other)) (set other) ∙ by other (bytes_eq key other) refl }
+pub backed_set : {Y Z S T : Type 0} (hidden : List ℕ → List ℕ → Bool) (nodes : List Node) (lasts : HashMap (String Y) ℕ S) (old new : HashMap (String Z) Held T) (key : List ℕ) (held : Option Held)
+    → ((other : List ℕ) → get_by_text new other ≡ cond (bytes_eq key other) held (get_by_text old other)) → is_backed (hidden key) (rows_in nodes lasts key) held ≡ true → AreBacked hidden nodes lasts old
+    → AreBacked hidden nodes lasts new
+backed_set hidden nodes lasts old new key held set own backed = record { each = λ other. ap (is_backed (hidden other) (rows_in nodes lasts other)) (set other) ∙ by other (bytes_eq key other) refl }
   where
-    by : (other : List ℕ) (b : Bool) → bytes_eq key other ≡ b → is_backed (rows_in nodes lasts other) (cond b held (get_by_text old other)) ≡ true
-    by other true e = ap (λ (z : List ℕ). is_backed (rows_in nodes lasts z) held) (sym ((bytes_eq-Decides key other).0 e)) ∙ own
+    by : (other : List ℕ) (b : Bool) → bytes_eq key other ≡ b → is_backed (hidden other) (rows_in nodes lasts other) (cond b held (get_by_text old other)) ≡ true
+    by other true e = ap (λ (z : List ℕ). is_backed (hidden z) (rows_in nodes lasts z) held) (sym ((bytes_eq-Decides key other).0 e)) ∙ own
     by other false e = backed.each other
 
--- the same rows and values
-pub backed_same : {Y Z S T : Type 0} (nodes new_nodes : List Node) (lasts new_lasts : HashMap (String Y) ℕ S) (old new : HashMap (String Z) Held T)
-    → ((key : List ℕ) → rows_in new_nodes new_lasts key ≡ rows_in nodes lasts key) → ((key : List ℕ) → get_by_text new key ≡ get_by_text old key) → AreBacked nodes lasts old → AreBacked new_nodes new_lasts new
-backed_same nodes new_nodes lasts new_lasts old new same values backed = record { each = λ key. ap (λ r. is_backed r (get_by_text new key)) (same key) ∙ ap (is_backed (rows_in nodes lasts key)) (values key) ∙ backed.each key }
+-- the same rows, values and hidden blocks
+pub backed_same : {Y Z S T : Type 0} (hidden still : List ℕ → List ℕ → Bool) (nodes new_nodes : List Node) (lasts new_lasts : HashMap (String Y) ℕ S) (old new : HashMap (String Z) Held T)
+    → ((key id : List ℕ) → still key id ≡ hidden key id) → ((key : List ℕ) → rows_in new_nodes new_lasts key ≡ rows_in nodes lasts key) → ((key : List ℕ) → get_by_text new key ≡ get_by_text old key)
+    → AreBacked hidden nodes lasts old → AreBacked still new_nodes new_lasts new
+backed_same hidden still nodes new_nodes lasts new_lasts old new alike same values backed = record {
+  each = λ key. ap (is_backed (still key) (rows_in new_nodes new_lasts key)) (values key)
+      ∙ more_stands (hidden key) (still key) (rows_in nodes lasts key) (rows_in new_nodes new_lasts key) (get_by_text old key)
+      (λ id e. alike key id ∙ e) (λ test e. ap (list_any test) (same key) ∙ e) (backed.each key);
+}
 
--- the block that is named beside a value holds it, where it is not hidden
-pub named_holds : (blocks : List Block) (key : List ℕ) (rows : List ElementRow) (ranked : Ranked) (cid : Cid) → SameMembers rows (element_rows_of blocks key) → value_row blocks key ≡ Some ranked
-    → stands_for rows ranked (Some cid) ≡ true → has_tomb blocks key (id_text cid.0) ≡ false → HoldsValue blocks key cid
-named_holds blocks key rows ranked cid same is_value there lives = record { ranked = ranked; is_value = is_value; there = sym (same.same (is_row_of cid ranked)) ∙ there; lives = lives }
+-- rows that are hidden may be passed over
+pub backed_pruned : {Y Z S T : Type 0} (hidden : List ℕ → List ℕ → Bool) (nodes new : List Node) (lasts : HashMap (String Y) ℕ S) (rows : HashMap (String Z) Held T) → Pruned hidden nodes new lasts
+    → AreBacked hidden nodes lasts rows → AreBacked hidden new lasts rows
+backed_pruned hidden nodes new lasts rows pruned backed = record { each = λ key. one key (get_by_text rows key) (backed.each key) }
+  where
+    one : (key : List ℕ) (held : Option Held) → is_backed (hidden key) (rows_in nodes lasts key) held ≡ true → is_backed (hidden key) (rows_in new lasts key) held ≡ true
+    one key None e = refl
+    one key (Some held) e = by held.holder e
+      where
+        by : (holder : Option Cid) → stands_for (hidden key) (rows_in nodes lasts key) (held.priority, held.value) holder ≡ true → stands_for (hidden key) (rows_in new lasts key) (held.priority, held.value) holder ≡ true
+        by None e = refl
+        by (Some cid) e = free (hidden key (id_text cid.0)) refl e
+          where
+            free : (b : Bool) → hidden key (id_text cid.0) ≡ b → (hidden key (id_text cid.0) || list_any (is_row_of cid (held.priority, held.value)) (rows_in nodes lasts key)) ≡ true
+                → (hidden key (id_text cid.0) || list_any (is_row_of cid (held.priority, held.value)) (rows_in new lasts key)) ≡ true
+            free true h e = or_left (hidden key (id_text cid.0)) (list_any (is_row_of cid (held.priority, held.value)) (rows_in new lasts key)) h
+            free false h e = or_right (hidden key (id_text cid.0)) (list_any (is_row_of cid (held.priority, held.value)) (rows_in new lasts key))
+                (sym (of_live_block (hidden key) cid (held.priority, held.value) (rows_in new lasts key) h) ∙ ap (list_any (is_row_of cid (held.priority, held.value))) (pruned.live key)
+                ∙ of_live_block (hidden key) cid (held.priority, held.value) (rows_in nodes lasts key) h
+                ∙ ap (λ b. b || list_any (is_row_of cid (held.priority, held.value)) (rows_in nodes lasts key)) (sym h) ∙ e)

@@ -6,11 +6,14 @@ pub mod ValueFacts
 pub mod TombFacts
 pub mod ChainFacts
 pub mod WalkFacts
+pub mod PassFacts
+pub mod PruneFacts
 pub mod HeadFacts
 pub mod Reordered
 pub mod Fit
 pub mod FitAfter
 pub mod FrontMembers
+pub mod LinkFacts
 pub mod IfOk
 pub mod NextFacts
 pub mod Reserves

@@ -1,18 +1,26 @@
 -- What more room leaves fits.
-use Rattle.std.proofs.Common.{◌≡◌, ℕ, ◌+◌, ◌≤◌, arith, List, sym, ap, ◌∙◌, subst}
-use Rattle.std.specs.Prelude.{vec_len, vec_capacity}
+use Rattle.std.proofs.Common.{◌≡◌, ℕ, ◌+◌, ◌≤◌, arith, not, ◌&&◌, List, sym, ap, ◌∙◌, subst}
+use Rattle.std.specs.Prelude.{filter, vec_len, vec_capacity}
 use Rattle.std.specs.List.{list_any}
 use Rattle.std.specs.Map.{lookup}
+use Rattle.std.specs.HashMap.{spare as map_spare}
 use Rattle.std.specs.declared.hash.BuildHasher as build
 use Rattle.std.specs.declared.hash.Hasher as hash
 use Rattle.std.proofs.Math.Nat.{le_trans}
 use Rattle.mc_base.specs.declared.cid.Cid.{Cid}
-use Rattle.mc_model.specs.Front.{same_cid, is_among, is_linked, is_gap, head_at}
+use Rattle.mc_model.specs.Front.{same_cid, is_among, is_gap, head_at}
+use Rattle.mc_model.specs.Id.{id_text}
 use Rattle.mc_model.specs.Live.{has_tomb, value_row}
+use Rattle.mc_model.proofs.Members.{any_agree, list_any-filter}
 use Rattle.mc_model.specs.Kept.{Kept, IsKept, processed}
-use Rattle.mc_keep.specs.Tables.{element_rows_of}
+use Rattle.mc_keep.specs.declared.rows.ElementRow.{ElementRow}
+use Rattle.mc_keep.specs.Live.{live_element_rows}
+use Rattle.mc_keep_mem.specs.declared.elements.Elements.{Elements}
 use Rattle.mc_keep_mem.specs.declared.tables.Tables.{Tables}
-use Rattle.mc_keep_mem.specs.Fits.{kept_in, Fits, RoomFor, Reserved}
+use Rattle.mc_keep_mem.specs.Chains.{is_live, rows_in, Pruned}
+use Rattle.mc_keep_mem.specs.Fits.{kept_in, tomb_in, Fits, RoomFor, Reserved}
+use Rattle.mc_keep_mem.specs.Holder.{AreBacked}
+use Rattle.mc_keep_mem.proofs.HolderFacts.{backed_same, backed_pruned}
 
 module _ {S X : Type 0} {g : build.Ghosts S X} {h : hash.Ghosts X} (old new : Tables S X g h) (reserved : Reserved old new) where
   told_same : kept_in new ≡ kept_in old
@@ -22,13 +30,18 @@ module _ {S X : Type 0} {g : build.Ghosts S X} {h : hash.Ghosts X} (old new : Ta
   fits_reserved fits = record {
     kept = subst IsKept (sym told_same) fits.kept;
     elements = λ key. record {
-      same = λ test. ap (list_any test) (reserved.elements key) ∙ (fits.elements key).same test ∙ ap (λ (z : Kept). list_any test (element_rows_of (processed z) key)) (sym told_same);
+      same = λ test.
+          list_any-filter test (is_live (tomb_in new key)) (rows_in new.elements.nodes.items new.elements.lasts key)
+          ∙ ap (list_any (λ (row : ElementRow). is_live (tomb_in new key) row && test row)) (reserved.elements key)
+          ∙ any_agree (λ (row : ElementRow). is_live (tomb_in new key) row && test row) (λ (row : ElementRow). is_live (tomb_in old key) row && test row) (λ (row : ElementRow). ap (λ t. not t && test row) (reserved.tombs key (id_text row.cid.0))) (rows_in old.elements.nodes.items old.elements.lasts key)
+          ∙ sym (list_any-filter test (is_live (tomb_in old key)) (rows_in old.elements.nodes.items old.elements.lasts key))
+          ∙ (fits.elements key).same test ∙ ap (λ (z : Kept). list_any test (live_element_rows (processed z) key)) (sym told_same);
     };
     tombs = λ key id. reserved.tombs key id ∙ fits.tombs key id ∙ ap (λ (z : Kept). has_tomb (processed z) key id) (sym told_same);
     values = λ key. reserved.values key ∙ fits.values key ∙ ap (λ (z : Kept). value_row (processed z) key) (sym told_same);
     covered = reserved.covered;
-    backed = reserved.backed;
-    links = λ cid. ap (λ (z : List Cid). is_among z cid) reserved.links ∙ fits.links cid ∙ ap (λ (z : Kept). is_linked (processed z) cid) (sym told_same);
+    backed = backed_same (tomb_in old) (tomb_in new) old.elements.nodes.items new.elements.nodes.items old.elements.lasts new.elements.lasts old.values.rows new.values.rows
+        reserved.tombs reserved.elements reserved.held fits.backed;
     gaps = λ cid. ap (λ (z : List Cid). is_among z cid) reserved.gaps ∙ fits.gaps cid ∙ ap (λ (z : Kept). is_gap (processed z) cid) (sym told_same);
     heads = λ cid. ap (λ (z : List (Cid × ℕ)). lookup (same_cid cid) z) reserved.heads ∙ fits.heads cid ∙ ap (λ (z : Kept). head_at (processed z) cid) (sym told_same);
   }
@@ -37,7 +50,6 @@ module _ {S X : Type 0} {g : build.Ghosts S X} {h : hash.Ghosts X} (old new : Ta
   room_reserved rows room = record {
     blocks = le_trans room.blocks reserved.blocks_room;
     order = le_trans room.order reserved.order_room;
-    links = le_trans room.links reserved.links_room;
     gaps = le_trans room.gaps reserved.gaps_room;
     heads = le_trans room.heads reserved.heads_room;
     nodes = le_trans (subst (λ (z : ℕ). z + rows ≤ vec_capacity old.elements.nodes) (sym reserved.nodes_len) room.nodes) reserved.nodes_room;
@@ -51,3 +63,38 @@ module _ {S X : Type 0} {g : build.Ghosts S X} {h : hash.Ghosts X} (old new : Ta
     where
       fewer : (rows len before room more : ℕ) → len ≤ before → before + rows ≤ room → room ≤ more → len + rows ≤ more
       fewer rows len before room more less fit larger = grind (arith, less, fit, larger)
+
+-- rows that are hidden may be passed over
+pub fits_pruned : {S X : Type 0} {g : build.Ghosts S X} {h : hash.Ghosts X} (old : Tables S X g h) (elements : Elements S X g h) → Pruned (tomb_in old) old.elements.nodes.items elements.nodes.items old.elements.lasts
+    → elements.lasts ≡ old.elements.lasts → Fits old → Fits (record old { elements = elements })
+fits_pruned old elements pruned lasts fits = record {
+  kept = fits.kept;
+  elements = λ key. record {
+    same = λ test.
+        ap (λ z. list_any test (filter (is_live (tomb_in old key)) (rows_in elements.nodes.items z key))) lasts
+        ∙ ap (list_any test) (pruned.live key) ∙ (fits.elements key).same test;
+  };
+  tombs = fits.tombs;
+  values = fits.values;
+  covered = fits.covered;
+  backed = subst (λ z. AreBacked (tomb_in old) elements.nodes.items z old.values.rows) (sym lasts)
+      (backed_pruned (tomb_in old) old.elements.nodes.items elements.nodes.items old.elements.lasts old.values.rows pruned fits.backed);
+  gaps = fits.gaps;
+  heads = fits.heads;
+}
+
+pub room_pruned : {S X : Type 0} {g : build.Ghosts S X} {h : hash.Ghosts X} (old : Tables S X g h) (elements : Elements S X g h) (rows : ℕ) → elements.lasts ≡ old.elements.lasts
+    → vec_len elements.nodes ≡ vec_len old.elements.nodes → vec_capacity elements.nodes ≡ vec_capacity old.elements.nodes → RoomFor old rows → RoomFor (record old { elements = elements }) rows
+room_pruned old elements rows lasts len capacity room = record {
+  blocks = room.blocks;
+  order = room.order;
+  gaps = room.gaps;
+  heads = room.heads;
+  nodes = subst (λ z. z + rows ≤ vec_capacity elements.nodes) (sym len) (subst (λ z. vec_len old.elements.nodes + rows ≤ z) (sym capacity) room.nodes);
+  lasts = subst (λ z. rows ≤ map_spare z) (sym lasts) room.lasts;
+  keys = room.keys;
+  ids = room.ids;
+  pairs = room.pairs;
+  values = room.values;
+  pending = room.pending;
+}

@@ -7,12 +7,8 @@ use Rattle.std.specs.declared.string.String.{String}
 use Rattle.mc_base.specs.declared.cid.Cid.{Cid}
 use Rattle.mc_keep.specs.declared.rows.ElementRow.{ElementRow}
 use Rattle.mc_keep_mem.specs.declared.elements.Node.{Node}
-use Rattle.mc_keep_mem.specs.Chains.{AreChains, chain, row_of_node, rows_in, is_before, lead_back}
+use Rattle.mc_keep_mem.specs.Chains.{AreChains, chain, row_of_node, rows_in, rows_from, is_before, lead_back}
 use Rattle.mc_keep_mem.proofs.ChainFacts.{steps_left, chain_step, chain_done, got_at, is_none}
-
--- the rows of a key from a place on
-abbrev pub rows_from : List Node → List ℕ → Option ℕ → List ElementRow
-rows_from nodes key at = map (row_of_node key) (chain nodes (length nodes) at)
 
 -- the block of the first row that passes
 abbrev pub first_that : (ElementRow → Bool) → List ElementRow → Option Cid

@@ -1,9 +1,10 @@
 -- What the table of element rows says: the rows of a key are a chain from its last row to its first.
-use Rattle.std.specs.Prelude.{◌≡◌, ℕ, zero, suc, ◌+◌, Bool, true, ◌&&◌, nat_lt, List, [], ◌∷◌, length, map, slice_get, Option, Some, None}
+use Rattle.std.specs.Prelude.{◌≡◌, ⊤, ℕ, zero, suc, ◌+◌, Bool, true, false, not, ◌&&◌, ◌||◌, nat_eq, nat_lt, List, [], ◌∷◌, length, map, filter, slice_get, Option, Some, None}
 use Rattle.std.specs.Prelude.{cond}
 use Rattle.std.specs.Str.{bytes_eq}
 use Rattle.std.specs.HashMap.{HashMap, get_by_text}
 use Rattle.std.specs.declared.string.String.{String}
+use Rattle.mc_model.specs.Id.{id_text}
 use Rattle.mc_keep.specs.declared.rows.ElementRow.{ElementRow}
 use Rattle.mc_keep_mem.specs.declared.elements.Node.{Node}
 
@@ -23,6 +24,22 @@ chain nodes zero at = []
 chain nodes (suc most) None = []
 chain nodes (suc most) (Some at) = elim (slice_get nodes at) [ None ↦ [] | Some node ↦ node ∷ chain nodes most node.before ]
 
+-- whether a node stands on the way from a place, at most so many steps from it
+abbrev pub is_on : List Node → ℕ → Option ℕ → ℕ → Bool
+is_on nodes zero at place = false
+is_on nodes (suc most) None place = false
+is_on nodes (suc most) (Some at) place = elim (slice_get nodes at) [ None ↦ false | Some node ↦ nat_eq at place || is_on nodes most node.before place ]
+
+-- the place to which the node at a place leads
+abbrev pub before_at : List Node → ℕ → Option ℕ
+before_at nodes place = elim (slice_get nodes place) [ None ↦ None | Some node ↦ node.before ]
+
+-- the node at a place leads to another one
+abbrev pub led_to : List Node → ℕ → Option ℕ → List Node
+led_to [] place before = []
+led_to (node ∷ nodes) zero before = record node { before = before } ∷ nodes
+led_to (node ∷ nodes) (suc place) before = node ∷ led_to nodes place before
+
 -- the row of a node of this key
 abbrev pub row_of_node : List ℕ → Node → ElementRow
 row_of_node key node = record { key = key; cid = node.cid; priority = node.priority; value = node.value }
@@ -31,10 +48,37 @@ row_of_node key node = record { key = key; cid = node.cid; priority = node.prior
 abbrev pub rows_in : {Y S : Type 0} → List Node → HashMap (String Y) ℕ S → List ℕ → List ElementRow
 rows_in nodes lasts key = map (row_of_node key) (chain nodes (length nodes) (get_by_text lasts key))
 
--- each node leads to one before it, and each key's last node is there
+-- whether a row is of a block whose id is none of the hidden ones
+abbrev pub is_live : (List ℕ → Bool) → ElementRow → Bool
+is_live hidden row = not (hidden (id_text row.cid.0))
+
+-- the rows of a key from a place on, and those of them that are live
+abbrev pub rows_from : List Node → List ℕ → Option ℕ → List ElementRow
+rows_from nodes key at = map (row_of_node key) (chain nodes (length nodes) at)
+
+abbrev pub live_from : (List ℕ → Bool) → List Node → List ℕ → Option ℕ → List ElementRow
+live_from hidden nodes key at = filter (is_live hidden) (rows_from nodes key at)
+
+-- each node leads to one before it, each key's last node is there, and no node is of two keys
 pub record AreChains {Y S : Type 0} (nodes : List Node) (lasts : HashMap (String Y) ℕ S) : Type 0 where
   pub back : lead_back 0 nodes ≡ true
   pub there : (key : List ℕ) → is_before (length nodes) (get_by_text lasts key) ≡ true
+  pub apart : (key other : List ℕ) (place : ℕ) → is_on nodes (length nodes) (get_by_text lasts key) place ≡ true → is_on nodes (length nodes) (get_by_text lasts other) place ≡ true → key ≡ other
+
+-- the node at the place is on the way of the key
+abbrev pub IsOf : {Y S : Type 0} → List Node → HashMap (String Y) ℕ S → List ℕ → ℕ → Type 0
+IsOf nodes lasts key place = is_on nodes (length nodes) (get_by_text lasts key) place ≡ true
+
+-- where there is a node, it is on the way of the key, and its row is live
+abbrev pub IsLiveAt : {Y S : Type 0} → (List ℕ → Bool) → List Node → HashMap (String Y) ℕ S → List ℕ → Option ℕ → Type 0
+IsLiveAt hidden nodes lasts key None = ⊤
+IsLiveAt hidden nodes lasts key (Some place) =
+    IsOf nodes lasts key place × (elim (slice_get nodes place) [ None ↦ false | Some node ↦ is_live hidden (row_of_node key node) ] ≡ true)
+
+-- nodes whose rows are hidden may have been passed over, and nothing else
+pub record Pruned {Y S : Type 0} (hidden : List ℕ → List ℕ → Bool) (old new : List Node) (lasts : HashMap (String Y) ℕ S) : Type 0 where
+  pub len : length new ≡ length old
+  pub live : (key : List ℕ) → filter (is_live (hidden key)) (rows_in new lasts key) ≡ filter (is_live (hidden key)) (rows_in old lasts key)
 
 -- the rows of a key with one more row
 abbrev pub with_element : List ℕ → List ElementRow → ElementRow → List ElementRow

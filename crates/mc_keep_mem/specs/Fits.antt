@@ -1,7 +1,7 @@
 -- The tables are those of the processed blocks; room in them; and what a commit makes of them.
-use Rattle.std.specs.Prelude.{◌≡◌, ◌≤◌, ◌+◌, ℕ, Bool, true, false, List, [], ◌++◌, fold, unwrap_or, vec_len, vec_capacity}
+use Rattle.std.specs.Prelude.{◌≡◌, ◌≤◌, ◌+◌, ℕ, Bool, true, false, List, ◌++◌, filter, fold, unwrap_or, vec_len, vec_capacity}
 use Rattle.std.specs.List.{list_any, list_all}
-use Rattle.std.specs.HashMap.{spare as map_spare, get}
+use Rattle.std.specs.HashMap.{spare as map_spare, get, get_by_text}
 use Rattle.std.specs.HashSet.{spare as set_spare}
 use Rattle.std.specs.declared.hash.BuildHasher as build
 use Rattle.std.specs.declared.hash.Hasher as hash
@@ -9,14 +9,15 @@ use Rattle.mc_base.specs.declared.cid.Cid.{Cid}
 use Rattle.mc_model.specs.declared.block.Stored.{Stored}
 use Rattle.mc_model.specs.Ascending.{is_once}
 use Rattle.mc_model.specs.SameMembers.{SameMembers}
-use Rattle.mc_model.specs.Front.{same_cid, is_among, is_linked, is_gap, head_at}
+use Rattle.mc_model.specs.Front.{same_cid, is_among, is_gap, head_at}
 use Rattle.mc_model.specs.Live.{has_tomb, value_row}
 use Rattle.mc_model.specs.Kept.{Kept, IsKept, processed, is_stored, cids_of}
 use Rattle.mc_keep.specs.declared.changes.Changes.{Changes}
 use Rattle.mc_keep.specs.Changes.{head_after, values_after}
-use Rattle.mc_keep.specs.Tables.{element_rows_of, is_named}
+use Rattle.mc_keep.specs.Live.{live_element_rows}
+use Rattle.mc_keep.specs.Tables.{is_named}
 use Rattle.mc_keep_mem.specs.declared.tables.Tables.{Tables}
-use Rattle.mc_keep_mem.specs.Chains.{rows_in, with_element}
+use Rattle.mc_keep_mem.specs.Chains.{is_live, rows_in, with_element}
 use Rattle.mc_keep_mem.specs.Front.{are_fresh, closed_by, opened_by}
 use Rattle.mc_keep_mem.specs.Graph.{graph_of}
 use Rattle.mc_keep_mem.specs.Holder.{AreBacked}
@@ -33,12 +34,11 @@ tomb_in tables key id = has_tomb_in tables.tombs.keys.keys tables.tombs.ids.keys
 -- the tables are exactly those of what they stand for
 pub record Fits {S X : Type 0} {g : build.Ghosts S X} {h : hash.Ghosts X} (tables : Tables S X g h) : Type 0 where
   pub kept : IsKept (kept_in tables)
-  pub elements : (key : List ℕ) → SameMembers (rows_in tables.elements.nodes.items tables.elements.lasts key) (element_rows_of (processed (kept_in tables)) key)
+  pub elements : (key : List ℕ) → SameMembers (filter (is_live (tomb_in tables key)) (rows_in tables.elements.nodes.items tables.elements.lasts key)) (live_element_rows (processed (kept_in tables)) key)
   pub tombs : (key id : List ℕ) → tomb_in tables key id ≡ has_tomb (processed (kept_in tables)) key id
   pub values : (key : List ℕ) → row_in tables.values.rows key ≡ value_row (processed (kept_in tables)) key
   pub covered : IsCovered tables.values.rows tables.values.ordered tables.values.pending.items
-  pub backed : AreBacked tables.elements.nodes.items tables.elements.lasts tables.values.rows
-  pub links : (cid : Cid) → is_among tables.links.keys cid ≡ is_linked (processed (kept_in tables)) cid
+  pub backed : AreBacked (tomb_in tables) tables.elements.nodes.items tables.elements.lasts tables.values.rows
   pub gaps : (cid : Cid) → is_among tables.gaps.keys cid ≡ is_gap (processed (kept_in tables)) cid
   pub heads : (cid : Cid) → get same_cid tables.heads cid ≡ head_at (processed (kept_in tables)) cid
 
@@ -46,7 +46,6 @@ pub record Fits {S X : Type 0} {g : build.Ghosts S X} {h : hash.Ghosts X} (table
 pub record RoomFor {S X : Type 0} {g : build.Ghosts S X} {h : hash.Ghosts X} (tables : Tables S X g h) (rows : ℕ) : Type 0 where
   pub blocks : rows ≤ map_spare tables.blocks
   pub order : rows ≤ set_spare tables.order
-  pub links : rows ≤ set_spare tables.links
   pub gaps : rows ≤ set_spare tables.gaps
   pub heads : rows ≤ map_spare tables.heads
   pub nodes : vec_len tables.elements.nodes + rows ≤ vec_capacity tables.elements.nodes
@@ -64,37 +63,33 @@ pub record ChangesMeet {S X : Type 0} {g : build.Ghosts S X} {h : hash.Ghosts X}
   pub fresh : are_fresh tables.order.keys changes.marks ≡ true
   pub named : list_all is_named changes.values ≡ true
   pub covered : IsCovered tables.values.rows tables.values.ordered tables.values.pending.items
-  pub backed : AreBacked tables.elements.nodes.items tables.elements.lasts tables.values.rows
 
 pub record Applied {S X : Type 0} {g : build.Ghosts S X} {h : hash.Ghosts X} (old new : Tables S X g h) (changes : Changes) : Type 0 where
   pub graph : graph_of new.blocks ≡ graph_of old.blocks ++ changes.store
   pub order : new.order.keys ≡ old.order.keys ++ changes.marks
   pub mark : new.mark ≡ unwrap_or changes.mark old.mark
-  pub links : (cid : Cid) → is_among new.links.keys cid ≡ fold (opened_by [] cid) (is_among old.links.keys cid) changes.links
   pub gaps : (cid : Cid) → is_among new.gaps.keys cid ≡ fold (opened_by new.order.keys cid) (fold (closed_by cid) (is_among old.gaps.keys cid) changes.marks) changes.links
   pub heads : (cid : Cid) → get same_cid new.heads cid ≡ head_after cid (get same_cid old.heads cid) changes.heads_out changes.heads_in
   pub elements : (key : List ℕ) → rows_in new.elements.nodes.items new.elements.lasts key ≡ fold (with_element key) (rows_in old.elements.nodes.items old.elements.lasts key) changes.elements
   pub tombs : (key id : List ℕ) → tomb_in new key id ≡ fold (with_tomb key id) (tomb_in old key id) changes.tombs
   pub values : (key : List ℕ) → row_in new.values.rows key ≡ values_after key (row_in old.values.rows key) changes.values
   pub covered : IsCovered new.values.rows new.values.ordered new.values.pending.items
-  pub backed : AreBacked new.elements.nodes.items new.elements.lasts new.values.rows
+  pub backed : (hidden : List ℕ → List ℕ → Bool) → AreBacked hidden new.elements.nodes.items new.elements.lasts old.values.rows → AreBacked hidden new.elements.nodes.items new.elements.lasts new.values.rows
 
 -- the rows are the same, and there is no less room
 pub record Reserved {S X : Type 0} {g : build.Ghosts S X} {h : hash.Ghosts X} (old new : Tables S X g h) : Type 0 where
   pub graph : graph_of new.blocks ≡ graph_of old.blocks
   pub order : new.order.keys ≡ old.order.keys
   pub mark : new.mark ≡ old.mark
-  pub links : new.links.keys ≡ old.links.keys
   pub gaps : new.gaps.keys ≡ old.gaps.keys
   pub heads : new.heads.entries ≡ old.heads.entries
   pub elements : (key : List ℕ) → rows_in new.elements.nodes.items new.elements.lasts key ≡ rows_in old.elements.nodes.items old.elements.lasts key
   pub tombs : (key id : List ℕ) → tomb_in new key id ≡ tomb_in old key id
   pub values : (key : List ℕ) → row_in new.values.rows key ≡ row_in old.values.rows key
   pub covered : IsCovered new.values.rows new.values.ordered new.values.pending.items
-  pub backed : AreBacked new.elements.nodes.items new.elements.lasts new.values.rows
+  pub held : (key : List ℕ) → get_by_text new.values.rows key ≡ get_by_text old.values.rows key
   pub blocks_room : map_spare old.blocks ≤ map_spare new.blocks
   pub order_room : set_spare old.order ≤ set_spare new.order
-  pub links_room : set_spare old.links ≤ set_spare new.links
   pub gaps_room : set_spare old.gaps ≤ set_spare new.gaps
   pub heads_room : map_spare old.heads ≤ map_spare new.heads
   pub nodes_len : vec_len new.elements.nodes ≡ vec_len old.elements.nodes

@@ -1,5 +1,5 @@
 -- The block of a value among the rows of its key.
-use Rattle.std.specs.Prelude.{◌≡◌, ℕ, Bool, true, not, ◌&&◌, List, find, Option, Some, None}
+use Rattle.std.specs.Prelude.{◌≡◌, ℕ, Bool, true, not, ◌&&◌, ◌||◌, List, find, Option, Some, None}
 use Rattle.std.specs.HashMap.{HashMap, get_by_text}
 use Rattle.std.specs.List.{list_any}
 use Rattle.std.specs.Option.{option_map}
@@ -25,15 +25,15 @@ holder_among hidden ranked rows = option_map (λ (row : ElementRow). row.cid) (f
 abbrev pub block_among : Ranked → List ElementRow → Option Cid
 block_among ranked rows = option_map (λ (row : ElementRow). row.cid) (find (λ (row : ElementRow). same_ranked ranked (ranked_of row)) rows)
 
--- whether a block, where one is named, has the value with the priority among these rows
-abbrev pub stands_for : List ElementRow → Ranked → Option Cid → Bool
-stands_for rows ranked None = true
-stands_for rows ranked (Some cid) = list_any (is_row_of cid ranked) rows
+-- whether a block, where one is named, is hidden or has the value with the priority among these rows
+abbrev pub stands_for : (List ℕ → Bool) → List ElementRow → Ranked → Option Cid → Bool
+stands_for hidden rows ranked None = true
+stands_for hidden rows ranked (Some cid) = hidden (id_text cid.0) || list_any (is_row_of cid ranked) rows
 
-abbrev pub is_backed : List ElementRow → Option Held → Bool
-is_backed rows None = true
-is_backed rows (Some held) = stands_for rows (held.priority, held.value) held.holder
+abbrev pub is_backed : (List ℕ → Bool) → List ElementRow → Option Held → Bool
+is_backed hidden rows None = true
+is_backed hidden rows (Some held) = stands_for hidden rows (held.priority, held.value) held.holder
 
--- the block that is named beside a value has it
-pub record AreBacked {Y Z S T : Type 0} (nodes : List Node) (lasts : HashMap (String Y) ℕ S) (rows : HashMap (String Z) Held T) : Type 0 where
-  pub each : (key : List ℕ) → is_backed (rows_in nodes lasts key) (get_by_text rows key) ≡ true
+-- the block that is named beside a value has it, unless it is hidden
+pub record AreBacked {Y Z S T : Type 0} (hidden : List ℕ → List ℕ → Bool) (nodes : List Node) (lasts : HashMap (String Y) ℕ S) (rows : HashMap (String Z) Held T) : Type 0 where
+  pub each : (key : List ℕ) → is_backed (hidden key) (rows_in nodes lasts key) (get_by_text rows key) ≡ true

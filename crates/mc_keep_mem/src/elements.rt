@@ -1,14 +1,12 @@
 // The table of element rows, with room for the next commits: the rows of a key are a chain from its last row to its first.
-ghost use Rattle.std.specs.Prelude.{◌≡◌, ℕ, ◌<◌, ◌≤◌, ◌+◌, ◌++◌, ◌∷◌, [], length, map, fold, vec_len, vec_capacity, slice_get, IfOk, OnOk, cond, true, Option, Some, None};
+ghost use Rattle.std.specs.Prelude.{◌≡◌, ℕ, ◌<◌, ◌≤◌, ◌+◌, ◌++◌, ◌∷◌, [], length, fold, vec_len, vec_capacity, IfOk, OnOk, cond, true, Option, Some, None};
 ghost use Rattle.std.specs.Prelude as prelude;
 ghost use Rattle.std.specs.HashMap.{spare, get_by_text};
 ghost use Rattle.std.specs.Str.{bytes_eq};
-ghost use Rattle.mc_model.specs.Ascending.{Ascends};
-ghost use Rattle.mc_keep.specs.ElementOrder.{element_cmp};
-ghost use Rattle.mc_keep_mem.specs.Chains.{AreChains, rows_in, row_of_node, chain, is_before, with_element};
+ghost use Rattle.mc_keep_mem.specs.Chains.{AreChains, rows_in, row_of_node, with_element};
 
-use mc_base::{Bytes, Cid, List, Text};
-use mc_keep::{ElementRow, ties_are_equal};
+use mc_base::{Bytes, Cid, Text};
+use mc_keep::ElementRow;
 use std::alloc::{AllocError, Global};
 use std::collections::HashMap;
 use std::hash::BuildHasher;
@@ -79,42 +77,8 @@ fn set_last<S: BuildHasher>(
     }
 }
 
-/// The rows of a key, ascending.
-pub(crate) fn elements_of<S: BuildHasher + Drop>(
-    alloc: Global,
-    elements: &Elements<S>,
-    key: &str,
-) -> Result<List<ElementRow>, AllocError>
-    ensures { IfOk result (λ rows. Ascends element_cmp rows (rows_in elements.now.nodes.items elements.now.lasts key.now)) }
-{
-    ties_are_equal();
-    let mut rows = walk(alloc, elements, key)?;
-    rows.sort_unstable();
-    rows.dedup();
-    Ok(List::from_vec(rows))
-}
-
-// The rows of a key, from the last to the first.
-fn walk<S: BuildHasher + Drop>(
-    alloc: Global,
-    elements: &Elements<S>,
-    key: &str,
-) -> Result<Vec<ElementRow>, AllocError>
-    ensures { IfOk result (λ rows. rows.items ≡ rows_in elements.now.nodes.items elements.now.lasts key.now) }
-{
-    let mut rows = Vec::new(alloc);
-    let mut at = elements.lasts.get(key).copied();
-    while let Some(place) = at {
-        let Some(node) = elements.nodes.get(place) else {
-            return Ok(rows);
-        };
-        rows.push(row_of(alloc, key, node)?)?;
-        at = node.before;
-    }
-    Ok(rows)
-}
-
-fn row_of(alloc: Global, key: &str, node: &Node) -> Result<ElementRow, AllocError>
+/// The row of a node of this key.
+pub(crate) fn row_of(alloc: Global, key: &str, node: &Node) -> Result<ElementRow, AllocError>
     ensures { IfOk result (λ row. row ≡ row_of_node key.now node.now) }
 {
     Ok(ElementRow {

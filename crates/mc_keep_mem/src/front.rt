@@ -1,5 +1,5 @@
-// The order of the processed blocks, the link table and the gaps, as a commit changes them.
-ghost use Rattle.std.specs.Prelude.{◌≡◌, ◌≤◌, ◌<◌, ◌+◌, ◌++◌, ◌&&◌, ◌||◌, not, true, [], length, fold};
+// The order of the processed blocks and the gaps, as a commit changes them.
+ghost use Rattle.std.specs.Prelude.{◌≡◌, ◌≤◌, ◌<◌, ◌+◌, ◌++◌, ◌&&◌, ◌||◌, not, true, length, fold};
 ghost use Rattle.indexmap.specs.IndexSet.{spare, insert_key};
 ghost use Rattle.mc_base.specs.declared.cid.Cid.{Cid};
 ghost use Rattle.mc_model.specs.Front.{same_cid, is_among};
@@ -41,22 +41,13 @@ fn drop_cids(gaps: &mut IndexSet<Cid>, cids: &[Cid])
     }
 }
 
-// Adds new links, and those of them that are not processed to the gaps.
-pub(crate) fn put_links(
-    links: &mut IndexSet<Cid>,
-    gaps: &mut IndexSet<Cid>,
-    order: &IndexSet<Cid>,
-    new: &[Cid],
-)
-    requires links_room { length new.now ≤ spare links.old }
-    requires gaps_room { length new.now ≤ spare gaps.old }
-    ensures links { (cid : Cid) → is_among links.new.keys cid ≡ fold (opened_by [] cid) (is_among links.old.keys cid) new.now }
-    ensures gaps { (cid : Cid) → is_among gaps.new.keys cid ≡ fold (opened_by order.now.keys cid) (is_among gaps.old.keys cid) new.now }
-    ensures links_spare { spare links.old ≤ spare links.new + length new.now }
-    ensures gaps_spare { spare gaps.old ≤ spare gaps.new + length new.now }
+// Adds those of the new links that are not processed to the gaps.
+pub(crate) fn put_gaps(gaps: &mut IndexSet<Cid>, order: &IndexSet<Cid>, links: &[Cid])
+    requires room { length links.now ≤ spare gaps.old }
+    ensures gaps { (cid : Cid) → is_among gaps.new.keys cid ≡ fold (opened_by order.now.keys cid) (is_among gaps.old.keys cid) links.now }
+    ensures spare { spare gaps.old ≤ spare gaps.new + length links.now }
 {
-    for link in new {
-        put_cid(links, *link);
+    for link in links {
         put_gap(gaps, order, link);
     }
 }

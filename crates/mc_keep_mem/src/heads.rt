@@ -1,5 +1,5 @@
 // The table of heads, with room for the next commits.
-ghost use Rattle.std.specs.Prelude.{◌≡◌, ◌≤◌, ◌<◌, ◌+◌, IfOk, OnOk, length, fold};
+ghost use Rattle.std.specs.Prelude.{◌≡◌, ◌≤◌, ◌<◌, ◌+◌, IfOk, OnOk, is_some, length, fold};
 ghost use Rattle.std.specs.List.{IsDistinct};
 ghost use Rattle.indexmap.specs.IndexMap.{keys, spare, get};
 ghost use Rattle.mc_base.specs.declared.cid.Cid.{Cid};
@@ -46,6 +46,12 @@ fn put_head(heads: &mut IndexMap<Cid, u64>, row: HeadRow)
     ensures spare { spare heads.old ≤ spare heads.new + 1 }
 {
     let _height = heads.insert(row.cid, row.height);
+}
+
+pub(crate) fn has_head(heads: &IndexMap<Cid, u64>, cid: &Cid) -> bool
+    ensures { result ≡ is_some (get same_cid heads.now cid.now) }
+{
+    heads.contains_key(cid)
 }
 
 pub(crate) fn reserve_heads(heads: &mut IndexMap<Cid, u64>, rows: usize) -> Result<(), AllocError>

@@ -151,11 +151,11 @@ impl<S: BuildHasher + Drop> Keeper for MemKeeper<S> {
         Ok(self.store.heads(alloc)?)
     }
 
-    fn elements(&mut self, alloc: Global, key: &str) -> Result<List<ElementRow>, KeepError> {
+    fn live_elements(&mut self, alloc: Global, key: &str) -> Result<List<ElementRow>, KeepError> {
         if self.faults.read_fails() {
             return Err(KeepError::Failed);
         }
-        Ok(self.store.elements(alloc, key)?)
+        Ok(self.store.live_elements(alloc, key)?)
     }
 
     fn hidden(&mut self, key: &str, id: &str) -> Result<bool, Failed> {

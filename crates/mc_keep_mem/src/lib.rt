@@ -9,6 +9,7 @@ mod heads;
 mod holder;
 mod keeper;
 mod keepers;
+mod live;
 mod next;
 mod plan;
 mod store;

@@ -6,17 +6,18 @@ ghost use Rattle.mc_model.specs.Front.{same_cid, is_linked, heads};
 ghost use Rattle.mc_model.specs.Live.{has_tomb, value_row};
 ghost use Rattle.mc_model.specs.Kept.{processed, bytes_at, is_stored, nothing_kept};
 ghost use Rattle.mc_keep.specs.Changes.{row_count, changed, heads_in_rows};
-ghost use Rattle.mc_keep.specs.Live.{IsHolder};
+ghost use Rattle.mc_keep.specs.Live.{IsHolder, live_element_rows};
 ghost use Rattle.mc_keep.specs.Next.{IsNext};
 ghost use Rattle.mc_keep.specs.ElementOrder.{element_cmp};
-ghost use Rattle.mc_keep.specs.Tables.{ChangesFit, IsSummary, IsSmall, IsValueRow, element_rows_of};
+ghost use Rattle.mc_keep.specs.Tables.{ChangesFit, IsSummary, IsSmall, IsValueRow};
 ghost use Rattle.mc_keep_mem.specs.Fits.{Fits, RoomFor, kept_in};
 
 use crate::cids::{cid_at, has_cid, position_of};
-use crate::elements::{Elements, elements_of};
+use crate::elements::Elements;
 use crate::graph::{block_bytes, has_block};
-use crate::heads::head_rows;
+use crate::heads::{has_head, head_rows};
 use crate::holder::holder_of;
+use crate::live::live_elements_of;
 use crate::next::next_row;
 use crate::tables::{Tables, commit_tables, reserve_tables};
 use crate::tombs::{Tombs, has_tomb as has_tomb_row};
@@ -49,7 +50,6 @@ impl<S: BuildHasher + Copy + Drop> Store<S> {
                 blocks: IndexMap::new(alloc),
                 order: IndexSet::new(alloc),
                 mark: false,
-                links: IndexSet::new(alloc),
                 gaps: IndexSet::new(alloc),
                 heads: IndexMap::new(alloc),
                 elements: Elements {
@@ -111,10 +111,14 @@ impl<S: BuildHasher + Drop> Store<S> {
         cid_at(&self.tables.order, position as usize)
     }
 
+    // A processed block is linked unless it is a head, and another one where it is a gap.
     pub(crate) fn linked(&self, cid: &Cid) -> bool
         ensures { result ≡ is_linked (processed (kept_in self.now.tables)) cid.now }
     {
-        has_cid(&self.tables.links, cid)
+        if has_cid(&self.tables.order, cid) {
+            return !has_head(&self.tables.heads, cid);
+        }
+        has_cid(&self.tables.gaps, cid)
     }
 
     pub(crate) fn heads(&self, alloc: Global) -> Result<List<HeadRow>, AllocError>
@@ -123,10 +127,18 @@ impl<S: BuildHasher + Drop> Store<S> {
         head_rows(alloc, &self.tables.heads)
     }
 
-    pub(crate) fn elements(&self, alloc: Global, key: &str) -> Result<List<ElementRow>, AllocError>
-        ensures { IfOk result (λ rows. Ascends element_cmp rows (element_rows_of (processed (kept_in self.now.tables)) key.now)) }
+    // Passes over rows that are hidden, so the tables change, and nothing that they tell.
+    pub(crate) fn live_elements(
+        &mut self,
+        alloc: Global,
+        key: &str,
+    ) -> Result<List<ElementRow>, AllocError>
+        ensures rows { IfOk result (λ rows.
+            Ascends element_cmp rows (live_element_rows (processed (kept_in self.old.tables)) key.now)) }
+        ensures kept { kept_in self.new.tables ≡ kept_in self.old.tables }
+        ensures room { self.new.room ≡ self.old.room }
     {
-        elements_of(alloc, &self.tables.elements, key)
+        live_elements_of(alloc, &mut self.tables.elements, &self.tables.tombs, key)
     }
 
     pub(crate) fn hidden(&self, key: &str, id: &str) -> bool

@@ -1,13 +1,12 @@
 // All tables of a keeper, and a commit on them that takes no memory.
 ghost use Rattle.std.specs.Prelude.{◌≡◌, ◌≤◌, ◌+◌, ◌-◌, IfSome, OnOk};
 ghost use Rattle.mc_keep.specs.Changes.{row_count};
-ghost use Rattle.mc_keep_mem.specs.Holder.{AreBacked};
 ghost use Rattle.mc_keep_mem.specs.Values.{IsCovered};
 ghost use Rattle.mc_keep_mem.specs.Fits.{RoomFor, Applied, ChangesMeet, Reserved};
 
 use crate::cids::reserve_cids;
 use crate::elements::{Elements, put_elements, reserve_elements};
-use crate::front::{put_links, put_marks};
+use crate::front::{put_gaps, put_marks};
 use crate::graph::{put_blocks, reserve_blocks};
 use crate::heads::{drop_heads, put_heads, reserve_heads};
 use crate::tombs::{Tombs, put_tombs, reserve_tombs};
@@ -18,14 +17,12 @@ use mc_keep::Changes;
 use std::alloc::AllocError;
 use std::hash::BuildHasher;
 
-/// The tables: the stored blocks, the order of the processed ones, their links, gaps and heads, and the rows that they
-/// make.
+/// The tables: the stored blocks, the order of the processed ones, their gaps and heads, and the rows that they make.
 #[derive(Drop)]
 pub(crate) struct Tables<S: BuildHasher + Drop> {
     pub(crate) blocks: IndexMap<Cid, Bytes>,
     pub(crate) order: IndexSet<Cid>,
     pub(crate) mark: bool,
-    pub(crate) links: IndexSet<Cid>,
     pub(crate) gaps: IndexSet<Cid>,
     pub(crate) heads: IndexMap<Cid, u64>,
     pub(crate) elements: Elements<S>,
@@ -71,12 +68,7 @@ fn apply<S: BuildHasher + Drop>(tables: &mut Tables<S>, changes: Changes, room: 
     } = changes;
     put_blocks(&mut tables.blocks, store.into_vec());
     put_marks(&mut tables.order, &mut tables.gaps, marks.as_slice());
-    put_links(
-        &mut tables.links,
-        &mut tables.gaps,
-        &tables.order,
-        links.as_slice(),
-    );
+    put_gaps(&mut tables.gaps, &tables.order, links.as_slice());
     drop_heads(&mut tables.heads, heads_out.as_slice());
     put_heads(&mut tables.heads, heads_in.as_slice());
     put_elements(&mut tables.elements, elements.into_vec());
@@ -93,13 +85,11 @@ pub(crate) fn reserve_tables<S: BuildHasher + Drop>(
     rows: usize,
 ) -> Result<(), AllocError>
     requires covered { IsCovered tables.old.values.rows tables.old.values.ordered tables.old.values.pending.items }
-    requires backed { AreBacked tables.old.elements.nodes.items tables.old.elements.lasts tables.old.values.rows }
     ensures ok { OnOk result (RoomFor tables.new rows) }
     ensures reserved { Reserved tables.old tables.new }
 {
     reserve_blocks(&mut tables.blocks, rows)?;
     reserve_cids(&mut tables.order, rows)?;
-    reserve_cids(&mut tables.links, rows)?;
     reserve_cids(&mut tables.gaps, rows)?;
     reserve_heads(&mut tables.heads, rows)?;
     reserve_elements(&mut tables.elements, rows)?;

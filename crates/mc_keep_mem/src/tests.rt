@@ -1,14 +1,19 @@
 // Tests of the tables, and of keepers without commits: those stand in the crate that makes the rows of a commit.
-use crate::elements::{Elements, elements_of, put_element, reserve_elements};
+use crate::elements::{Elements, put_element, reserve_elements};
+use crate::live::live_elements_of;
 use crate::tombs::{Tombs, has_tomb, put_tomb, reserve_tombs};
 use crate::{FaultPlan, MemKeeper, MemKeepers};
 use indexmap::IndexSet;
 use mc_base::{Bytes, Cid, Counted, List, Text};
 use mc_keep::{ElementRow, KeepError, Keeper, KeeperPlan, Keepers, TombRow};
+use mc_model::id_of;
 use std::alloc::{AllocError, Global};
 use std::collections::{HashMap, HashSet};
+use std::hash::{BuildHasherDefault, FoldHasher};
 use std::sync::Wait;
 use std::test::Fail;
+
+type FoldState = BuildHasherDefault<FoldHasher>;
 
 const CID: Cid = Cid([7; 32]);
 
@@ -16,28 +21,135 @@ fn text(alloc: Global, text: &str) -> Result<Text, Fail> {
     Ok(Text::from_text(alloc, text)?)
 }
 
-#[test]
-fn rows_of_a_key(rt: HostRuntime) -> Result<(), Fail> {
-    let alloc = rt.alloc();
+// The rows of some keys and digests, in this order.
+fn rows_of(alloc: Global, rows: &[(&str, u8)]) -> Result<Elements<FoldState>, Fail> {
     let mut elements = Elements {
         nodes: Vec::new(alloc),
         lasts: HashMap::new(alloc),
     };
-    for (key, digest) in [("/a", 2), ("/b", 3), ("/a", 1)] {
-        reserve_elements(&mut elements, 1)?;
+    put_rows(alloc, &mut elements, rows)?;
+    Ok(elements)
+}
+
+fn put_rows(
+    alloc: Global,
+    elements: &mut Elements<FoldState>,
+    rows: &[(&str, u8)],
+) -> Result<(), Fail> {
+    for (key, digest) in rows {
+        reserve_elements(elements, 1)?;
         put_element(
-            &mut elements,
+            elements,
             ElementRow {
                 key: text(alloc, key)?,
-                cid: Cid([digest; 32]),
+                cid: Cid([*digest; 32]),
                 priority: 7,
                 value: Bytes::new(alloc),
             },
         );
     }
-    let rows = elements_of(alloc, &elements, "/a")?;
-    assert_eq!(rt; rows.len(), 2);
-    assert_eq!(rt; rows.as_slice()[0].cid, Cid([1; 32]));
+    Ok(())
+}
+
+// The tombstones of a key for the blocks with these digests.
+fn tombs_of(alloc: Global, key: &str, digests: &[u8]) -> Result<Tombs<FoldState>, Fail> {
+    let mut tombs = Tombs {
+        keys: IndexSet::new(alloc),
+        ids: IndexSet::new(alloc),
+        pairs: HashSet::new(alloc),
+    };
+    put_tombs_of(alloc, &mut tombs, key, digests)?;
+    Ok(tombs)
+}
+
+fn put_tombs_of(
+    alloc: Global,
+    tombs: &mut Tombs<FoldState>,
+    key: &str,
+    digests: &[u8],
+) -> Result<(), Fail> {
+    for digest in digests {
+        reserve_tombs(tombs, 1)?;
+        put_tomb(
+            tombs,
+            TombRow {
+                key: text(alloc, key)?,
+                id: id_of(alloc, &Cid([*digest; 32]))?,
+            },
+        );
+    }
+    Ok(())
+}
+
+// Whether the live rows of a key have these digests.
+fn are_live(
+    alloc: Global,
+    elements: &mut Elements<FoldState>,
+    tombs: &Tombs<FoldState>,
+    key: &str,
+    digests: &[u8],
+) -> Result<bool, AllocError> {
+    let rows = live_elements_of(alloc, elements, tombs, key)?;
+    if rows.len() != digests.len() {
+        return Ok(false);
+    }
+    for (row, digest) in rows.as_slice().iter().zip(digests) {
+        if row.cid != Cid([*digest; 32]) || row.key.as_str() != key {
+            return Ok(false);
+        }
+    }
+    Ok(true)
+}
+
+// Whether the rows of a key that are hidden are left out, at each reading, and no other row of the key or of another one.
+fn hidden_are_left_out(
+    alloc: Global,
+    rows: &[(&str, u8)],
+    hidden: &[u8],
+    live: &[u8],
+) -> Result<bool, Fail> {
+    let tombs = tombs_of(alloc, "/a", hidden)?;
+    let mut elements = rows_of(alloc, rows)?;
+    Ok(are_left_out(alloc, &mut elements, &tombs, live)?)
+}
+
+fn are_left_out(
+    alloc: Global,
+    elements: &mut Elements<FoldState>,
+    tombs: &Tombs<FoldState>,
+    live: &[u8],
+) -> Result<bool, AllocError> {
+    Ok(
+        are_live(alloc, elements, tombs, "/b", &[2, 3])?
+            && are_live(alloc, elements, tombs, "/a", live)?
+            && are_live(alloc, elements, tombs, "/b", &[2, 3])?
+            && are_live(alloc, elements, tombs, "/a", live)?,
+    )
+}
+
+#[test]
+fn live_rows_of_a_key(rt: HostRuntime) -> Result<(), Fail> {
+    let alloc = rt.alloc();
+    let rows = [
+        ("/b", 2),
+        ("/a", 5),
+        ("/a", 2),
+        ("/b", 3),
+        ("/a", 3),
+        ("/a", 1),
+    ];
+    // the hidden blocks, and the live ones
+    let cases: [(&[u8], &[u8]); 6] = [
+        (&[], &[1, 2, 3, 5]),
+        (&[1], &[2, 3, 5]),
+        (&[5], &[1, 2, 3]),
+        (&[2, 3], &[1, 5]),
+        (&[1, 3, 5], &[2]),
+        (&[1, 2, 3, 5], &[]),
+    ];
+    for (hidden, live) in cases {
+        assert!(rt; hidden_are_left_out(alloc, &rows, hidden, live)?);
+    }
     Ok(())
 }
 
@@ -100,7 +212,7 @@ fn has_no_row<K: Keeper>(keeper: &mut K, alloc: Global) -> Result<bool, KeepErro
     Ok(
         !keeper.linked(&CID)?
             && keeper.heads(alloc)?.as_slice().is_empty()
-            && keeper.elements(alloc, "/a")?.as_slice().is_empty()
+            && keeper.live_elements(alloc, "/a")?.as_slice().is_empty()
             && !keeper.hidden("/a", "/X")?,
     )
 }
@@ -155,7 +267,7 @@ fn failing_read<K: Keeper>(keeper: &mut K, alloc: Global) -> usize {
         keeper.at(0).is_err(),
         keeper.linked(&CID).is_err(),
         keeper.heads(alloc).is_err(),
-        keeper.elements(alloc, "/a").is_err(),
+        keeper.live_elements(alloc, "/a").is_err(),
         keeper.hidden("/a", "/X").is_err(),
         keeper.value(alloc, "/a").is_err(),
         keeper.has("/a").is_err(),

@@ -1,6 +1,6 @@
 // The table of tombstones, with room for the next commits. A map whose key is a pair of texts can't be asked by two
 // borrowed texts, so the keys and the ids are numbered, and a tombstone is a pair of numbers.
-ghost use Rattle.std.specs.Prelude.{◌≡◌, ℕ, ◌<◌, ◌≤◌, ◌+◌, ◌||◌, true, List, length, fold, OnOk};
+ghost use Rattle.std.specs.Prelude.{◌≡◌, ℕ, ◌<◌, ◌≤◌, ◌+◌, ◌||◌, true, false, List, length, fold, OnOk};
 ghost use Rattle.std.specs.List.{list_any};
 ghost use Rattle.std.specs.HashSet.{spare};
 ghost use Rattle.indexmap.specs.IndexSet.{insert_key};
@@ -24,6 +24,17 @@ pub(crate) struct Tombs<S: BuildHasher + Drop> {
     pub(crate) ids: IndexSet<String, S>,
     pub(crate) pairs: HashSet<(usize, usize)>,
     ghost numbers: { AreNumbers keys.keys ids.keys pairs.keys },
+}
+
+/// Whether a tombstone of the key may be there. It takes no memory.
+pub(crate) fn has_key<S: BuildHasher + Drop>(tombs: &Tombs<S>, key: &str) -> bool
+    ensures { result ≡ false → (id : List ℕ) →
+        has_tomb_in tombs.now.keys.keys tombs.now.ids.keys tombs.now.pairs.keys key.now id ≡ false }
+{
+    match tombs.keys.get_index_of(key) {
+        Some(_) => true,
+        None => false,
+    }
 }
 
 /// Whether the tombstone is there. It takes no memory.

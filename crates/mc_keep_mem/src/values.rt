@@ -1,6 +1,6 @@
 // The table of value rows, and its keys in order: a hash table with room for the next commits, the keys that were put
 // into order, and those that wait to be.
-ghost use Rattle.std.specs.Prelude.{◌≡◌, ℕ, ◌<◌, ◌≤◌, ◌+◌, ◌++◌, ◌∷◌, [], true, List, length, vec_len, vec_capacity, IfOk, OnOk, IfSome, IfNone, is_some, fold, cond, not, Some, None};
+ghost use Rattle.std.specs.Prelude.{◌≡◌, ℕ, ◌<◌, ◌≤◌, ◌+◌, ◌++◌, ◌∷◌, [], Bool, true, List, length, vec_len, vec_capacity, IfOk, OnOk, IfSome, IfNone, is_some, fold, cond, not, Some, None};
 ghost use Rattle.std.specs.Str.{bytes_eq};
 ghost use Rattle.std.specs.List.{list_all};
 ghost use Rattle.std.specs.HashMap.{spare, get_by_text};
@@ -44,9 +44,10 @@ pub(crate) fn put_value<S: BuildHasher + Drop>(
     requires pending_room { vec_len values.old.pending < vec_capacity values.old.pending }
     requires named { is_named change ≡ true }
     requires covered { IsCovered values.old.rows values.old.ordered values.old.pending.items }
-    requires backed { AreBacked elements.now.nodes.items elements.now.lasts values.old.rows }
     ensures rows { (key : List ℕ) → row_in values.new.rows key ≡ value_after key (row_in values.old.rows key) change }
-    ensures backed { AreBacked elements.now.nodes.items elements.now.lasts values.new.rows }
+    ensures backed { (hidden : List ℕ → List ℕ → Bool) →
+        AreBacked hidden elements.now.nodes.items elements.now.lasts values.old.rows →
+        AreBacked hidden elements.now.nodes.items elements.now.lasts values.new.rows }
     ensures covered { IsCovered values.new.rows values.new.ordered values.new.pending.items }
     ensures rows_spare { spare values.old.rows ≤ spare values.new.rows + 1 }
     ensures pending_spare { vec_len values.new.pending ≤ vec_len values.old.pending + 1 }
@@ -70,8 +71,9 @@ fn set_row<S: BuildHasher + Drop>(
     requires pending_room { vec_len values.old.pending < vec_capacity values.old.pending }
     requires named { bytes_eq row.key key ≡ true }
     requires covered { IsCovered values.old.rows values.old.ordered values.old.pending.items }
-    requires backed { AreBacked elements.now.nodes.items elements.now.lasts values.old.rows }
-    ensures backed { AreBacked elements.now.nodes.items elements.now.lasts values.new.rows }
+    ensures backed { (hidden : List ℕ → List ℕ → Bool) →
+        AreBacked hidden elements.now.nodes.items elements.now.lasts values.old.rows →
+        AreBacked hidden elements.now.nodes.items elements.now.lasts values.new.rows }
     ensures rows { (other : List ℕ) → row_in values.new.rows other ≡ cond (bytes_eq key other) (Some (row.priority, row.value)) (row_in values.old.rows other) }
     ensures covered { IsCovered values.new.rows values.new.ordered values.new.pending.items }
     ensures rows_spare { spare values.old.rows ≤ spare values.new.rows + 1 }
@@ -127,8 +129,9 @@ pub(crate) fn put_values<S: BuildHasher + Drop>(
     requires pending_room { vec_len values.old.pending + length changes.items ≤ vec_capacity values.old.pending }
     requires named { list_all is_named changes.items ≡ true }
     requires covered { IsCovered values.old.rows values.old.ordered values.old.pending.items }
-    requires backed { AreBacked elements.now.nodes.items elements.now.lasts values.old.rows }
-    ensures backed { AreBacked elements.now.nodes.items elements.now.lasts values.new.rows }
+    ensures backed { (hidden : List ℕ → List ℕ → Bool) →
+        AreBacked hidden elements.now.nodes.items elements.now.lasts values.old.rows →
+        AreBacked hidden elements.now.nodes.items elements.now.lasts values.new.rows }
     ensures rows { (key : List ℕ) → row_in values.new.rows key ≡ values_after key (row_in values.old.rows key) changes.items }
     ensures covered { IsCovered values.new.rows values.new.ordered values.new.pending.items }
     ensures rows_spare { spare values.old.rows ≤ spare values.new.rows + length changes.items }

@@ -111,8 +111,8 @@ impl Keeper for FileKeeper {
         self.inner.heads(alloc)
     }
 
-    fn elements(&mut self, alloc: Global, key: &str) -> Result<List<ElementRow>, KeepError> {
-        self.inner.elements(alloc, key)
+    fn live_elements(&mut self, alloc: Global, key: &str) -> Result<List<ElementRow>, KeepError> {
+        self.inner.live_elements(alloc, key)
     }
 
     fn hidden(&mut self, key: &str, id: &str) -> Result<bool, Failed> {

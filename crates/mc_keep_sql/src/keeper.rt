@@ -212,8 +212,8 @@ impl<S: Alter + Drop> Keeper for SqlKeeper<S> {
         self.count(answer)
     }
 
-    fn elements(&mut self, alloc: Global, key: &str) -> Result<List<ElementRow>, KeepError> {
-        let answer = reading::elements(self.connection.get_mut(), alloc, key);
+    fn live_elements(&mut self, alloc: Global, key: &str) -> Result<List<ElementRow>, KeepError> {
+        let answer = reading::live_elements(self.connection.get_mut(), alloc, key);
         self.count(answer)
     }
 

@@ -36,11 +36,14 @@ use Rattle.mc_node.specs.declared.note.Note.{Note}
 use Rattle.mc_node.specs.declared.note.Note.TheVariants.{Halted, Root}
 use Rattle.mc_node.specs.declared.node.Seen.{Seen}
 use Rattle.mc_node.specs.Entries.{AddsEntry, IsRootLog, items_at, shown_at}
-use Rattle.mc_node.specs.Items.{Item, Shown, is_halt, is_sealed, is_walk, root}
+use Rattle.mc_node.specs.Items.{Item, Shown, is_halt, is_sealed, is_walk, root, state_in}
 use Rattle.mc_node.specs.Moves.{Acts, Adds, BeginsNot, Does, KeepsRun, NoMore, Notes, SeenOver, note_by, note_of, seen_by, with_entry}
-use Rattle.mc_node.specs.Ties.{Bounds, Goes, IsTied, IsWithin, StoresFound}
+use Rattle.mc_node.specs.Ties.{Goes, IsTied, IsWithin, StoresFound}
+use Rattle.mc_node.specs.Works.{Bounds}
 use Rattle.mc_node.proofs.FrameFacts.{go_nowhere, of_calm, shown_goes}
 use Rattle.mc_node.proofs.TieFacts.{BeginLaw, IsLonger, tied_noted, tied_root, tied_still}
+use Rattle.mc_node.proofs.WorkFacts.{Step}
+use Rattle.mc_node.proofs.WorkTies.{worked_on}
 
 -- the laws of a replica that are used here
 abbrev pub GoLaw : Type 0
@@ -81,6 +84,15 @@ module _ {T : Type 0} (go : GoLaw) (break : BreakLaw) (back : BackLaw) (Refused 
   call_longer result before now (Some kept) (Some kept') fuse fuse' run run' sound c =
       grown_blocks (durable_of kept) (durable_of kept') (subst (λ (k : Kept). list_all (is_stored k.graph) kept.order ≡ true) (sym (back kept)) sound.stored)
       (call_grows result before now _ _ c)
+
+-- the same of any call that loses no block
+pub longer_grown : (back : BackLaw) (told told' : Option Kept) (fuse fuse' : Option Fuse) (run run' : Option Running) → IfSome told IsKept
+    → Told (state_of told fuse run) (state_of told' fuse' run') (λ s new. GoesOn s.state.durable new.state.durable)
+    → Told (state_of told fuse run) (state_of told' fuse' run') (λ s new. take (length (blocks_of s.state.durable)) (blocks_of new.state.durable) ≡ blocks_of s.state.durable)
+longer_grown back None told' fuse fuse' run run' sound c = tt
+longer_grown back (Some kept) None fuse fuse' run run' sound c = absurd c
+longer_grown back (Some kept) (Some kept') fuse fuse' run run' sound c =
+    grown_blocks (durable_of kept) (durable_of kept') (subst (λ (k : Kept). list_all (is_stored k.graph) kept.order ≡ true) (sym (back kept)) sound.stored) c
 
 -- what a call leaves where nothing is noted
 pub record LeavesAlone (now later : Shown) : Type 0 where
@@ -156,6 +168,7 @@ pub record Ended (limit : Bounds) (now later : Shown) (log : List Item) (failed 
   pub goes : Goes failed now later
   pub keeps : KeepsRun now later
   pub longer : IsLonger now later
+  pub leads : is_sealed log ≡ true → failed ≡ true → Told (state_in now) (state_in later) (Step limit true)
 
 noted_well : (limit : Bounds) (now later : Shown) (log : List Item) (note : Note) → Ended limit now later log false → MayNote (Some note) log → IsTied limit later (with_entry log note later)
 noted_well limit now later log note e may = tied_noted limit log note now later e.tied (record {
@@ -167,11 +180,11 @@ noted_well limit now later log note e may = tied_noted limit log note now later 
   batch = e.keeps.batch;
   walk = λ w. e.keeps.walk;
   whole = λ w. e.keeps.whole;
-  most = λ s up. absurd (false≢true (sym may.2 ∙ s));
+  worked = λ s. absurd (false≢true (sym may.2 ∙ s));
   drains = λ s up map is r st ri si. absurd (false≢true (sym may.2 ∙ s));
 })
 
-noted_halt : (limit : Bounds) (now later : Shown) (log : List Item) → Ended limit now later log true → IsTied limit later (with_entry log Halted later)
+pub noted_halt : (limit : Bounds) (now later : Shown) (log : List Item) → Ended limit now later log true → IsTied limit later (with_entry log Halted later)
 noted_halt limit now later log e = tied_noted limit log Halted now later e.tied (record {
   runs = e.runs;
   goes = e.goes;
@@ -181,7 +194,7 @@ noted_halt limit now later log e = tied_noted limit log Halted now later e.tied 
   batch = e.keeps.batch;
   walk = λ w. e.keeps.walk;
   whole = λ w. e.keeps.whole;
-  most = λ s up. absurd (false≢true (sym up ∙ e.goes.stops));
+  worked = λ s r st ri si. worked_on limit log now later true e.tied s e.runs e.goes.stops (e.leads s refl) r st ri si;
   drains = λ s up map is r st ri si. absurd (false≢true (sym up ∙ e.goes.stops));
 })
 
@@ -207,16 +220,18 @@ noted_result limit now later log log' ok short (Err error) e may_ok may_short ad
 -- a call that has begun, to its end
 pub does_end : {T : Type 0} (go : GoLaw) (break : BreakLaw) (back : BackLaw) (ok short : Option Note) (Refused : ReplicaState → Option CoreError → Type 0) (Plan : ReplicaState → List Event → T → Type 0) (Short : ReplicaState → ReplicaState → Type 0)
     (short_goes : (s new : ReplicaState) → Short s new → GoesOn s.state.durable new.state.durable) (More : ReplicaState → ReplicaState → Type 0) (front : Option CoreError) (limit : Bounds) (now later : Shown) (log log' : List Item) (result : Result T CoreError)
-    → IsTied limit now log → now.stopped ≡ false → IfSome now.told IsKept → Acts Refused Plan Short More result now later → front_of result ≡ stop_front now.stopped (unless_short result front)
+    → IsTied limit now log → now.stopped ≡ false → IfSome now.told IsKept → Acts Refused Plan Short More result now later
+    → (is_sealed log ≡ true → is_fault result ≡ true → Told (state_in now) (state_in later) (Step limit true)) → front_of result ≡ stop_front now.stopped (unless_short result front)
     → MayNote ok log → MayNote short log → Adds (note_of ok short result) later log log' → (note_of ok short result ≡ None → LeavesAlone now later)
     → IsTied limit later log' × Does ok short Refused Plan Short More front result log log'
-does_end {T} go break back ok short Refused Plan Short short_goes More front limit now later log log' result t runs sound acts fronts may_ok may_short adds alone =
+does_end {T} go break back ok short Refused Plan Short short_goes More front limit now later log log' result t runs sound acts leads fronts may_ok may_short adds alone =
     let ended : Ended limit now later log (is_fault result) = record {
       tied = t;
       runs = runs;
       goes = acts.goes;
       keeps = acts.keeps;
       longer = call_longer go break back Refused Plan Short short_goes result now.own later.own now.told later.told now.fuse later.fuse (run_of now.stopped now.run) (run_of later.stopped later.run) sound acts.call;
+      leads = leads;
     } in
     let both = noted_result limit now later log log' ok short result ended may_ok may_short adds alone in (
       both.0,

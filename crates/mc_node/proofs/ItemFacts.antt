@@ -46,6 +46,10 @@ begins_of xs ys e = (drop (length xs) ys, ap (λ l. l ++ drop (length xs) ys) (s
 pub first_of : (xs ys : List Block) → Begins xs ys → take (length xs) ys ≡ xs
 first_of xs ys b = ap (take (length xs)) (sym b.1) ∙ take-append_seam xs b.0
 
+-- first parts in turn
+pub longer_on : (xs ys zs : List Block) → take (length xs) ys ≡ xs → take (length ys) zs ≡ ys → take (length xs) zs ≡ xs
+longer_on xs ys zs a b = first_of xs zs (begins_trans xs ys zs (begins_of xs ys a) (begins_of ys zs b))
+
 -- a part of the longer log is one of the shorter log, or the whole
 pub growing_on : (log : List Item) (i : Item) → IsGrowing log → take (length (blocks log)) (blocks_in (state_in i.shown)) ≡ blocks log → IsGrowing (log ++ i ∷ [])
 growing_on log i grown more n = dite (dec_le n (length log)) shorter longer

@@ -1,9 +1,13 @@
 pub mod ItemFacts
 pub mod FrameFacts
+pub mod WorkFacts
 pub mod TieFacts
+pub mod WorkTies
 pub mod CallFacts
 pub mod ReplicaFacts
 pub mod SeatFacts
+pub mod JobFacts
+pub mod SealedFacts
 pub mod Spread
 pub mod Chains
 pub mod WriterFacts

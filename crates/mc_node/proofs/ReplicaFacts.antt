@@ -36,12 +36,14 @@ use Rattle.mc_core.specs.Words.{ContinuesAt}
 use Rattle.mc_core.proofs.GrowthFacts.{same_goes}
 use Rattle.mc_node.specs.declared.entry.Entry.{Entry}
 use Rattle.mc_node.specs.declared.note.Note.{Note}
-use Rattle.mc_node.specs.declared.note.Note.TheVariants.{Root, Made, Heard, Asked, Fetched, Walked, Cleared, Halted}
+use Rattle.mc_node.specs.declared.note.Note.TheVariants.{Root, Made, Heard, Walked, Cleared, Halted}
 use Rattle.mc_node.specs.Entries.{AddsEntry, is_open, items_at, shown_at}
 use Rattle.mc_node.specs.Items.{is_sealed, is_sealing, is_unsealed}
 use Rattle.mc_node.specs.Moves.{DeleteAdds, Does, NoMore, PutAdds, SeenOver, note_of, seen_by}
 use Rattle.mc_node.specs.declared.node.Seen.{Seen}
-use Rattle.mc_node.specs.Ties.{Bounds, IsTied}
+use Rattle.mc_node.specs.Ties.{IsTied}
+use Rattle.mc_node.specs.Works.{Bounds}
+use Rattle.mc_node.proofs.WorkFacts.{Step, read_step}
 use Rattle.mc_node.proofs.CallFacts.{BackLaw, BreakLaw, GoLaw, LeavesAlone, MayNote, acts_of, adds_items, does_end, leaves_alone, leaves_same, seen_acts, seen_front, seen_note, some_none, stays_goes}
 
 module _ {K D : Type 0} {g : keeper.Ghosts K D} {h : counted.Ghosts K} {i : counted.Ghosts D} where
@@ -61,8 +63,6 @@ module _ {K D : Type 0} {g : keeper.Ghosts K D} {h : counted.Ghosts K} {i : coun
         of_note (Root false) o = refl
         of_note Made o = refl
         of_note Heard o = refl
-        of_note Asked o = refl
-        of_note Fetched o = refl
         of_note Walked o = refl
         of_note Cleared o = refl
         of_note Halted o = refl
@@ -77,15 +77,15 @@ module _ {K D : Type 0} {g : keeper.Ghosts K D} {h : counted.Ghosts K} {i : coun
         → IsTied limit (shown_at told fuse own faults quiet schedule old) (items_at told fuse own faults quiet schedule log) → log ≡ first → old.stopped ≡ false → IfSome (told old.keeper) IsKept
         → Told (replica_state told fuse old) (replica_state told fuse new) (λ s after. Call (Refused s) (Plan s) (Short s) (Rose (own old.keeper) (own new.keeper)) result s after)
         → Told (replica_state told fuse old) (replica_state told fuse new) More → ContinuesAt told fuse own faults quiet schedule (is_fault result) old new → RestSame old new
-        → front_of result ≡ stop_front old.stopped (unless_short result front) → MayNote ok (items_at told fuse own faults quiet schedule log) → MayNote short (items_at told fuse own faults quiet schedule log)
+        → front_of result ≡ stop_front old.stopped (unless_short result front) → is_sealed (items_at told fuse own faults quiet schedule log) ≡ false → MayNote ok (items_at told fuse own faults quiet schedule log) → MayNote short (items_at told fuse own faults quiet schedule log)
         → entry ≡ note_of ok short result → AddsEntry entry new log log'
         → (note_of ok short result ≡ None → LeavesAlone (shown_at told fuse own faults quiet schedule old) (shown_at told fuse own faults quiet schedule new))
         → IsTied limit (shown_at told fuse own faults quiet schedule new) (items_at told fuse own faults quiet schedule log')
         × Does ok short Refused Plan Short More front result (items_at told fuse own faults quiet schedule first) (items_at told fuse own faults quiet schedule log')
-    replica_ends go break back ok short Refused Plan Short short_goes More front limit old new first log log' entry result tied is runs sound call more continues rest fronts may_ok may_short noted adds alone =
+    replica_ends go break back ok short Refused Plan Short short_goes More front limit old new first log log' entry result tied is runs sound call more continues rest fronts unsealed may_ok may_short noted adds alone =
         let both = does_end go break back ok short Refused Plan Short short_goes More front limit (shown_at told fuse own faults quiet schedule old) (shown_at told fuse own faults quiet schedule new)
         (items_at told fuse own faults quiet schedule log) (items_at told fuse own faults quiet schedule log') result tied runs sound
-        (acts_of told fuse own faults quiet schedule Refused Plan Short More result old new call more continues rest) fronts may_ok may_short
+        (acts_of told fuse own faults quiet schedule Refused Plan Short More result old new call more continues rest) (λ sealed. absurd (false≢true (sym unsealed ∙ sealed))) fronts may_ok may_short
         (adds_items told fuse own faults quiet schedule (note_of ok short result) new log log log' refl (subst (λ (n : Option Note). AddsEntry n new log log') noted adds)) alone in
         (both.0, subst (λ (l : List (Entry K D g h i)). Does ok short Refused Plan Short More front result (items_at told fuse own faults quiet schedule l) (items_at told fuse own faults quiet schedule log')) is both.1)
 
@@ -145,6 +145,8 @@ module _ {K D : Type 0} {g : keeper.Ghosts K D} {h : counted.Ghosts K} {i : coun
       (acts_of told fuse own faults quiet schedule Refused (OnlyReads P) Stays NoMore result old new call (no_more _ _ _ call) continues rest) in
       let both = does_end go break back None None Refused (OnlyReads (SeenOver P)) Stays stays_goes NoMore None limit (shown_at told fuse own faults quiet schedule old) (shown_at told fuse own faults quiet schedule new)
       (items_at told fuse own faults quiet schedule log) (items_at told fuse own faults quiet schedule log') (seen_by n result) tied runs sound acts
+      (λ sealed failed. told_weaker (λ s after. Call (Refused s) (OnlyReads (SeenOver P) s) (Stays s) (Rose (own old.keeper) (own new.keeper)) (seen_by n result) s after) (Step limit true)
+      (λ s after call. read_step Refused (SeenOver P) limit (Rose (own old.keeper) (own new.keeper)) (seen_by n result) s after failed call) (replica_state told fuse old) (replica_state told fuse new) acts.call)
       (seen_front Refused P n result old.stopped fronts) tt tt
       (adds_items told fuse own faults quiet schedule (note_of None None (seen_by n result)) new log log log' refl (subst (λ (m : Option Note). AddsEntry m new log log') (noted ∙ seen_note Refused P n result None None) adds))
       (λ none. leaves_same told fuse own faults quiet schedule old new same rest) in (

@@ -5,6 +5,7 @@ use Rattle.mc_base.specs.declared.counted.Counted as counted
 use Rattle.mc_keep.specs.declared.keeper.Keeper as keeper
 use Rattle.mc_turn.specs.declared.view.View.{View}
 use Rattle.mc_turn.specs.Lists.{Begins}
+use Rattle.mc_turn.proofs.Lists.{begins_trans}
 use Rattle.mc_turn.specs.Views.{Extends, held_view, given_view, IsTaken}
 use Rattle.mc_node.specs.declared.entry.Entry.{Entry}
 use Rattle.mc_node.specs.declared.note.Note.{Note}
@@ -34,3 +35,10 @@ module _ {K D : Type 0} {g : keeper.Ghosts K D} {h : counted.Ghosts K} {i : coun
   -- and over a call of a node
   pub open_given : (before old new after : List (Entry K D g h i)) → Begins before old → Begins old new → after ≡ new → is_open before ≡ true → is_open after ≡ true
   open_given before old new after a b is o = subst (λ (l : List (Entry K D g h i)). is_open l ≡ true) (sym is) (open_on before old new a b o)
+
+  pub begins_given : (test : Note → Bool) (before old new after : List (Entry K D g h i)) → Begins before old → Begins old new → after ≡ new → begins_so test before ≡ true → begins_so test after ≡ true
+  begins_given test before old new after a b is o =
+      subst (λ (l : List (Entry K D g h i)). begins_so test l ≡ true) (sym is) (begins_on test old new (begins_on test before old o a) b)
+
+  pub seen_given : (before old new after : List (Entry K D g h i)) → Begins before old → Begins old new → after ≡ new → Begins before after
+  seen_given before old new after a b is = subst (Begins before) (sym is) (begins_trans before old new a b)

@@ -15,7 +15,7 @@ use Rattle.mc_node.proofs.Chains.{runs_all}
 use Rattle.mc_node.specs.Gathers.{Joined}
 use Rattle.mc_node.proofs.Joins.{joined_last, joined_made, joined_part, joined_same, joined_whole, ordered}
 use Rattle.mc_node.proofs.Spread.{adding_none, each_more}
-use Rattle.mc_node.proofs.StormLaw.{Stormy, all_fit, good_before, last_place, moment, none_there, one_before, unasked_at, unhalted_all}
+use Rattle.mc_node.proofs.StormLaw.{Stormy, all_fit, good_before, last_place, moment, none_there, one_before, open_at, unhalted_all}
 
 pub told_as : {A B : Type 0} (P R : A → B → Type 0) → ((x : A) (y : B) → P x y → R x y) → (a : Option A) (b : Option B) → Told a b P → Told a b R
 told_as P R more None b p = tt
@@ -101,7 +101,7 @@ module _ (log : List Item) (count writes hi : ℕ) (done : Bool) (made same : �
     fails_last : Told (moment log f.at) (last_state log) (CallFails f.call (Rose (root log).own (last log).own))
     fails_last =
         let all : take (suc f.at) log ≡ log = take_all (suc f.at) log (let n = last_place log j.all j.fails mine s f b in omega (arith, n)) in
-        subst (λ (l : List Item). Told (moment log f.at) (last_state l) (CallFails f.call (Rose (root log).own (last l).own))) all (b.over.fails (unasked_at log j.all j.fails mine s f.at b.begun (let w = b.within in omega (arith, w))))
+        subst (λ (l : List Item). Told (moment log f.at) (last_state l) (CallFails f.call (Rose (root log).own (last l).own))) all (b.over.fails (open_at log j.all j.fails mine s f.at b.begun))
 
     pub storm_breaks : Told (moment log 1) (last_state log) (StormBreaks count writes (Rose (root log).own (last log).own))
     storm_breaks = told_in_turn (CallsRun (calls_in (ordered near j.all))) (CallFails f.call (Rose (root log).own (last log).own)) (StormBreaks count writes (Rose (root log).own (last log).own)) (λ x y z run fails. record {

@@ -1,8 +1,8 @@
 -- What a storm leaves of its replica.
-use Rattle.std.proofs.Common.{◌≡◌, ◌+◌, ℕ, suc, Bool, true, false, List, [], ◌∷◌, length, Option, Some, None, Result, Ok, Err, refl, sym, ap, ◌∙◌, subst, arith}
+use Rattle.std.proofs.Common.{◌≡◌, ◌+◌, ℕ, Bool, true, false, List, [], length, Option, Some, None, Result, Ok, Err, refl, sym, ap, ◌∙◌, subst, arith}
 use Rattle.std.specs.Prelude.{is_some}
 use Rattle.std.proofs.lemmas.Bool.{false≢true}
-use Rattle.std.proofs.lemmas.List.{length-map, take_all}
+use Rattle.std.proofs.lemmas.List.{length-map}
 use Rattle.mc_base.specs.Causes.{Rose}
 use Rattle.mc_base.specs.Told.{Told}
 use Rattle.mc_base.specs.declared.counted.Counted as counted
@@ -26,16 +26,17 @@ use Rattle.mc_node.specs.declared.storming.StormError.TheVariants as storm
 use Rattle.mc_node.specs.Entries.{IsRootLog, items_at, shown_at}
 use Rattle.mc_node.specs.Gathers.{Joined}
 use Rattle.mc_node.specs.Interleavings.{StormCall, calls_of, share_of}
-use Rattle.mc_node.specs.Items.{Item, Shown, has_halted, last, last_state, root, state_in}
+use Rattle.mc_node.specs.Items.{Item, Shown, has_halted, is_sealed, is_sealing, last, last_state, root, state_in}
 use Rattle.mc_node.specs.Storms.{StormBreaks, StormEnds, StormLeads, StormPauses, answer_of, storm_broke}
-use Rattle.mc_node.specs.Ties.{Bounds, Goes, IsTied}
-use Rattle.mc_node.specs.Tooks.{Each, Took}
-use Rattle.mc_node.specs.Writers.{IsBad, IsGood, Tooks, made_of, same_of}
-use Rattle.mc_node.proofs.FrameFacts.{go_nowhere, goes_shown, of_calm}
+use Rattle.mc_node.specs.Ties.{Goes, IsTied}
+use Rattle.mc_node.specs.Works.{Bounds}
+use Rattle.mc_node.specs.Tooks.{Took}
+use Rattle.mc_node.specs.Writers.{IsBad, IsGood, made_of, same_of}
+use Rattle.mc_node.proofs.FrameFacts.{go_nowhere, goes_shown, of_broken, of_calm}
 use Rattle.mc_node.proofs.Spread.{each_more}
-use Rattle.mc_node.proofs.StormEnd.{none_bad, root_state, rooted_one, storm_broken, storm_ends, storm_pauses, told_as}
-use Rattle.mc_node.proofs.StormLaw.{Stormy, last_place, unasked_all, unhalted_all}
-use Rattle.mc_node.proofs.StormSeats.{bad_longer, begins_items, good_longer, root_longer}
+use Rattle.mc_node.proofs.StormEnd.{none_bad, root_state, storm_broken, storm_ends, storm_pauses, told_as}
+use Rattle.mc_node.proofs.StormLaw.{Stormy}
+use Rattle.mc_node.proofs.StormSeats.{bad_longer, begins_items, first_longer, good_longer, root_longer}
 use Rattle.mc_node.proofs.StormTurns.{moment_state}
 use Rattle.mc_node.proofs.WriterFacts.{unmade, unmade_numbers}
 
@@ -66,36 +67,10 @@ joined_longer count writes hi done made same mine Good Bad Good' Bad' g b j = re
   bad = each_more Bad Bad' j.fails b j.bad;
 }
 
--- the frame doesn't look at what is lost at a stop
-goes_as : (failed : Bool) (first x y : Shown) → y.told ≡ x.told → y.fuse ≡ x.fuse → y.own ≡ x.own → y.faults ≡ x.faults → y.quiet ≡ x.quiet → y.schedule ≡ x.schedule → y.stopped ≡ x.stopped → Goes failed first x → Goes failed first y
-goes_as failed first x y t f o a q s p g =
-    let e : x ≡ record y { run = x.run } = sym (λ i. record { told = t i; fuse = f i; own = o i; faults = a i; quiet = q i; schedule = s i; stopped = p i; run = x.run }) in
-    let h : Goes failed first (record y { run = x.run }) = subst (Goes failed first) e g in record {
-      keeper = let k = h.keeper in record {
-        silent = k.silent;
-        no_fuse = k.no_fuse;
-        own_later = k.own_later;
-        own_still = k.own_still;
-        own_rose = k.own_rose;
-        faults_go = k.faults_go;
-        still_quiet = k.still_quiet;
-        calm = k.calm;
-        planned = k.planned;
-      };
-      stops = h.stops;
-    }
-
 -- the frame of a storm, by whether the log says that the keeper failed
-storm_goes : (limit : Bounds) (log : List Item) (now : Shown) (all fails : Tooks) (mine : List ℕ) → Stormy log all fails mine → IsTied limit now log → (b : Bool) → has_halted log ≡ b → Goes b (root log) now
-storm_goes limit log now all fails mine s t false h = of_calm (root log) now (t.calm h)
-storm_goes limit log now all fails mine s t true h = first fails refl s.bad
-  where
-    first : (l : Tooks) → fails ≡ l → Each (IsBad log) l → Goes true (root log) now
-    first [] is b = absurd (false≢true (sym (unhalted_all log all fails mine s is (rooted_one log s.rooted)) ∙ h))
-    first (f ∷ fs) is b =
-        let m = t.moment in
-        goes_as true (root log) (last log) now m.told m.fuse m.own m.faults (t.quiet_still h) (t.schedule_still h) m.stopped
-        (subst (λ (l : List Item). Goes true (root log) (last l)) (take_all (suc f.at) log (let n = last_place log all fails mine s f b.0 in omega (arith, n))) b.0.over.frame)
+storm_goes : (limit : Bounds) (log : List Item) (now : Shown) → IsTied limit now log → (b : Bool) → has_halted log ≡ b → Goes b (root log) now
+storm_goes limit log now t false h = of_calm (root log) now (t.calm h)
+storm_goes limit log now t true h = of_broken (root log) now (t.broken h)
 
 -- what it leads to, by that and by what the writes came to
 storm_by : (log : List Item) (count writes hi : ℕ) (wrote : Option Stormed) (mine : List ℕ) (j : Joined count writes hi (is_some wrote) (made_of wrote) (same_of wrote) mine (IsGood log) (IsBad log)) → Stormy log j.all j.fails mine → (b : Bool) → has_halted log ≡ b
@@ -155,7 +130,7 @@ module _ {K D : Type 0} {g : keeper.Ghosts K D} {h : counted.Ghosts K} {i : coun
     leads = subst (λ (r : Result Stormed StormError). Told (replica_state told fuse replica) (replica_state told fuse left) (StormLeads count writes r (Rose (own replica.keeper) (own left.keeper)))) (sym is) told_leads;
     keeps = goes_shown told fuse own faults quiet schedule (storm_broke result) replica left
         (subst (λ (b : Bool). Goes b (shows replica) (shows left)) (sym (ap storm_broke is ∙ broke_is left.stopped wrote))
-        (subst (λ (x : Shown). Goes left.stopped x (shows left)) root_is (storm_goes limit whole (shows left) longer.all longer.fails view.mine stormy tied left.stopped (sym tied.halted))));
+        (subst (λ (x : Shown). Goes left.stopped x (shows left)) root_is (storm_goes limit whole (shows left) tied left.stopped (sym tied.halted))));
     rest = record {
       walk_same = tied.walk (tied.unwalked unwalked) ∙ ap (λ x. x.run.walk) root_is;
       batch_same = tied.batch ∙ ap (λ x. x.run.batch) root_is;
@@ -178,12 +153,18 @@ module _ {K D : Type 0} {g : keeper.Ghosts K D} {h : counted.Ghosts K} {i : coun
           root_longer (items_at told fuse own faults quiet schedule opening) whole (begins_items entry_item opening log (begins_trans opening view.seen log begins taken.seen)) (let e = length-map opening entry_item in let f = ap length opened.alone in omega (arith, e, f))
           ∙ ap (λ (l : List (Entry K D g h i)). root (items_at told fuse own faults quiet schedule l)) opened.alone ∙ ap (shown_at told fuse own faults quiet schedule) opened.is
 
+      unsealed : is_sealed whole ≡ false
+      unsealed =
+          first_longer is_sealing (items_at told fuse own faults quiet schedule opening) whole (begins_items entry_item opening log (begins_trans opening view.seen log begins taken.seen)) (let e = length-map opening entry_item in let f = ap length opened.alone in omega (arith, e, f))
+          ∙ ap (λ (l : List (Entry K D g h i)). is_sealed (items_at told fuse own faults quiet schedule l)) opened.alone
+
       longer : Joined count writes (length view.seen) (is_some wrote) (made_of wrote) (same_of wrote) view.mine (IsGood whole) (IsBad whole)
       longer = joined_longer count writes (length view.seen) (is_some wrote) (made_of wrote) (same_of wrote) view.mine _ _ (IsGood whole) (IsBad whole) (good_longer _ whole seen_begins) (bad_longer _ whole seen_begins) joined
 
       stormy : Stormy whole longer.all longer.fails view.mine
       stormy = record {
         rooted = tied.rooted;
+        unsealed = unsealed;
         whole = λ p one lt. let n = length-map log entry_item in let o = ap length opened.alone in taken.known.whole parts p (omega (arith, base, o, one)) (omega (arith, n, lt));
         beyond = λ p le. let n = length-map log entry_item in taken.known.below p (omega (arith, n, le));
         places_are = longer.places_are;
@@ -192,7 +173,7 @@ module _ {K D : Type 0} {g : keeper.Ghosts K D} {h : counted.Ghosts K} {i : coun
       }
 
       last_is : last_state whole ≡ state_in (shows left)
-      last_is = sym (moment_state whole (shows left) tied.moment (unasked_all whole longer.all longer.fails view.mine stormy (rooted_one whole tied.rooted)))
+      last_is = sym (moment_state whole (shows left) tied.moment unsealed)
 
       told_leads : Told (replica_state told fuse replica) (replica_state told fuse left) (StormLeads count writes (answer_of left.stopped wrote) (Rose (own replica.keeper) (own left.keeper)))
       told_leads =

@@ -7,9 +7,9 @@ use Rattle.std.proofs.lemmas.List.{take_all}
 use Rattle.mc_turn.specs.Lists.{times}
 use Rattle.mc_core.specs.Events.{ReplicaState}
 use Rattle.mc_node.specs.declared.note.Note.{Note}
-use Rattle.mc_node.specs.declared.note.Note.TheVariants.{Root, Made, Heard, Asked, Fetched, Walked, Cleared, Halted}
+use Rattle.mc_node.specs.declared.note.Note.TheVariants.{Root, Made, Heard, Walked, Cleared, Halted}
 use Rattle.mc_node.specs.Interleavings.{StormCall}
-use Rattle.mc_node.specs.Items.{Item, has_asked, has_halted, has_note, is_ask, is_halt, is_root, is_rooted, last_state}
+use Rattle.mc_node.specs.Items.{Item, has_halted, has_note, is_halt, is_root, is_rooted, is_sealed, last_state}
 use Rattle.mc_node.specs.Storms.{CallActs}
 use Rattle.mc_node.specs.Tooks.{Each, Took, made_places, next_of, places_if, width}
 use Rattle.mc_node.specs.Writers.{IsBad, IsGood, Tooks}
@@ -27,8 +27,6 @@ root_is test a b (Root true) r = a
 root_is test a b (Root false) r = b
 root_is test a b Made r = absurd (false≢true r)
 root_is test a b Heard r = absurd (false≢true r)
-root_is test a b Asked r = absurd (false≢true r)
-root_is test a b Fetched r = absurd (false≢true r)
 root_is test a b Walked r = absurd (false≢true r)
 root_is test a b Cleared r = absurd (false≢true r)
 root_is test a b Halted r = absurd (false≢true r)
@@ -41,9 +39,15 @@ first_only test (item ∷ items) r a b = or_no (test item.note) false (root_is t
 one_of : (a b : ℕ) → a + b ≡ 1 → (a ≡ 1) ⊎ (b ≡ 1)
 one_of a b e = dite (ℕ_discrete a 1) (λ f. inl f) (λ ne. inr (omega (arith, e, ne)))
 
+first_same : (p : ℕ) (log : List Item) → 1 ≤ p → is_sealed log ≡ false → is_sealed (take p log) ≡ false
+first_same zero log one e = absurd (omega (arith, one))
+first_same (suc p) [] one e = e
+first_same (suc p) (item ∷ items) one e = e
+
 -- what the joined seat knows of a log, and the calls of all writers
 pub record Stormy (log : List Item) (all fails : Tooks) (mine : List ℕ) : Type 0 where
   pub rooted : is_rooted log ≡ true
+  pub unsealed : is_sealed log ≡ false
   pub whole : (p : ℕ) → 1 ≤ p → p < length log → times p mine ≡ 1
   pub beyond : (p : ℕ) → length log ≤ p → times p mine ≡ 0
   pub places_are : (p : ℕ) → times p mine ≡ times p (made_places all) + times p (made_places fails)
@@ -62,27 +66,15 @@ module _ (log : List Item) (all fails : Tooks) (mine : List ℕ) (s : Stormy log
   next_is : (t : Took StormCall) (p : ℕ) → t.at ≡ p → t.adds ≡ true → next_of t ≡ suc p
   next_is t p e a = let w : width t.adds ≡ 1 = ap width a in omega (arith, e, w)
 
-  -- no shop was called
-  pub unasked : (p : ℕ) → suc p ≤ length log → has_asked (take (suc p) log) ≡ false
-  unasked zero le = first_only is_ask log s.rooted refl refl
-  unasked (suc p) le = go (whose (suc p) (omega arith) (omega (arith, le))) (unasked p (omega (arith, le)))
-    where
-      go : AddsAlone (IsGood log) (suc p) all ⊎ AddsAlone (IsBad log) (suc p) fails → has_asked (take (suc p) log) ≡ false → has_asked (take (suc (suc p)) log) ≡ false
-      go (inl a) ih = subst (λ (n : ℕ). has_asked (take n log) ≡ false) (next_is a.one (suc p) a.there a.adding) (a.holds.over.asked_same ∙ ap (λ n. has_asked (take n log)) a.there ∙ ih)
-      go (inr a) ih = subst (λ (n : ℕ). has_asked (take n log) ≡ false) (ap suc a.there) (a.holds.over.asked_same ∙ ap (λ n. has_asked (take n log)) a.there ∙ ih)
-
-  pub unasked_at : (p : ℕ) → 1 ≤ p → p ≤ length log → has_asked (take p log) ≡ false
-  unasked_at zero one le = absurd (omega (arith, one))
-  unasked_at (suc p) one le = unasked p le
-
-  pub unasked_all : 1 ≤ length log → has_asked log ≡ false
-  unasked_all one = ap has_asked (sym (take_all (length log) log (omega arith))) ∙ unasked_at (length log) one (omega arith)
+  -- no part of it is sealed
+  pub open_at : (p : ℕ) → 1 ≤ p → is_sealed (take p log) ≡ false
+  open_at p one = first_same p log one s.unsealed
 
   within_of : (at : ℕ) (adds : Bool) → at + width adds ≤ length log → at ≤ length log
   within_of at adds le = omega (arith, le)
 
   pub all_fit : Each (Fits CallActs (moment log)) all
-  all_fit = each_more (IsGood log) (Fits CallActs (moment log)) all (λ t g. g.over.acts (unasked_at t.at g.begun (within_of t.at t.adds g.within))) s.good
+  all_fit = each_more (IsGood log) (Fits CallActs (moment log)) all (λ t g. g.over.acts (open_at t.at g.begun)) s.good
 
   -- none has failed where no call did
   unhalted : fails ≡ [] → (p : ℕ) → suc p ≤ length log → has_halted (take (suc p) log) ≡ false

@@ -16,7 +16,7 @@ use Rattle.mc_node.specs.declared.node.Seen.{Seen}
 use Rattle.mc_node.specs.declared.note.Note.{Note}
 use Rattle.mc_node.specs.declared.note.Note.TheVariants.{Halted, Made}
 use Rattle.mc_node.specs.Interleavings.{StormCall}
-use Rattle.mc_node.specs.Items.{Item, Shown, root}
+use Rattle.mc_node.specs.Items.{Item, Shown, is_first, root}
 use Rattle.mc_node.specs.Moves.{PutDoes, with_entry}
 use Rattle.mc_node.specs.Storms.{is_block_refusal, is_bytes, storm_key, storm_value}
 use Rattle.mc_node.specs.Tooks.{Took, made_places, next_of, places_if, width}
@@ -31,6 +31,10 @@ take_begun xs ys b = ap (take (length xs)) (sym b.1) ∙ take-append_seam xs b.0
 -- a good call stays one while the log grows
 take_longer : {A : Type 0} (n : ℕ) (xs ys : List A) → Begins xs ys → n ≤ length xs → take n ys ≡ take n xs
 take_longer n xs ys b le = ap (take n) (sym b.1) ∙ take-append-le n xs b.0 le
+
+pub first_longer : (test : Note → Bool) (xs ys : List Item) → Begins xs ys → 1 ≤ length xs → is_first test ys ≡ is_first test xs
+first_longer test [] ys b one = absurd (omega (arith, one))
+first_longer test (x ∷ xs) ys b one = ap (is_first test) (sym b.1)
 
 pub root_longer : (xs ys : List Item) → Begins xs ys → 1 ≤ length xs → root ys ≡ root xs
 root_longer [] ys b one = absurd (omega (arith, one))

@@ -22,7 +22,7 @@ use Rattle.mc_node.specs.declared.node.Seen.{Seen}
 use Rattle.mc_node.specs.declared.note.Note.{Note}
 use Rattle.mc_node.specs.declared.note.Note.TheVariants.{Halted, Made}
 use Rattle.mc_node.specs.Interleavings.{Write}
-use Rattle.mc_node.specs.Items.{Item, Shown, has_asked, has_halted, has_note, is_ask, is_halt, last, last_state, root, state_in}
+use Rattle.mc_node.specs.Items.{Item, Shown, has_halted, has_note, is_halt, is_sealed, last, last_state, root, state_in}
 use Rattle.mc_node.specs.Moves.{Adds, PutDoes, ReadDoes, SeenOver, with_entry}
 use Rattle.mc_node.specs.Storms.{Gets, PutMakes, PutRefused, is_block_refusal, is_bytes, storm_key, storm_value}
 use Rattle.mc_node.specs.Ties.{Goes, IsMoment}
@@ -55,8 +55,8 @@ running true seen due e none = absurd (some_not Stopped (sym e ∙ none))
 running false seen due e none = refl
 
 -- what a moment of a log shows is what the log's last entry shows
-pub moment_state : (log : List Item) (now : Shown) → IsMoment log now → has_asked log ≡ false → state_in now ≡ last_state log
-moment_state log now m a = λ i. state_of (m.told i) (m.fuse i) (run_of (m.stopped i) (m.run a i))
+pub moment_state : (log : List Item) (now : Shown) → IsMoment log now → is_sealed log ≡ false → state_in now ≡ last_state log
+moment_state log now m a = λ i. state_of (m.told a i) (m.fuse a i) (run_of (m.stopped i) (m.run a i))
 
 or_false : (b : Bool) → (b || false) ≡ b
 or_false true = refl
@@ -77,7 +77,6 @@ put_made writer number same written old new d =
     let open_old : has_halted old ≡ false = running (has_halted old) None _ d.fronts refl in record {
       open_before = open_old;
       open_after = noted_has is_halt old new Made d.after d.notes ∙ or_false (has_halted old) ∙ open_old;
-      asked_same = noted_has is_ask old new Made d.after d.notes ∙ or_false (has_asked old);
       acts = λ a.
           subst (λ (o : Option ReplicaState). Told (last_state old) o (PutMakes (storm_key writer) (storm_value number))) (ap state_in (sym (noted_state old new Made d.after d.notes)))
           (subst (λ (o : Option ReplicaState). Told o (state_in d.after) (PutMakes (storm_key writer) (storm_value number))) (moment_state old d.before d.was a)
@@ -113,7 +112,6 @@ put_unmade writer number same error old new is d =
       record {
         open_before = open_old;
         open_after = open_old;
-        asked_same = refl;
         acts = λ a.
             subst (λ (o : Option ReplicaState). Told o o (PutRefused (storm_key writer) (storm_value number))) (moment_state old d.before d.was a)
             (told_still (λ s now. Call (Is (put_refusal s (storm_key writer) (storm_value number))) (PutPlan s (storm_key writer) (storm_value number)) (Stays s) (Rose d.before.own d.after.own) (Err error) s now)
@@ -133,7 +131,6 @@ put_failed writer number write old new is d =
         frame = subst (λ (x : Shown). Goes true (root old) x) (sym (noted_state old new Halted d.after d.notes)) (go_more true (root old) d.before d.after (d.since open_old) d.acts.goes);
         open_before = open_old;
         halts = noted_has is_halt old new Halted d.after d.notes ∙ ap (λ b. b || true) open_old;
-        asked_same = noted_has is_ask old new Halted d.after d.notes ∙ or_false (has_asked old);
         fails = λ a.
             subst (λ (n : ℕ). Told (last_state old) (last_state new) (λ s now. Faults (PutPlan s (storm_key writer) (storm_value n)) (Rose (root old).own (last new).own) s now)) (sym is)
             (subst (λ (x : Shown). Told (last_state old) (state_in x) (λ s now. Faults (PutPlan s (storm_key writer) (storm_value number)) (Rose (root old).own x.own) s now)) (sym (noted_state old new Halted d.after d.notes))
@@ -154,7 +151,6 @@ get_given writer number made seen old new d =
       record {
         open_before = open_old;
         open_after = open_old;
-        asked_same = refl;
         acts = λ a.
             subst (λ (o : Option ReplicaState). Told o o (Gets (storm_key writer) (storm_value number) (is_bytes (storm_value number) seen.answer))) (moment_state old d.before d.was a)
             (told_still (λ s now. Call (Is (read_refusal s)) (OnlyReads (SeenOver (λ kept found. found ≡ value (processed kept) (storm_key writer))) s) (Stays s) (Rose d.before.own d.after.own) (Ok seen) s now)
@@ -182,7 +178,6 @@ get_failed writer write old new d =
         frame = subst (λ (x : Shown). Goes true (root old) x) (sym (noted_state old new Halted d.after d.notes)) (go_more true (root old) d.before d.after (d.since open_old) d.acts.goes);
         open_before = open_old;
         halts = noted_has is_halt old new Halted d.after d.notes ∙ ap (λ b. b || true) open_old;
-        asked_same = noted_has is_ask old new Halted d.after d.notes ∙ or_false (has_asked old);
         fails = λ a.
             subst (λ (x : Shown). Told (last_state old) (state_in x) (λ s now. Breaks [] (Rose (root old).own x.own) s now)) (sym (noted_state old new Halted d.after d.notes))
             (subst (λ (n : ℕ). Told (last_state old) (state_in d.after) (λ s now. Breaks [] (Rose n d.after.own) s now)) own

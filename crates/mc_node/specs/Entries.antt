@@ -12,7 +12,7 @@ use Rattle.mc_core.specs.declared.replica.Replica.{Replica}
 use Rattle.mc_node.specs.declared.entry.Entry.{Entry}
 use Rattle.mc_node.specs.declared.note.Note.{Note}
 use Rattle.mc_node.specs.declared.note.Note.TheVariants.{Root}
-use Rattle.mc_node.specs.Items.{Item, Shown, is_root, is_unsealed}
+use Rattle.mc_node.specs.Items.{Item, Shown, is_root, is_sealing, is_unsealed}
 
 module _ {K D : Type 0} {g : keeper.Ghosts K D} {h : counted.Ghosts K} {i : counted.Ghosts D} where
   -- what a replica shows, by the ghost members of its keeper
@@ -45,6 +45,18 @@ module _ {K D : Type 0} {g : keeper.Ghosts K D} {h : counted.Ghosts K} {i : coun
 
   abbrev pub is_open : List (Entry K D g h i) → Bool
   is_open log = begins_so is_unsealed log
+
+  abbrev pub is_sealed_log : List (Entry K D g h i) → Bool
+  is_sealed_log log = begins_so is_sealing log
+
+  -- a log begins with the root of a sealed node that was made of this replica
+  abbrev pub IsSealedOf : Replica K D g h i → List (Entry K D g h i) → Type 0
+  IsSealedOf replica [] = ⊥
+  IsSealedOf replica (entry ∷ log) = (entry.note ≡ Root true) × (entry.replica.value ≡ replica)
+
+  -- it does so as it did before
+  abbrev pub StaysSealed : List (Entry K D g h i) → List (Entry K D g h i) → Type 0
+  StaysSealed old new = (replica : Replica K D g h i) → IsSealedOf replica old → IsSealedOf replica new
 
   -- a log that begins with a root that isn't sealed has gone on
   abbrev pub StaysOpen : List (Entry K D g h i) → List (Entry K D g h i) → Type 0

@@ -9,7 +9,7 @@ use Rattle.mc_keep.specs.declared.fuse.Fuse.{Fuse}
 use Rattle.mc_core.specs.Counted.{run_of}
 use Rattle.mc_core.specs.Events.{ReplicaState, state_of}
 use Rattle.mc_node.specs.declared.note.Note.{Note}
-use Rattle.mc_node.specs.declared.note.Note.TheVariants.{Root, Made, Heard, Asked, Fetched, Walked, Cleared, Halted}
+use Rattle.mc_node.specs.declared.note.Note.TheVariants.{Root, Made, Heard, Walked, Cleared, Halted}
 
 -- what a replica shows: what its keeper tells and counts, and what would be lost at a stop
 pub record Shown : Type 0 where
@@ -72,8 +72,6 @@ abbrev pub is_root : Note → Bool
 is_root (Root sealed) = true
 is_root Made = false
 is_root Heard = false
-is_root Asked = false
-is_root Fetched = false
 is_root Walked = false
 is_root Cleared = false
 is_root Halted = false
@@ -82,8 +80,6 @@ abbrev pub is_unsealed : Note → Bool
 is_unsealed (Root sealed) = not sealed
 is_unsealed Made = false
 is_unsealed Heard = false
-is_unsealed Asked = false
-is_unsealed Fetched = false
 is_unsealed Walked = false
 is_unsealed Cleared = false
 is_unsealed Halted = false
@@ -92,8 +88,6 @@ abbrev pub is_sealing : Note → Bool
 is_sealing (Root sealed) = sealed
 is_sealing Made = false
 is_sealing Heard = false
-is_sealing Asked = false
-is_sealing Fetched = false
 is_sealing Walked = false
 is_sealing Cleared = false
 is_sealing Halted = false
@@ -118,20 +112,8 @@ is_halt Halted = true
 is_halt (Root sealed) = false
 is_halt Made = false
 is_halt Heard = false
-is_halt Asked = false
-is_halt Fetched = false
 is_halt Walked = false
 is_halt Cleared = false
-
-abbrev pub is_ask : Note → Bool
-is_ask Asked = true
-is_ask (Root sealed) = false
-is_ask Made = false
-is_ask Heard = false
-is_ask Fetched = false
-is_ask Walked = false
-is_ask Cleared = false
-is_ask Halted = false
 
 abbrev pub is_walk : Note → Bool
 is_walk Walked = true
@@ -139,8 +121,6 @@ is_walk Cleared = true
 is_walk (Root sealed) = false
 is_walk Made = false
 is_walk Heard = false
-is_walk Asked = false
-is_walk Fetched = false
 is_walk Halted = false
 
 -- what a sealed log does not have
@@ -148,17 +128,12 @@ abbrev pub is_callers : Note → Bool
 is_callers Made = true
 is_callers Heard = true
 is_callers (Root sealed) = false
-is_callers Asked = false
-is_callers Fetched = false
 is_callers Walked = false
 is_callers Cleared = false
 is_callers Halted = false
 
 abbrev pub has_halted : List Item → Bool
 has_halted items = has_note is_halt items
-
-abbrev pub has_asked : List Item → Bool
-has_asked items = has_note is_ask items
 
 abbrev pub has_walked : List Item → Bool
 has_walked items = has_note is_walk items

@@ -3,6 +3,7 @@ pub mod Entries
 pub mod Gathers
 pub mod Interleavings
 pub mod Items
+pub mod Jobs
 pub mod Moves
 pub mod Seats
 pub mod Storms
@@ -11,3 +12,4 @@ pub mod Tooks
 pub mod Tries
 pub mod Views
 pub mod Writers
+pub mod Works

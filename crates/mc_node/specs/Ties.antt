@@ -10,22 +10,15 @@ use Rattle.mc_model.specs.Draining.{HasDrained, bytes_in, queue_in}
 use Rattle.mc_model.specs.Graph.{has}
 use Rattle.mc_model.specs.Wanted.{wanted}
 use Rattle.mc_core.specs.Events.{ReplicaState}
-use Rattle.mc_node.specs.Items.{Item, Shown, blocks, blocks_in, has_asked, has_halted, has_note, has_walked, is_callers, is_rooted, is_sealed, last, root, state_in, tells}
+use Rattle.mc_drain.specs.Leads.{count}
+use Rattle.mc_node.specs.Works.{Bounds, GoesBroken, HasLed, commits_in, reads_in}
+use Rattle.mc_node.specs.Items.{Item, Shown, blocks, blocks_in, has_halted, has_note, has_walked, is_callers, is_rooted, is_sealed, last, root, state_in, tells}
 
 -- the frame of calls, of which the last may have failed: what every call of a replica leaves
 pub record Goes (failed : Bool) (before now : Shown) : Type 0 where
   pub keeper : GoesAt {S = Shown} (λ s. s.told) (λ s. s.fuse) (λ s. s.own) (λ s. s.faults) (λ s. s.quiet)
       (λ s. s.schedule) failed before now
   pub stops : now.stopped ≡ (failed || before.stopped)
-
--- so many reads and commits were made, where that is known
-abbrev pub reads_in : Option Schedule → ℕ
-reads_in None = 0
-reads_in (Some schedule) = schedule.reads_made
-
-abbrev pub commits_in : Option Schedule → ℕ
-commits_in None = 0
-commits_in (Some schedule) = schedule.commits_made
 
 -- none of the calls that were made since was planned to fail
 pub record NonePlanned (old : Schedule) (new : Option Schedule) : Type 0 where
@@ -45,37 +38,35 @@ pub record GoesCalm (before now : Shown) : Type 0 where
       → NonePlanned old now.schedule
   pub runs : now.stopped ≡ before.stopped
 
--- The replica shows this after the last entry of the log: only reads have come since, and calls of the shop, if it was
--- called, which move what is wanted.
+-- The replica shows this after the last entry of the log: since then no call has failed and processed blocks stay first,
+-- and on a log that isn't sealed only reads have come; on a sealed one calls of workers may have come too.
 pub record IsMoment (log : List Item) (now : Shown) : Type 0 where
-  pub told : now.told ≡ (last log).told
-  pub fuse : now.fuse ≡ (last log).fuse
   pub own : now.own ≡ (last log).own
   pub faults : now.faults ≡ (last log).faults
   pub stopped : now.stopped ≡ (last log).stopped
-  pub run : has_asked log ≡ false → now.run ≡ (last log).run
+  pub grows : take (length (blocks log)) (blocks_in (state_in now)) ≡ blocks log
+  pub told : is_sealed log ≡ false → now.told ≡ (last log).told
+  pub fuse : is_sealed log ≡ false → now.fuse ≡ (last log).fuse
+  pub run : is_sealed log ≡ false → now.run ≡ (last log).run
 
 -- the processed blocks that an earlier part of the log shows are the first ones
 abbrev pub IsGrowing : List Item → Type 0
 IsGrowing log = (n : ℕ) → take (length (blocks (take n log))) (blocks log) ≡ blocks (take n log)
 
--- what a node is limited to: whether it may walk, how much it may process, which bytes are found, and what is stored
--- at first
-pub record Bounds : Type 0 where
-  pub walks : Bool
-  pub most : Option ℕ
-  pub found : Option Map
-  pub kept : List Cid
-
 -- no more is processed than this number, where there is one
 abbrev pub IsWithin : Option ℕ → Option ReplicaState → Type 0
-IsWithin most state = (n : ℕ) → most ≡ Some n → length (blocks_in state) ≤ n
+IsWithin most state = (n : ℕ) → most ≡ Some n → (s : ReplicaState) → state ≡ Some s → count s ≤ n
 
--- where it is known what is found, each stored block is the one that is found, and these are stored
+-- where it is known what is found, the keeper tells, each stored block is the one that is found, and these are stored
+pub record Stores (map : Map) (kept : List Cid) (state : Option ReplicaState) : Type 0 where
+  pub tells : is_some state ≡ true
+  pub found : (s : ReplicaState) → state ≡ Some s
+      → (c : Cid) (bytes : List ℕ) → bytes_in s.state.durable.graph c ≡ Some bytes → map c ≡ Some bytes
+  pub own : (s : ReplicaState) → state ≡ Some s
+      → (c : Cid) → has c kept ≡ true → is_some (bytes_in s.state.durable.graph c) ≡ true
+
 abbrev pub StoresFound : Bounds → Option ReplicaState → Type 0
-StoresFound limit state = (map : Map) → limit.found ≡ Some map → (s : ReplicaState) → state ≡ Some s
-    → ((c : Cid) (bytes : List ℕ) → bytes_in s.state.durable.graph c ≡ Some bytes → map c ≡ Some bytes)
-    × ((c : Cid) → has c limit.kept ≡ true → is_some (bytes_in s.state.durable.graph c) ≡ true)
+StoresFound limit state = (map : Map) → limit.found ≡ Some map → Stores map limit.kept state
 
 -- The tie of a log to what the replica shows now, in a form that has one proof at most.
 pub record IsTied (limit : Bounds) (now : Shown) (log : List Item) : Type 0 where
@@ -93,14 +84,19 @@ pub record IsTied (limit : Bounds) (now : Shown) (log : List Item) : Type 0 wher
   pub risen : has_halted log ≡ true → Rose (root log).faults now.faults
   -- no call of the keeper has failed before that, and none comes after
   pub calm : has_halted log ≡ false → GoesCalm (root log) now
+  -- where one has failed, none before it has
+  pub broken : has_halted log ≡ true → GoesBroken (root log) now
   pub quiet_still : has_halted log ≡ true → now.quiet ≡ (last log).quiet
   pub schedule_still : has_halted log ≡ true → now.schedule ≡ (last log).schedule
   -- nothing else changes
   pub batch : now.run.batch ≡ (root log).run.batch
   pub walk : has_walked log ≡ false → now.run.walk ≡ (root log).run.walk
   pub whole : has_walked log ≡ false → now.run.whole ≡ (root log).run.whole
-  -- a sealed log keeps to its budget
-  pub most : is_sealed log ≡ true → now.stopped ≡ false → IsWithin limit.most (state_in now)
+  -- a sealed log keeps to its bounds
+  pub worked : is_sealed log ≡ true → (r s : ReplicaState) → state_in (root log) ≡ Some r → state_in now ≡ Some s
+      → HasLed limit now.stopped r s
+  -- its keeper tells where it is known what is found
+  pub known : is_sealed log ≡ true → (map : Map) → limit.found ≡ Some map → tells log ≡ true
   -- and drains what was wanted at its root, where it is known what is found
   pub drains : is_sealed log ≡ true → now.stopped ≡ false → (map : Map) → limit.found ≡ Some map → (r s : ReplicaState)
       → state_in (root log) ≡ Some r → state_in now ≡ Some s

@@ -5,7 +5,7 @@ use Rattle.mc_base.specs.Told.{Told}
 use Rattle.mc_turn.specs.declared.view.View.{View}
 use Rattle.mc_turn.specs.Lists.{Begins, places, total}
 use Rattle.mc_node.specs.Interleavings.{StormCall, Write, calls_of, is_by, made_in, one_if, same_in}
-use Rattle.mc_node.specs.Items.{Item, Shown, has_asked, has_halted, last, last_state, root}
+use Rattle.mc_node.specs.Items.{Item, Shown, has_halted, is_sealed, last, last_state, root}
 use Rattle.mc_core.specs.declared.error.CoreError.{CoreError}
 use Rattle.mc_core.specs.declared.made.Written.{Written}
 use Rattle.mc_node.specs.Storms.{CallActs, CallFails, is_block_refusal, is_bytes}
@@ -37,16 +37,14 @@ IsOf writer t = is_by writer t.call ≡ true
 pub record GoodOver (call : StormCall) (old new : List Item) : Type 0 where
   pub open_before : has_halted old ≡ false
   pub open_after : has_halted new ≡ false
-  pub asked_same : has_asked new ≡ has_asked old
-  pub acts : has_asked old ≡ false → Told (last_state old) (last_state new) (CallActs call)
+  pub acts : is_sealed old ≡ false → Told (last_state old) (last_state new) (CallActs call)
 
 -- one that it failed
 pub record BadOver (call : StormCall) (first : Shown) (old new : List Item) : Type 0 where
   pub frame : Goes true first (last new)
   pub open_before : has_halted old ≡ false
   pub halts : has_halted new ≡ true
-  pub asked_same : has_asked new ≡ has_asked old
-  pub fails : has_asked old ≡ false → Told (last_state old) (last_state new)
+  pub fails : is_sealed old ≡ false → Told (last_state old) (last_state new)
       (CallFails call (Rose first.own (last new).own))
 
 -- the same at a place of a log

@@ -91,7 +91,7 @@ impl Keeper for Bare {
         Ok(List::new(alloc))
     }
 
-    fn elements(&mut self, alloc: Global, _key: &str) -> Result<List<ElementRow>, KeepError> {
+    fn live_elements(&mut self, alloc: Global, _key: &str) -> Result<List<ElementRow>, KeepError> {
         Ok(List::new(alloc))
     }
 

@@ -6,6 +6,7 @@ mod bare;
 mod crews;
 mod entry;
 mod error;
+mod hired;
 mod node;
 mod note;
 mod stored;
@@ -16,6 +17,7 @@ mod writing;
 
 pub use entry::Entry;
 pub use error::TryError;
+pub use hired::Hired;
 pub use node::{Node, NodeRefused, NodeSeat, Seen};
 pub use note::Note;
 pub use stored::Stored;

@@ -11,6 +11,7 @@ use mc_turn::{Seat, Story, Turn};
 mod calls;
 mod reads;
 mod seats;
+mod shop;
 
 /// A replica that threads share, beside a log of what was done with it: its value `T` is `Stored<K, J>`. Each call of a
 /// thread takes the turn, makes one call of the replica and gives the turn back.

@@ -12,10 +12,6 @@ pub enum Note {
     Made,
     /// A message was heard.
     Heard,
-    /// The shop was called.
-    Asked,
-    /// A fetched block was processed.
-    Fetched,
     /// A step of a walk was made.
     Walked,
     /// A walk's end was committed.

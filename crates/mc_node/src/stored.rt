@@ -12,6 +12,7 @@ use std::marker::PhantomData;
 
 mod calls;
 mod entries;
+mod jobs;
 mod making;
 mod reads;
 

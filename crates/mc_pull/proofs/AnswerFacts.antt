@@ -1,6 +1,5 @@
 -- The answer of a work and of a repair over peers, from what the drain came to.
-use Rattle.std.proofs.Common.{◌≡◌, ◌↔◌, ℕ, Bool, true, false, cond, List, [], Option, Some, None, Result, Ok, Err, refl, sym, ap, ◌∙◌, subst}
-use Rattle.std.specs.Prelude.{⊤}
+use Rattle.std.proofs.Common.{◌≡◌, ◌↔◌, ℕ, Bool, true, false, Option, Some, None, Result, Ok, Err, refl, sym, ap, ◌∙◌, subst}
 use Rattle.std.proofs.lemmas.Bool.{false≢true}
 use Rattle.mc_base.specs.Told.{Told}
 use Rattle.mc_fetch.specs.Fits.{Map}
@@ -9,12 +8,10 @@ use Rattle.mc_core.specs.Events.{ReplicaState}
 use Rattle.mc_drain.specs.Repairs.{RepairLeads, RepairWants, has_walked}
 use Rattle.mc_drain.specs.Works.{GivesUp, WorkLeads, WorkWants, keeper_broke, peer_broke}
 use Rattle.mc_drain.specs.declared.repairing.Repaired.{Repaired}
-use Rattle.mc_drain.specs.declared.repairing.Repaired.TheVariants.{Clean, Open, Again as RepairAgain}
 use Rattle.mc_drain.specs.declared.working.WorkError.{WorkError}
 use Rattle.mc_drain.specs.declared.working.WorkError.TheVariants.{KeeperFault, PeerFault, Stopped, Memory}
 use Rattle.mc_drain.specs.declared.working.Worked.{Worked}
-use Rattle.mc_drain.specs.declared.working.Worked.TheVariants.{Done, Again}
-use Rattle.mc_pull.specs.Answers.{answered, error_by}
+use Rattle.mc_pull.specs.Answers.{answered}
 
 -- ---- what the answer says
 

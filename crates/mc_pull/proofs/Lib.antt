@@ -1,2 +1,4 @@
-mod AnswerFacts
-mod DeskFacts
+pub mod AnswerFacts
+pub mod DeskFacts
+pub mod RiseFacts
+pub mod PullFacts

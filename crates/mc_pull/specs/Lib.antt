@@ -1,3 +1,3 @@
 pub mod Answers
-pub mod Loans
 pub mod Pulls
+pub mod Shows

@@ -1,10 +1,10 @@
-//! A replica pulls what it wants from its peers, on the caller's thread: a desk of each is lent for the time, and comes
-//! back to its place.
+//! A replica pulls what it wants from its peers, with workers beside one another: desks of each are lent for the time, and
+//! come back to their places.
 #![tactic(auto)]
 
 mod answers;
-mod desks;
 mod repairing;
+mod shows;
 mod working;
 
 pub use repairing::repair;

@@ -1,5 +1,5 @@
 // A work of the wanted blocks of a replica, over its peers.
-ghost use Rattle.std.specs.Prelude.{◌≡◌, ◌↔◌, true, Err};
+ghost use Rattle.std.specs.Prelude.{◌≡◌, ◌≤◌, ◌↔◌, true, Err};
 ghost use Rattle.mc_queue.specs.Views.{shown};
 ghost use Rattle.mc_core.specs.Exact.{RestSame};
 ghost use Rattle.mc_core.specs.Words.{Becomes, Continues};
@@ -8,45 +8,65 @@ ghost use Rattle.mc_lend.specs.Lending.{HaveDesks, marks_of};
 ghost use Rattle.mc_pull.specs.Pulls.{DeskRose, DesksGo, found_at};
 
 use crate::answers::answer;
-use crate::desks::{give_desks, take_desks};
-use mc_base::{Counted, List};
+use crate::shows::all_show;
+use mc_base::List;
 use mc_core::Replica;
 use mc_drain::{WorkError, Worked, give_up};
 use mc_keep::Keeper;
-use mc_lend::Site;
+use mc_lend::{Lent, Site, lend, take_back};
+use mc_worker::Gate;
 use std::alloc::{AllocError, Global};
 use std::sync::Wait;
+use std::thread::Threads;
 
-/// Works through the wanted blocks of a replica on the caller's thread, as `mc_drain::work` does, and fetches from the
-/// sites that are peers, in order: of each its planted offer, and then its stored block, which is read through the first
-/// of its desks. The sites and the lists of their desks are in one order. Each desk comes back to its place. `PeerFault`
-/// comes only where a desk of a peer has failed in this call, and after `Memory`, which may be that of the desks too,
-/// nothing is in flight.
-pub fn work<'a, K: Keeper, W: Wait>(
+/// Works through the wanted blocks of a replica with so many workers beside one another, each in a thread of its own, as
+/// `mc_crew::work` does, and gives the replica back. The workers fetch from the sites that are peers, in order: of each
+/// its planted offer, and then its stored block, which each worker reads through a desk of its own, the first worker
+/// through the first one. The sites and the lists of their desks are in one order. Each desk comes back to its place.
+/// `PeerFault` comes only where a desk of a peer has failed in this call, and after `Memory`, which may be that of the
+/// desks too, nothing is in flight.
+///
+/// Conditions: 1 to 16 workers, and as many desks of each peer.
+pub fn work<'a, K: Keeper + Send + Sync, G: Gate + Sync, T: Threads + Sync, W: Wait + Sync>(
     alloc: Global,
-    replica: &mut Replica<K>,
+    replica: Replica<K>,
     sites: &[Site<'a, K>],
     desks: &mut [List<K::Desk>],
+    workers: u64,
     budget: u64,
+    gate: &G,
+    threads: &T,
     wait: &W,
-) -> Result<Worked, WorkError>
-    requires desked { HaveDesks 1 (marks_of sites.now) desks.old }
-    ensures leads { Becomes K.Keeper (λ rose s new. WorkLeads budget (found_at K.told sites.now) result s new)
-        replica.old replica.new }
-    ensures keeps { Continues K.Keeper (keeper_broke result) replica.old replica.new }
-    ensures rest { RestSame replica.old replica.new }
-    ensures stopped { result ≡ Err WorkError.Stopped ↔ replica.old.stopped ≡ true }
-    ensures still { replica.old.stopped ≡ true → replica.new ≡ replica.old }
-    ensures wants { WorkWants result (shown replica.new.queue) }
+) -> (Replica<K>, Result<Worked, WorkError>)
+where
+    K::Desk: Send,
+    requires some { 1 ≤ workers }
+    requires few { workers ≤ 16 }
+    requires desked { HaveDesks workers (marks_of sites.now) desks.old }
+    ensures leads { Becomes K.Keeper (λ rose s new. WorkLeads budget (found_at K.told sites.now) result.1 s new)
+        replica result.0 }
+    ensures keeps { Continues K.Keeper (keeper_broke result.1) replica result.0 }
+    ensures rest { RestSame replica result.0 }
+    ensures stopped { result.1 ≡ Err WorkError.Stopped ↔ replica.stopped ≡ true }
+    ensures still { replica.stopped ≡ true → result.0 ≡ replica }
+    ensures wants { WorkWants result.1 (shown result.0.queue) }
     ensures desks { DesksGo K.Keeper K.Desk.faults sites.now desks.old desks.new }
-    ensures peers { peer_broke result ≡ true → DeskRose K.Desk.faults (marks_of sites.now) desks.old desks.new }
+    ensures peers { peer_broke result.1 ≡ true → DeskRose K.Desk.faults (marks_of sites.now) desks.old desks.new }
 {
-    let mut loan = match take_desks(alloc, sites, desks) {
-        Ok(loan) => loan,
-        Err(AllocError) => return Err(give_up(replica)),
+    let Lent { fetches, rows } = match lend(alloc, sites, desks, workers as usize) {
+        Ok(lent) => lent,
+        Err(AllocError) => {
+            let mut replica = replica;
+            let why = give_up(&mut replica);
+            return (replica, Err(why));
+        }
     };
-    let shows = loan.fetch.faults() < u64::MAX;
-    let drained = mc_drain::work(alloc, replica, &mut loan.fetch, budget, wait);
-    give_desks(sites, desks, loan);
-    answer(drained, shows)
+    let fetches = fetches.into_vec();
+    let shows = all_show(fetches.as_slice());
+    let (replica, fetches, drained) = mc_crew::work(
+        alloc, replica, fetches, budget, gate, threads, wait,
+    );
+    let fetches = List::from_vec(fetches);
+    take_back(sites, desks, Lent { fetches, rows });
+    (replica, answer(drained, shows))
 }

@@ -8,6 +8,7 @@ use Rattle.std.proofs.lemmas.List.Concat.{flat_map-append}
 use Rattle.std.proofs.lemmas.List.Elements.{filter-append}
 use Rattle.std.proofs.lemmas.List.{append-nil}
 use Rattle.std.proofs.lemmas.Slice.Eq.{bytes_eq-Decides}
+use Rattle.std.proofs.Math.Bool.{or-false}
 use Rattle.std.proofs.lemmas.Bool.{or_parts, or_right}
 use Rattle.mc_base.specs.declared.cid.Cid.{Cid}
 use Rattle.mc_model.specs.declared.block.Block.{Block}
@@ -22,7 +23,7 @@ use Rattle.mc_keep.specs.declared.rows.ElementRow.{ElementRow}
 use Rattle.mc_keep.specs.declared.rows.TombRow.{TombRow}
 use Rattle.mc_keep.specs.Changes.{has_tomb_row}
 use Rattle.mc_keep.specs.Tables.{element_row, element_rows, element_rows_of}
-use Rattle.mc_keep.specs.Live.{ranked_of, is_row_of, live_row, live_rows, HoldsValue}
+use Rattle.mc_keep.specs.Live.{ranked_of, is_row_of, is_shown, live_element_rows, live_row, live_rows, HoldsValue}
 use Rattle.mc_keep.proofs.Lives.{live_rows-element_rows_of, live_rows_any}
 use Rattle.mc_rows.specs.Live.{hides, rows_with, has_element_of, has_tomb_of, new_row, row_from, Stands}
 
@@ -50,9 +51,6 @@ nothing_lives h h' more (r ∷ rows) e =
     is_empty : List Ranked → Bool
     is_empty [] = true
     is_empty (x ∷ xs) = false
-
-same_before : {A : Type 0} (xs ys back : List A) → SameMembers xs ys → SameMembers (xs ++ back) (ys ++ back)
-same_before xs ys back same = record { same = λ test. list_any-append test xs back ∙ ap (λ front. front || list_any test back) (same.same test) ∙ sym (list_any-append test ys back) }
 
 -- the new row of a key is its value row over all blocks
 pub new_row_is : (blocks more : List Block) (elements : List ElementRow) (tombs : List TombRow) (key : List ℕ) → SameMembers elements (element_rows more)
@@ -141,14 +139,31 @@ held_row_stands blocks tombs key cid holds none =
         or_more true b c up f = refl
         or_more false b c up f = up f
 
--- the row from all old rows, and then the new ones
-pub row_anew : (blocks : List Block) (tombs : List TombRow) (key : List ℕ) (rows run : List ElementRow) → SameMembers rows (element_rows_of blocks key)
-    → fold greater (greatest (live_rows (hides blocks tombs key) rows)) (live_rows (hides blocks tombs key) run) ≡ row_from blocks run tombs key
+-- what the new tombstones leave of the rows that were live
+live_shown : (blocks : List Block) (tombs : List TombRow) (key : List ℕ) (rows : List ElementRow) → live_rows (has_tomb_row tombs key) (filter (is_shown blocks key) rows) ≡ live_rows (hides blocks tombs key) rows
+live_shown blocks tombs key [] = refl
+live_shown blocks tombs key (r ∷ rows) =
+    elim (has_tomb blocks key (id_text r.cid.0)) as (λ b. live_rows (has_tomb_row tombs key) (cond (not b) (r ∷ filter (is_shown blocks key) rows) (filter (is_shown blocks key) rows))
+    ≡ cond (has_tomb_row tombs key (id_text r.cid.0) || b) [] (ranked_of r ∷ []) ++ live_rows (hides blocks tombs key) rows) [
+      | true ↦ live_shown blocks tombs key rows ∙ sym (gone (has_tomb_row tombs key (id_text r.cid.0)))
+      | false ↦
+          ap (λ rest. live_row (has_tomb_row tombs key) r ++ rest) (live_shown blocks tombs key rows)
+          ∙ ap (λ t. cond t [] (ranked_of r ∷ []) ++ live_rows (hides blocks tombs key) rows) (sym (or-false (has_tomb_row tombs key (id_text r.cid.0))))
+    ]
+  where
+    gone : (t : Bool) → cond (t || true) [] (ranked_of r ∷ []) ++ live_rows (hides blocks tombs key) rows ≡ live_rows (hides blocks tombs key) rows
+    gone true = refl
+    gone false = refl
+
+-- the row from all live old rows, and then the new ones
+pub row_anew : (blocks : List Block) (tombs : List TombRow) (key : List ℕ) (rows run : List ElementRow) → SameMembers rows (live_element_rows blocks key)
+    → fold greater (greatest (live_rows (has_tomb_row tombs key) rows)) (live_rows (hides blocks tombs key) run) ≡ row_from blocks run tombs key
 row_anew blocks tombs key rows run same =
-    sym (greatest-append (live_rows (hides blocks tombs key) rows) (live_rows (hides blocks tombs key) run))
-    ∙ ap greatest (sym (flat_map-append (live_row (hides blocks tombs key)) rows run))
-    ∙ greatest_same (live_rows (hides blocks tombs key) (rows ++ run)) (live_rows (hides blocks tombs key) (element_rows_of blocks key ++ run))
-    (same_flat_map (live_row (hides blocks tombs key)) _ _ (same_before rows (element_rows_of blocks key) run same))
+    ap (λ (old : Option Ranked). fold greater old (live_rows (hides blocks tombs key) run))
+    (greatest_same (live_rows (has_tomb_row tombs key) rows) (live_rows (has_tomb_row tombs key) (live_element_rows blocks key)) (same_flat_map (live_row (has_tomb_row tombs key)) _ _ same)
+    ∙ ap greatest (live_shown blocks tombs key (element_rows_of blocks key)))
+    ∙ sym (greatest-append (live_rows (hides blocks tombs key) (element_rows_of blocks key)) (live_rows (hides blocks tombs key) run))
+    ∙ ap greatest (sym (flat_map-append (live_row (hides blocks tombs key)) (element_rows_of blocks key) run))
 
 -- the row from the old one, and then the new ones
 pub row_on : (blocks : List Block) (tombs : List TombRow) (key : List ℕ) (run : List ElementRow) → Stands blocks tombs key

@@ -13,10 +13,10 @@ use Rattle.mc_keep.specs.declared.rows.ElementRow.{ElementRow}
 use Rattle.mc_keep.specs.declared.rows.TombRow.{TombRow}
 use Rattle.mc_keep.specs.declared.rows.ValueRow.{ValueRow}
 use Rattle.mc_keep.specs.declared.changes.ValueChange.{ValueChange}
-use Rattle.mc_keep.specs.Changes.{ranked_row}
+use Rattle.mc_keep.specs.Changes.{has_tomb_row, ranked_row}
 use Rattle.mc_keep.specs.ElementOrder.{element_cmp}
-use Rattle.mc_keep.specs.Tables.{IsValueRow, element_rows_of}
-use Rattle.mc_keep.specs.Live.{live_row, live_rows}
+use Rattle.mc_keep.specs.Tables.{IsValueRow}
+use Rattle.mc_keep.specs.Live.{live_element_rows, live_row, live_rows}
 use Rattle.mc_rows.specs.Live.{hides, row_from, Stands}
 use Rattle.mc_rows.specs.Values.{IsChange}
 use Rattle.mc_rows.proofs.Lives.{row_anew, row_on}
@@ -29,25 +29,29 @@ changed_so : (key : List ℕ) (old old' new new' : Option Ranked) (change : Opti
 changed_so key old old' new new' change e f is = subst (λ z. IsChange key old' z change) f (subst (λ z. IsChange key z new change) e is)
 
 -- the greatest with one more row
+pub one_more : (hidden : List ℕ → Bool) (start now new : Option Ranked) (before rows : List ElementRow) (row : ElementRow) → rows ≡ before ++ row ∷ []
+    → now ≡ fold greater start (live_rows hidden before) → new ≡ fold greater now (live_row hidden row) → new ≡ fold greater start (live_rows hidden rows)
+one_more hidden start now new before rows row more first next =
+    next
+    ∙ ap (λ (best : Option Ranked). fold greater best (live_row hidden row)) first
+    ∙ sym (fold-append greater start (live_rows hidden before) (live_row hidden row))
+    ∙ ap (λ (live : List Ranked). fold greater start (live_rows hidden before ++ live)) (sym (append-nil (live_row hidden row)))
+    ∙ ap (fold greater start) (sym (flat_map-append (live_row hidden) before (row ∷ [])))
+    ∙ ap (λ (z : List ElementRow). fold greater start (live_rows hidden z)) (sym more)
+
 pub row_more : (told : Option Kept) (hidden : Kept → List ℕ → Bool) (start now new : Option Ranked) (before rows : List ElementRow) (row : ElementRow)
     → rows ≡ before ++ row ∷ []
     → IfSome told (λ kept. now ≡ fold greater start (live_rows (hidden kept) before))
     → IfSome told (λ kept. new ≡ fold greater now (live_row (hidden kept) row))
     → IfSome told (λ kept. new ≡ fold greater start (live_rows (hidden kept) rows))
 row_more None hidden start now new before rows row more first next = tt
-row_more (Some kept) hidden start now new before rows row more first next =
-    next
-    ∙ ap (λ (best : Option Ranked). fold greater best (live_row (hidden kept) row)) first
-    ∙ sym (fold-append greater start (live_rows (hidden kept) before) (live_row (hidden kept) row))
-    ∙ ap (λ (live : List Ranked). fold greater start (live_rows (hidden kept) before ++ live)) (sym (append-nil (live_row (hidden kept) row)))
-    ∙ ap (fold greater start) (sym (flat_map-append (live_row (hidden kept)) before (row ∷ [])))
-    ∙ ap (λ (z : List ElementRow). fold greater start (live_rows (hidden kept) z)) (sym more)
+row_more (Some kept) hidden start now new before rows row more first next = one_more (hidden kept) start now new before rows row more first next
 
--- a change that was made from all rows of the key
+-- a change that was made from all live rows of the key
 pub anew_told : (told : Option Kept) (run : List ElementRow) (tombs : List TombRow) (key : List ℕ) (old : Option ValueRow) (rows : List ElementRow) (best found : Option Ranked) (change : Option ValueChange)
     → IfSome told (λ kept. IsValueRow (processed kept) key old)
-    → IfSome told (λ kept. Ascends element_cmp rows (element_rows_of (processed kept) key))
-    → IfSome told (λ kept. best ≡ greatest (live_rows (hides (processed kept) tombs key) rows))
+    → IfSome told (λ kept. Ascends element_cmp rows (live_element_rows (processed kept) key))
+    → best ≡ greatest (live_rows (has_tomb_row tombs key) rows)
     → IfSome told (λ kept. found ≡ fold greater best (live_rows (hides (processed kept) tombs key) run))
     → IsChange key (ranked_row old) found change
     → IfSome told (λ kept. IsChange key (value_row (processed kept) key) (row_from (processed kept) run tombs key) change)

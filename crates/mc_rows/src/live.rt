@@ -1,12 +1,12 @@
 // The greatest of the rows of a key that no tombstone hides.
-ghost use Rattle.std.specs.Prelude.{◌≡◌, fold, IfSome, IfOk, Some};
+ghost use Rattle.std.specs.Prelude.{◌≡◌, fold, IfOk, Some};
 ghost use Rattle.std.specs.Result.{is_err};
 ghost use Rattle.std.specs.List.Sorted.{IsStrictlySortedBy};
 ghost use Rattle.mc_model.specs.Kept.{processed};
 ghost use Rattle.mc_model.specs.Rank.{greater, greatest};
 ghost use Rattle.mc_keep.specs.Calls.{Reads};
 ghost use Rattle.mc_keep.specs.Causes.{IfTold};
-ghost use Rattle.mc_keep.specs.Plan.{is_fault};
+ghost use Rattle.mc_keep.specs.Changes.{has_tomb_row};
 ghost use Rattle.mc_rows.specs.Rows.{new_tomb_cmp, row_of, rows_of, tombs_of};
 ghost use Rattle.mc_keep.specs.Live.{live_row, live_rows};
 ghost use Rattle.mc_rows.specs.Live.{hides};
@@ -18,9 +18,9 @@ use crate::elements::NewElement;
 use crate::search::has_tomb;
 use crate::tombs::NewTomb;
 use mc_base::{Cid, Failed};
-use mc_keep::{ElementRow, KeepError, Keeper};
+use mc_keep::{ElementRow, Keeper};
 use mc_model::id_of;
-use std::alloc::Global;
+use std::alloc::{AllocError, Global};
 
 // Whether a tombstone, of the group or of a processed block, hides the elements of the key in the block with this id.
 fn is_hidden<K: Keeper>(
@@ -40,28 +40,26 @@ fn is_hidden<K: Keeper>(
     keeper.hidden(key, id)
 }
 
-// Whether the elements of the key in a block are hidden.
+// Whether a tombstone of the group hides the elements of the key in a block.
 #[derive(Clone, Copy)]
 pub(crate) struct Seen {
     pub(crate) cid: Cid,
     pub(crate) hidden: bool,
 }
 
-// The same of a processed block. Its id is made only where the block is not the one that was seen last.
-fn see<K: Keeper>(
-    keeper: &mut K,
+// Whether a tombstone of the group hides the elements of the key in a processed block. The block's id is made only where
+// it is not the one that was seen last.
+fn see(
     alloc: Global,
     key: &str,
     cid: &Cid,
     tombs: &[NewTomb<'_>],
     last: Option<Seen>,
-) -> Result<Seen, KeepError>
+) -> Result<Seen, AllocError>
     requires sorted { IsStrictlySortedBy new_tomb_cmp tombs.now }
-    requires last { IfSome (K.told keeper.old) (λ kept. SeenFits (processed kept) (tombs_of tombs.now) key.now last) }
-    ensures seen { IfTold (K.told keeper.old) result (λ kept seen.
-        SeenFits (processed kept) (tombs_of tombs.now) key.now (Some seen)) }
+    requires last { SeenFits (tombs_of tombs.now) key.now last }
+    ensures seen { IfOk result (λ seen. SeenFits (tombs_of tombs.now) key.now (Some seen)) }
     ensures cid { IfOk result (λ seen. seen.cid ≡ cid.now) }
-    ensures reads { Reads K.Keeper (is_fault result) keeper.old keeper.new }
 {
     if let Some(seen) = last {
         if seen.cid == *cid {
@@ -72,51 +70,44 @@ fn see<K: Keeper>(
         }
     }
     let id = id_of(alloc, cid)?;
-    let hidden = is_hidden(keeper, key, id.as_str(), tombs)?;
+    let hidden = has_tomb(tombs, key, id.as_str());
     Ok(Seen { cid: *cid, hidden })
 }
 
-// The greatest of these rows of the key, which are of processed blocks. Just those above all before are looked for in
-// the tombstones.
-pub(crate) fn best_of_old<'a, K: Keeper>(
-    keeper: &mut K,
+// The greatest of these live rows of the key, which are of processed blocks, that no tombstone of the group hides. Just
+// those above all before are looked for in the tombstones.
+pub(crate) fn best_of_old<'a>(
     alloc: Global,
     key: &str,
     rows: &'a [ElementRow],
     tombs: &[NewTomb<'_>],
-) -> Result<Option<Best<'a>>, KeepError>
+) -> Result<Option<Best<'a>>, AllocError>
     requires sorted { IsStrictlySortedBy new_tomb_cmp tombs.now }
-    ensures best { IfTold (K.told keeper.old) result (λ kept best.
-        ranked_best best ≡ greatest (live_rows (hides (processed kept) (tombs_of tombs.now) key.now) rows.now)) }
-    ensures reads { Reads K.Keeper (is_fault result) keeper.old keeper.new }
+    ensures best { IfOk result (λ best.
+        ranked_best best ≡ greatest (live_rows (has_tomb_row (tombs_of tombs.now) key.now) rows.now)) }
 {
     let mut best = None;
     let mut last = None;
     for row in rows {
-        best = with_old(keeper, alloc, key, row, tombs, &mut last, best)?;
+        best = with_old(alloc, key, row, tombs, &mut last, best)?;
     }
     Ok(best)
 }
 
 // The same with one more row.
-fn with_old<'a, K: Keeper>(
-    keeper: &mut K,
+fn with_old<'a>(
     alloc: Global,
     key: &str,
     row: &'a ElementRow,
     tombs: &[NewTomb<'_>],
     last: &mut Option<Seen>,
     best: Option<Best<'a>>,
-) -> Result<Option<Best<'a>>, KeepError>
+) -> Result<Option<Best<'a>>, AllocError>
     requires sorted { IsStrictlySortedBy new_tomb_cmp tombs.now }
-    requires last { IfSome (K.told keeper.old) (λ kept.
-        SeenFits (processed kept) (tombs_of tombs.now) key.now last.old) }
-    ensures best { IfTold (K.told keeper.old) result (λ kept found.
-        ranked_best found ≡ fold greater (ranked_best best.entry)
-        (live_row (hides (processed kept) (tombs_of tombs.now) key.now) row.now)) }
-    ensures last { IfSome (K.told keeper.old) (λ kept.
-        SeenFits (processed kept) (tombs_of tombs.now) key.now last.new) }
-    ensures reads { Reads K.Keeper (is_fault result) keeper.old keeper.new }
+    requires last { SeenFits (tombs_of tombs.now) key.now last.old }
+    ensures best { IfOk result (λ found. ranked_best found ≡ fold greater (ranked_best best.entry)
+        (live_row (has_tomb_row (tombs_of tombs.now) key.now) row.now)) }
+    ensures last { SeenFits (tombs_of tombs.now) key.now last.new }
 {
     let next = Best {
         priority: row.priority,
@@ -125,7 +116,7 @@ fn with_old<'a, K: Keeper>(
     if !is_above(best, next) {
         return Ok(best);
     }
-    let seen = see(keeper, alloc, key, &row.cid, tombs, *last)?;
+    let seen = see(alloc, key, &row.cid, tombs, *last)?;
     *last = Some(seen);
     if seen.hidden {
         return Ok(best);

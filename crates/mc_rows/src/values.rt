@@ -75,7 +75,7 @@ fn is_hidden_anew<K: Keeper>(
     Ok(has_tomb(tombs, key, id.as_str()))
 }
 
-// The change where a new tombstone hides what was the value: all rows of the key are looked at. Nothing else reads
+// The change where a new tombstone hides what was the value: all live rows of the key are looked at. Nothing else reads
 // them.
 fn change_anew<K: Keeper>(
     keeper: &mut K,
@@ -93,8 +93,8 @@ fn change_anew<K: Keeper>(
         (row_from (processed kept) (rows_of elements.now) (tombs_of tombs.now) key.now) change) }
     ensures reads { Reads K.Keeper (is_fault result) keeper.old keeper.new }
 {
-    let rows = keeper.elements(alloc, key)?;
-    let best = best_of_old(keeper, alloc, key, rows.as_slice(), tombs)?;
+    let rows = keeper.live_elements(alloc, key)?;
+    let best = best_of_old(alloc, key, rows.as_slice(), tombs)?;
     let found = best_with_new(keeper, key, elements, tombs, best)?;
     Ok(change_to(alloc, key, old, found)?)
 }

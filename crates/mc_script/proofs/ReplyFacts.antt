@@ -35,7 +35,7 @@ cut c [] = ([], [])
 cut c (byte ∷ bytes) = if byte == c then ([], bytes) else (byte ∷ (cut c bytes).0, (cut c bytes).1)
 
 -- every byte is above the space
-abbrev is_graphic : List ℕ → Bool
+abbrev pub is_graphic : List ℕ → Bool
 is_graphic word = list_all (λ byte. nat_lt 32 byte) word
 
 cut_at : (c : ℕ) (word rest : List ℕ) → c ≤ 32 → is_graphic word ≡ true → cut c (word ++ c ∷ rest) ≡ (word, rest)
@@ -67,7 +67,7 @@ graphic_digits (byte ∷ word) all =
 own : IsNumeralModel (λ ds. all_ascii_digits ds ≡ true) (digits_value 10)
 own = numerals_by_value _ tells_all_ascii_digits
 
-graphic_decimal : (number : ℕ) → IsWide number → is_graphic (decimal number) ≡ true
+pub graphic_decimal : (number : ℕ) → IsWide number → is_graphic (decimal number) ≡ true
 graphic_decimal number wide = graphic_digits (decimal number) (own.from (decimal number) (decimal_is_IsNumeral number wide).0.1)
 
 graphic_hex_digits : (word : List ℕ) → AllPass is_hex_digit word → is_graphic word ≡ true
@@ -78,7 +78,7 @@ graphic_hex_digits (byte ∷ word) all =
     one : (byte : ℕ) → is_hex_digit byte ≡ true → nat_lt 32 byte ≡ true
     one byte digit = elim (cases_lt 32 byte) [ inl above ↦ lt-ltb 32 byte above | inr below ↦ absurd (grind (arith, nat_tests)) ]
 
-graphic_hex : (bytes : List ℕ) → IsBytes bytes → is_graphic (hex_text bytes) ≡ true
+pub graphic_hex : (bytes : List ℕ) → IsBytes bytes → is_graphic (hex_text bytes) ≡ true
 graphic_hex [] are = refl
 graphic_hex (byte ∷ bytes) are = graphic_hex_digits (encode_lower (byte ∷ bytes)) (decode_of-ok (encode_lower (byte ∷ bytes)) (byte ∷ bytes) (decode_of-encode_lower (byte ∷ bytes) are)).1
 

@@ -10,7 +10,7 @@ ghost use Rattle.mc_keep.specs.Causes.{IfTold};
 use crate::given::{empty, process_changes, store_of};
 use mc_base::{Bytes, Cid, Counted, List, Text};
 use mc_block::{read_block, write_block};
-use mc_keep::{HeadRow, KeepError, Keeper, changes_fit};
+use mc_keep::{ElementRow, HeadRow, KeepError, Keeper, changes_fit};
 use mc_keep_mem::{FaultPlan, MemKeeper};
 use mc_model::{Block, Delta, Element, Tomb, id_of};
 use std::alloc::{AllocError, Global};
@@ -259,17 +259,19 @@ fn has_block<K: Keeper>(
     )
 }
 
-// Whether both blocks have an element row of the key, and just the second a tombstone.
+// Whether just the first block has a live element row of the key, and just the second a tombstone.
 fn has_rows<K: Keeper>(
     keeper: &mut K,
     alloc: Global,
     kept: &Cid,
     hidden: &Cid,
 ) -> Result<bool, KeepError> {
-    let rows = keeper.elements(alloc, "/k")?;
-    let none = keeper.elements(alloc, "/")?;
+    let rows = keeper.live_elements(alloc, "/k")?;
+    let again = keeper.live_elements(alloc, "/k")?;
+    let none = keeper.live_elements(alloc, "/")?;
     Ok(
-        rows.len() == 2
+        is_one_of(rows.as_slice(), kept)
+            && is_one_of(again.as_slice(), kept)
             && none.len() == 0
             && keeper.hidden("/k", id_of(alloc, hidden)?.as_str())?
             && !keeper.hidden("/k", id_of(alloc, kept)?.as_str())?
@@ -277,6 +279,14 @@ fn has_rows<K: Keeper>(
             && keeper.holder(alloc, "/k")? == Some(*kept)
             && keeper.holder(alloc, "/")?.is_none(),
     )
+}
+
+// Whether there is one row, of this block.
+fn is_one_of(rows: &[ElementRow], cid: &Cid) -> bool {
+    match rows {
+        [row] => row.cid == *cid,
+        _ => false,
+    }
 }
 
 // Whether the one key with a value is that of the examples.

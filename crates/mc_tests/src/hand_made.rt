@@ -3,6 +3,7 @@ ghost use Rattle.std.specs.Prelude.{◌≡◌, None, false};
 
 use mc_base::{Bytes, Cid, Counted, Failed, List, Text};
 use mc_keep::{Changes, ElementRow, HeadRow, KeepError, Keeper, Summary, ValueRow};
+use mc_model::id_of;
 use mc_query::Pair;
 use std::alloc::{AllocError, Global};
 use std::sync::Wait;
@@ -137,10 +138,17 @@ pub fn cid_of(number: u64) -> Cid {
     Cid(digest)
 }
 
-fn elements_of(alloc: Global, key: &str, count: u64) -> Result<List<ElementRow>, AllocError> {
+fn elements_of(
+    alloc: Global,
+    key: &str,
+    count: u64,
+    hidden: &str,
+) -> Result<List<ElementRow>, AllocError> {
     let mut rows = List::new(alloc);
     for number in 1..=count {
-        rows.push(element_of(alloc, key, number)?)?;
+        if id_of(alloc, &cid_of(number))?.as_str() != hidden {
+            rows.push(element_of(alloc, key, number)?)?;
+        }
     }
     Ok(rows)
 }
@@ -229,8 +237,8 @@ impl Keeper for HandMade {
         Ok(one_head(alloc, self.count)?)
     }
 
-    fn elements(&mut self, alloc: Global, key: &str) -> Result<List<ElementRow>, KeepError> {
-        Ok(elements_of(alloc, key, self.count)?)
+    fn live_elements(&mut self, alloc: Global, key: &str) -> Result<List<ElementRow>, KeepError> {
+        Ok(elements_of(alloc, key, self.count, self.hidden.as_str())?)
     }
 
     fn hidden(&mut self, _key: &str, id: &str) -> Result<bool, Failed> {

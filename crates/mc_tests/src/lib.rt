@@ -6,6 +6,8 @@
 #[cfg(test)]
 mod commits;
 #[cfg(test)]
+mod crews;
+#[cfg(test)]
 mod deltas;
 #[cfg(test)]
 mod drains;

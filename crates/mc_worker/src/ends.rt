@@ -38,8 +38,8 @@ pub enum HandEnd {
     Memory,
 }
 
-// The end of the same name.
-pub(crate) fn end_of(error: ShopError) -> HandEnd
+/// The end of the same name: how a seat tells of a call that gave no answer, and why its worker ends.
+pub fn end_of(error: ShopError) -> HandEnd
     ensures { result ≡ end_of error }
 {
     match error {

@@ -8,7 +8,7 @@ mod lookup;
 mod shop;
 mod turns;
 
-pub use ends::{HandEnd, ShopError};
+pub use ends::{HandEnd, ShopError, end_of};
 pub use gate::{Gate, Open};
 pub use hands::{Hand, run_workers};
 pub use lookup::look_up;

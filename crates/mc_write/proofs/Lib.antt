@@ -6,5 +6,4 @@ pub mod LengthFacts
 pub mod Membership
 pub mod PairFacts
 pub mod RowOrder
-pub mod ShownFacts
 pub mod TakenFacts

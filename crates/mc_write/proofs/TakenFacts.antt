@@ -32,10 +32,11 @@ use Rattle.mc_model.proofs.Counts.{cid_is, cid_itself}
 use Rattle.mc_model.proofs.Greatest.{rank_tied, gt_lt}
 use Rattle.mc_keep.specs.declared.rows.ElementRow.{ElementRow}
 use Rattle.mc_keep.specs.ElementOrder.{element_cmp, element_total}
+use Rattle.mc_keep.specs.Live.{is_shown, live_element_rows}
 use Rattle.mc_keep.specs.Tables.{element_row, element_rows, element_rows_of}
 use Rattle.mc_keep.proofs.ElementTies.{element_tied}
 use Rattle.mc_write.specs.PairOrder.{pair_total}
-use Rattle.mc_write.specs.Rows.{same_block, last_rows, is_shown}
+use Rattle.mc_write.specs.Rows.{same_block, last_rows}
 use Rattle.mc_write.specs.Seen.{row_pair}
 use Rattle.mc_write.proofs.Membership.{In, any_from_in, in_from_any, in_same, in_map, from_map, in_filter, from_filter, in_flat_map, from_flat_map, in_filter_map, from_filter_map}
 use Rattle.mc_write.proofs.PairFacts.{pair_tied}
@@ -152,21 +153,34 @@ element_of_pair blocks key block pair e = (elim (is_hidden blocks key block) as 
         let kept = from_filter (λ (element : Element). bytes_eq element.key key) element block.delta.elements (subst (In element) (sym same) (inl refl)) in
         (element, kept.0, kept.1)
 
--- the rows that are kept, of all rows of a key over the blocks of a keeper
-module _ (graph : List Stored) (order : List Cid) (key : List ℕ) (rows : List ElementRow) (ascends : Ascends element_cmp rows (element_rows_of (blocks_in graph order) key)) where
-  to_rows : (row : ElementRow) → In row (element_rows_of (blocks_in graph order) key) → In row rows
-  to_rows row i = in_same (eq_by_cmp element_cmp) itself_row tied_rows (element_rows_of (blocks_in graph order) key) rows (record { same = λ test. sym (ascends.members.same test) }) row i
+-- no tombstone hides the block of a pair
+shown_of_pair : (blocks : List Block) (key : List ℕ) (block : Block) (pair : Pair) → pair_in blocks key block ≡ Some pair → not (has_tomb blocks key (id_text block.cid.0)) ≡ true
+shown_of_pair blocks key block pair e = (elim (is_hidden blocks key block) as (λ t. option_map (λ (ranked : Ranked). record { priority = ranked.0; value = ranked.1; cid = block.cid }) (greatest (cond t [] (ranked_in key block) ++ [])) ≡ Some pair → not t ≡ true) [
+  | true ↦ λ f. absurd (let g : None ≡ Some pair = f in cc)
+  | false ↦ λ f. refl
+]) e
 
-  from_rows : (row : ElementRow) → In row rows → In row (element_rows_of (blocks_in graph order) key)
-  from_rows row i = in_same (eq_by_cmp element_cmp) itself_row tied_rows rows (element_rows_of (blocks_in graph order) key) ascends.members row i
+-- the rows that are kept, of the live rows of a key over the blocks of a keeper
+module _ (graph : List Stored) (order : List Cid) (key : List ℕ) (rows : List ElementRow) (ascends : Ascends element_cmp rows (live_element_rows (blocks_in graph order) key)) where
+  abbrev all : List ElementRow
+  all = element_rows_of (blocks_in graph order) key
+
+  abbrev shown : ElementRow → Bool
+  shown row = is_shown (blocks_in graph order) key row
+
+  to_rows : (row : ElementRow) → In row all → shown row ≡ true → In row rows
+  to_rows row i e = in_same (eq_by_cmp element_cmp) itself_row tied_rows (filter shown all) rows (record { same = λ test. sym (ascends.members.same test) }) row (in_filter shown row all i e)
+
+  from_rows : (row : ElementRow) → In row rows → In row all × (shown row ≡ true)
+  from_rows row i = from_filter shown row all (in_same (eq_by_cmp element_cmp) itself_row tied_rows rows (filter shown all) ascends.members row i)
 
   -- the rows turned round
   module _ (moved : SameMembers rows (reverse rows)) where
-    back : (row : ElementRow) → In row (reverse rows) → In row (element_rows_of (blocks_in graph order) key)
+    back : (row : ElementRow) → In row (reverse rows) → In row all × (shown row ≡ true)
     back row i = from_rows row (in_same (eq_by_cmp element_cmp) itself_row tied_rows (reverse rows) rows (record { same = λ test. sym (moved.same test) }) row i)
 
-    forth : (row : ElementRow) → In row (element_rows_of (blocks_in graph order) key) → In row (reverse rows)
-    forth row i = in_same (eq_by_cmp element_cmp) itself_row tied_rows rows (reverse rows) moved row (to_rows row i)
+    forth : (row : ElementRow) → In row all → shown row ≡ true → In row (reverse rows)
+    forth row i e = in_same (eq_by_cmp element_cmp) itself_row tied_rows rows (reverse rows) moved row (to_rows row i e)
 
     last_in : (turned : List ElementRow) → (row : ElementRow) → In row (dedup same_block turned) → In row turned
     last_in [] row i = absurd i
@@ -184,60 +198,51 @@ module _ (graph : List Stored) (order : List Cid) (key : List ℕ) (rows : List 
     descends = reverse_descends rows ascends.sorted
 
     -- the pair of a kept row's block
-    kept_pair : (row : ElementRow) → In row (last_rows rows) → pair_in (blocks_in graph order) key (block_in graph row.cid) ≡ cond (has_tomb (blocks_in graph order) key (id_text row.cid.0)) None (Some (row_pair row))
+    kept_pair : (row : ElementRow) → In row (last_rows rows) → pair_in (blocks_in graph order) key (block_in graph row.cid) ≡ Some (row_pair row)
     kept_pair row i =
-        let from = origin (blocks_in graph order) key row (back row (last_in (reverse rows) row i)) in
+        let found = back row (last_in (reverse rows) row i) in
+        let from = origin (blocks_in graph order) key row found.0 in
         let cid : row.cid ≡ from.block.cid = ap (λ (r : ElementRow). r.cid) from.is in
         let own : block_in graph row.cid ≡ from.block = ap (block_in graph) cid ∙ is_own graph order from.block from.within in
         let same : (element : Element) → same_block row (element_row from.block element) ≡ true = λ element. subst (λ (c : Cid). same_cid c from.block.cid ≡ true) (sym cid) (cid_itself from.block.cid) in
+        let free : (element : Element) → shown (element_row from.block element) ≡ true = λ element. subst (λ (c : Cid). not (has_tomb (blocks_in graph order) key (id_text c.0)) ≡ true) cid found.1 in
         ap (pair_in (blocks_in graph order) key) own ∙ pair_is (blocks_in graph order) key row from (λ element j e.
         let other = element_row from.block element in
-        value_up_to other row (last_tops (reverse rows) descends row other i (forth other (has_row (blocks_in graph order) key from.block element from.within j e)) (same element)) (same element))
+        value_up_to other row (last_tops (reverse rows) descends row other i (forth other (has_row (blocks_in graph order) key from.block element from.within j e) (free element)) (same element)) (same element))
+        ∙ ap (λ (t : Bool). cond t None (Some (row_pair row))) (not-true (has_tomb (blocks_in graph order) key (id_text row.cid.0)) found.1)
 
     kept_within : (row : ElementRow) → In row (last_rows rows) → In (block_in graph row.cid) (blocks_in graph order)
     kept_within row i =
-        let from = origin (blocks_in graph order) key row (back row (last_in (reverse rows) row i)) in
+        let from = origin (blocks_in graph order) key row (back row (last_in (reverse rows) row i)).0 in
         let own : block_in graph row.cid ≡ from.block = ap (block_in graph) (ap (λ (r : ElementRow). r.cid) from.is) ∙ is_own graph order from.block from.within in
         subst (λ (b : Block). In b (blocks_in graph order)) (sym own) from.within
 
-    abbrev shown : (row : ElementRow) → Bool
-    shown row = is_shown (blocks_in graph order) key row
-
-    to_pairs : (test : Pair → Bool) → list_any test (map row_pair (filter shown (last_rows rows))) ≡ true → list_any test (filter_map (pair_in (blocks_in graph order) key) (blocks_in graph order)) ≡ true
+    to_pairs : (test : Pair → Bool) → list_any test (map row_pair (last_rows rows)) ≡ true → list_any test (filter_map (pair_in (blocks_in graph order) key) (blocks_in graph order)) ≡ true
     to_pairs test e =
-        let found = in_from_any test (map row_pair (filter shown (last_rows rows))) e in
-        let made = from_map row_pair found.item (filter shown (last_rows rows)) found.within in
-        let kept = from_filter shown made.item (last_rows rows) made.within in
-        let free : has_tomb (blocks_in graph order) key (id_text made.item.cid.0) ≡ false = not-true (has_tomb (blocks_in graph order) key (id_text made.item.cid.0)) kept.1 in
-        let gives : pair_in (blocks_in graph order) key (block_in graph made.item.cid) ≡ Some found.item =
-        kept_pair made.item kept.0 ∙ ap (λ (t : Bool). cond t None (Some (row_pair made.item))) free ∙ ap (λ (z : Pair). Some z) (sym made.is) in
+        let found = in_from_any test (map row_pair (last_rows rows)) e in
+        let made = from_map row_pair found.item (last_rows rows) found.within in
+        let gives : pair_in (blocks_in graph order) key (block_in graph made.item.cid) ≡ Some found.item = kept_pair made.item made.within ∙ ap (λ (z : Pair). Some z) (sym made.is) in
         any_from_in test found.item (filter_map (pair_in (blocks_in graph order) key) (blocks_in graph order))
-        (in_filter_map (pair_in (blocks_in graph order) key) (block_in graph made.item.cid) found.item (blocks_in graph order) (kept_within made.item kept.0) gives) found.passes
+        (in_filter_map (pair_in (blocks_in graph order) key) (block_in graph made.item.cid) found.item (blocks_in graph order) (kept_within made.item made.within) gives) found.passes
 
-    from_pairs : (test : Pair → Bool) → list_any test (filter_map (pair_in (blocks_in graph order) key) (blocks_in graph order)) ≡ true → list_any test (map row_pair (filter shown (last_rows rows))) ≡ true
+    from_pairs : (test : Pair → Bool) → list_any test (filter_map (pair_in (blocks_in graph order) key) (blocks_in graph order)) ≡ true → list_any test (map row_pair (last_rows rows)) ≡ true
     from_pairs test e =
         let found = in_from_any test (filter_map (pair_in (blocks_in graph order) key) (blocks_in graph order)) e in
         let given = from_filter_map (pair_in (blocks_in graph order) key) found.item (blocks_in graph order) found.within in
         let block : Block = given.item in
         let element = element_of_pair (blocks_in graph order) key block found.item given.gives in
-        let last = last_there (reverse rows) (element_row block element.0) (forth (element_row block element.0) (has_row (blocks_in graph order) key block element.0 given.within element.1 element.2)) in
+        let free : shown (element_row block element.0) ≡ true = shown_of_pair (blocks_in graph order) key block found.item given.gives in
+        let last = last_there (reverse rows) (element_row block element.0) (forth (element_row block element.0) (has_row (blocks_in graph order) key block element.0 given.within element.1 element.2) free) in
         let row : ElementRow = last.0 in
         let cid : row.cid ≡ block.cid = cid_is row.cid block.cid last.2 in
         let own : block_in graph row.cid ≡ block = ap (block_in graph) cid ∙ is_own graph order block given.within in
-        let gives : cond (has_tomb (blocks_in graph order) key (id_text row.cid.0)) None (Some (row_pair row)) ≡ Some found.item =
-        sym (kept_pair row last.1) ∙ ap (pair_in (blocks_in graph order) key) own ∙ given.gives in
-        (elim (has_tomb (blocks_in graph order) key (id_text row.cid.0)) as (λ t. has_tomb (blocks_in graph order) key (id_text row.cid.0) ≡ t → cond t None (Some (row_pair row)) ≡ Some found.item → list_any test (map row_pair (filter shown (last_rows rows))) ≡ true) [
-          | true ↦ λ s g. absurd (let h : None ≡ Some found.item = g in cc)
-          | false ↦ λ s g.
-              let same : row_pair row ≡ found.item = some_same (row_pair row) found.item g in
-              any_from_in test (row_pair row) (map row_pair (filter shown (last_rows rows)))
-              (in_map row_pair row (filter shown (last_rows rows)) (in_filter shown row (last_rows rows) last.1 (ap not s))) (ap test same ∙ found.passes)
-        ]) refl gives
+        let same : row_pair row ≡ found.item = some_same (row_pair row) found.item (sym (kept_pair row last.1) ∙ ap (pair_in (blocks_in graph order) key) own ∙ given.gives) in
+        any_from_in test (row_pair row) (map row_pair (last_rows rows)) (in_map row_pair row (last_rows rows) last.1) (ap test same ∙ found.passes)
       where
         some_same : (x y : Pair) → Some x ≡ Some y → x ≡ y
         some_same x y e = cc
 
-    taken_members : SameMembers (map row_pair (filter (is_shown (blocks_in graph order) key) (last_rows rows))) (filter_map (pair_in (blocks_in graph order) key) (blocks_in graph order))
+    taken_members : SameMembers (map row_pair (last_rows rows)) (filter_map (pair_in (blocks_in graph order) key) (blocks_in graph order))
     taken_members = record { same = λ test. same_truth _ _ (to_pairs test) (from_pairs test) }
 
 swapped : (a b : Bool) → (a || (b || false)) ≡ (b || a)
@@ -254,8 +259,8 @@ any_reverse test (row ∷ rows) =
 
 -- what is read of a keeper that tells
 pub taken_told : (told : Option Kept) (key : List ℕ) (rows : List ElementRow) (live done : List Pair)
-    → IfSome told (λ kept. Ascends element_cmp rows (element_rows_of (processed kept) key))
-    → IfSome told (λ kept. live ≡ map row_pair (filter (is_shown (processed kept) key) (last_rows rows)))
+    → IfSome told (λ kept. Ascends element_cmp rows (live_element_rows (processed kept) key))
+    → live ≡ map row_pair (last_rows rows)
     → Ascends pair_cmp done live
     → IfSome told (λ kept. done ≡ pairs (processed kept) key)
 taken_told None key rows live done a l d = a

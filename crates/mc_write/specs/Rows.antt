@@ -1,10 +1,7 @@
 -- From the element rows of a key to the pairs that a delete takes.
-use Rattle.std.specs.Prelude.{ℕ, Bool, not, List, reverse}
+use Rattle.std.specs.Prelude.{Bool, List, reverse}
 use Rattle.std.specs.List.{dedup}
-use Rattle.mc_model.specs.declared.block.Block.{Block}
 use Rattle.mc_model.specs.Front.{same_cid}
-use Rattle.mc_model.specs.Id.{id_text}
-use Rattle.mc_model.specs.Live.{has_tomb}
 use Rattle.mc_keep.specs.declared.rows.ElementRow.{ElementRow}
 
 abbrev pub same_block : ElementRow → ElementRow → Bool
@@ -13,7 +10,3 @@ same_block a b = same_cid a.cid b.cid
 -- of rows that ascend by the block and then by the value, the last of each block, from the last block to the first
 abbrev pub last_rows : List ElementRow → List ElementRow
 last_rows rows = dedup same_block (reverse rows)
-
--- no block hides the row's element
-abbrev pub is_shown : List Block → List ℕ → ElementRow → Bool
-is_shown blocks key row = not (has_tomb blocks key (id_text row.cid.0))

@@ -1,16 +1,15 @@
 // The blocks with a live element of a key, as a keeper tells them.
-ghost use Rattle.std.specs.Prelude.{◌≡◌, ◌++◌, ◌∷◌, [], IfOk, OnOk, true, map, filter};
+ghost use Rattle.std.specs.Prelude.{◌≡◌, ◌++◌, ◌∷◌, [], IfOk, OnOk, true, map};
 ghost use Rattle.mc_model.specs.Cuts.{pairs};
 ghost use Rattle.mc_model.specs.Kept.{processed};
 ghost use Rattle.mc_keep.specs.Calls.{Reads};
 ghost use Rattle.mc_keep.specs.Causes.{IfTold};
 ghost use Rattle.mc_keep.specs.Plan.{is_fault};
-ghost use Rattle.mc_write.specs.Rows.{last_rows, is_shown};
+ghost use Rattle.mc_write.specs.Rows.{last_rows};
 ghost use Rattle.mc_write.specs.Seen.{all_seen, row_pair, have_digests};
 
 use crate::pair::{Pair, in_order, pair_of};
 use mc_keep::{ElementRow, KeepError, Keeper};
-use mc_model::id_of;
 use std::alloc::{AllocError, Global};
 
 /// The blocks with a live element of the key, ascending by the priority, the greatest live value and the identifier.
@@ -24,10 +23,10 @@ pub(crate) fn seen_pairs<K: Keeper>(
     ensures digests { IfOk result (λ found. have_digests (all_seen found.items) ≡ true) }
     ensures reads { Reads K.Keeper (is_fault result) keeper.old keeper.new }
 {
-    let rows = keeper.elements(alloc, key)?;
+    let rows = keeper.live_elements(alloc, key)?;
     let rows = last_of_blocks(rows.into_vec());
-    let shown = shown_pairs(keeper, alloc, key, rows)?;
-    Ok(in_order(shown))
+    let pairs = pairs_of(alloc, rows)?;
+    Ok(in_order(pairs))
 }
 
 // The last row of each block, which has the block's greatest value, of rows that ascend.
@@ -40,25 +39,14 @@ fn last_of_blocks(rows: Vec<ElementRow>) -> Vec<ElementRow>
     rows
 }
 
-// The pairs of the rows that no tombstone hides.
-#[tactic(auto, using(mc_keep::proofs::Frames::reads_none))]
-fn shown_pairs<K: Keeper>(
-    keeper: &mut K,
-    alloc: Global,
-    key: &str,
-    rows: Vec<ElementRow>,
-) -> Result<Vec<Pair>, KeepError>
-    ensures row { IfTold (K.told keeper.old) result (λ kept found.
-        all_seen found.items ≡ map row_pair (filter (is_shown (processed kept) key.now) rows.items)) }
+// The pairs of the rows.
+fn pairs_of(alloc: Global, rows: Vec<ElementRow>) -> Result<Vec<Pair>, AllocError>
+    ensures pairs { IfOk result (λ found. all_seen found.items ≡ map row_pair rows.items) }
     ensures digests { IfOk result (λ found. have_digests (all_seen found.items) ≡ true) }
-    ensures reads { Reads K.Keeper (is_fault result) keeper.old keeper.new }
 {
     let mut pairs = Vec::new(alloc);
     for row in rows {
-        let id = id_of(alloc, &row.cid)?;
-        if !keeper.hidden(key, id.as_str())? {
-            push_pair(&mut pairs, row)?;
-        }
+        push_pair(&mut pairs, row)?;
     }
     Ok(pairs)
 }

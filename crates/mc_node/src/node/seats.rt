@@ -4,9 +4,12 @@ ghost use Rattle.mc_turn.specs.Lists.{Begins};
 ghost use Rattle.mc_turn.specs.Seats.{IsSeatOf};
 ghost use Rattle.mc_turn.specs.Views.{first_view, left_view, right_view, joined_view, AreApart, IsTaken};
 ghost use Rattle.mc_core.specs.Replica.{replica_state};
-ghost use Rattle.mc_node.specs.Entries.{IsRootLog, StaysOpen, is_open, items, shown};
+ghost use Rattle.mc_node.specs.Entries.{IsRootLog, IsSealedOf, StaysOpen, StaysSealed, is_open, is_sealed_log, items, shown};
 ghost use Rattle.mc_node.specs.Seats.{knows};
+ghost use Rattle.mc_core.specs.Exact.{RestSame};
+ghost use Rattle.mc_core.specs.Words.{Becomes, Continues};
 ghost use Rattle.mc_node.specs.Ties.{IsTied, IsWithin, StoresFound};
+ghost use Rattle.mc_node.specs.Works.{WorkersLead};
 
 use super::{Node, NodeRefused, NodeSeat};
 use crate::stored::Stored;
@@ -21,8 +24,8 @@ impl<K: Keeper, J: Naming> Node<Stored<K, J>> {
     /// A node over a replica that runs, and a seat with all its parts, which has seen the root. A sealed node is for
     /// workers alone: nobody puts, deletes or hears there. `NodeRefused` comes for want of memory alone.
     ///
-    /// Conditions of a sealed node: no more is processed than `J.most`; and where `J.found` is known, each stored
-    /// block is found there, and all of `J.kept` are stored.
+    /// Conditions of a sealed node: no more is processed than `J.most`; and where `J.found` is known, the keeper tells,
+    /// each stored block is found there, and all of `J.kept` are stored.
     pub fn new(
         alloc: Global,
         replica: Replica<K>,
@@ -41,6 +44,8 @@ impl<K: Keeper, J: Naming> Node<Stored<K, J>> {
         ensures root { IfOk result (λ made. (log : _) × IsRootLog sealed replica log
             × (knows made.1 ≡ first_view log)) }
         ensures open { sealed ≡ false → IfOk result (λ made. is_open (knows made.1).seen ≡ true) }
+        ensures sealed { sealed ≡ true → IfOk result (λ made. IsSealedOf replica (knows made.1).seen
+            × (is_sealed_log (knows made.1).seen ≡ true)) }
         ensures err { IfErr result (λ refused. refused.replica ≡ replica) }
     {
         let stored = match Stored::new(alloc, replica, sealed) {
@@ -81,6 +86,7 @@ impl<K: Keeper, J: Naming> Node<Stored<K, J>> {
         ensures one { Begins (knows seat.old).seen (knows seat.new).seen
             × Begins (knows other).seen (knows seat.new).seen }
         ensures open { StaysOpen (knows seat.old).seen (knows seat.new).seen }
+        ensures sealed { StaysSealed (knows seat.old).seen (knows seat.new).seen }
         ensures apart { AreApart (knows seat.old) (knows other) }
     {
         let NodeSeat { seat: other } = other;
@@ -88,12 +94,20 @@ impl<K: Keeper, J: Naming> Node<Stored<K, J>> {
     }
 
     /// Ends the node and hands its replica out, tied to a log that begins with all that the seat has seen. The `mine`
-    /// of a seat with all parts has every place after the root. Takes no memory.
+    /// of a seat with all parts has every place after the root. Of a node that was made sealed of some replica, what comes
+    /// back is what the calls of workers led to from there, and it has stopped exactly where one of them failed. Takes no
+    /// memory.
     pub fn close<W: Wait>(self, seat: NodeSeat<Stored<K, J>, K>, wait: &W) -> Replica<K>
         requires own { IsSeatOf self.turn seat.seat }
         ensures log { (log : _) × IsTaken (knows seat) log
             × IsTied (record { walks = J.walks; most = J.most; found = J.found; kept = J.kept })
             (shown K.Keeper result) (items K.Keeper log) }
+        ensures leads { (root : _) → IsSealedOf root (knows seat).seen → Becomes K.Keeper (λ rose s new.
+            WorkersLead (record { walks = J.walks; most = J.most; found = J.found; kept = J.kept }) result.stopped s new)
+            root result }
+        ensures keeps { (root : _) → IsSealedOf root (knows seat).seen →
+            Continues K.Keeper result.stopped root result }
+        ensures rest { (root : _) → J.walks ≡ false → IsSealedOf root (knows seat).seen → RestSame root result }
     {
         let Node { turn } = self;
         let NodeSeat { seat } = seat;

@@ -16,7 +16,7 @@ use std::alloc::Global;
 use std::marker::PhantomData;
 
 impl<K: Keeper, J: Naming> Stored<K, J> {
-    // A replica with a log that has its root alone.
+    // A replica with a log that has its root alone, and room for the entry of a halt.
     pub(crate) fn new(
         alloc: Global,
         replica: Replica<K>,
@@ -36,7 +36,7 @@ impl<K: Keeper, J: Naming> Stored<K, J> {
         ensures err { IfErr result (λ left. left ≡ replica) }
     {
         found_drains_go_on();
-        let Ok(mut log) = Vec::with_capacity(alloc, 1) else {
+        let Ok(mut log) = Vec::with_capacity(alloc, 2) else {
             return Err(replica);
         };
         let entry = about(Note::Root { sealed }, &replica);

@@ -16,3 +16,6 @@ returns-in-Err-Memory-clause-outcome g c = λ plan replicas asked.
     (starts_from (g.K.Keepers.starts c.args.keepers.now plan) 0 replicas) c.args.keepers.now
     (g.K.Keepers.quiet c.args.keepers.now plan ≡ true) (g.K.Keepers.lost c.args.keepers.now) (g.K.Keepers.lost c.args.keepers.now)
     (g.S.Source.left c.args.script.now) (g.O.Sink.written c.args.out.now) refl (0, (c.args.keepers.now, refl)) (omega arith)
+
+pub returns-in-Ok-Gen-clause-untouched_keepers : goal.returns-in-Ok-Gen-clause-untouched_keepers
+returns-in-Ok-Gen-clause-untouched_keepers g c = rw (rw c.in-Ok-Gen.field-0-is at c.in-Ok-Gen.ensures.ok) c.generate.ensures.untouched_keepers

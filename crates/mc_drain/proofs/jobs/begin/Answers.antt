@@ -1,23 +1,15 @@
-use Rattle.std.proofs.Common.{◌∙◌, Bool, true, false, Ok, Err, refl, sym, subst}
-use Rattle.std.specs.Prelude.{⊤}
-use Rattle.mc_base.specs.Causes.{Rose}
+use Rattle.std.proofs.Common.{◌∙◌, Bool, sym, subst}
 use Rattle.mc_core.specs.Words.{ContinuesAt}
 use Rattle.mc_core.proofs.Keeps.{continues_more}
-use Rattle.mc_drain.specs.Leads.{Always}
-use Rattle.mc_drain.proofs.TurnFacts.{next_told, own_told, quiet_told, runs_where}
+use Rattle.mc_drain.specs.Leads.{Always, count}
+use Rattle.mc_drain.specs.Words.{is_keeper}
+use Rattle.mc_drain.proofs.TurnFacts.{recalled_end}
 use Rattle.mc_drain.proofs.jobs.begin.Goals as goal
 
-pub returns-in-Ok-clause-leads : goal.returns-in-Ok-clause-leads
-returns-in-Ok-clause-leads g c = next_told c.order_and_store_grow.ensures c.found_drains_go_on.ensures.goes c.parts_stay_right.ensures.stay ⊤ (Ok c.in-Ok.job) false _ _ refl c.is_sound.ensures.state (runs_where _ _ _ _ c.requires.runs) c.in-Ok.ensures.call
+pub returns-else-is_keeper-clause-leads : goal.returns-else-is_keeper-clause-leads
+returns-else-is_keeper-clause-leads g c = recalled_end (is_keeper c.in-Err.end) count Always _ _ _ (sym c.is_keeper.ensures ∙ c.if-is_keeper.false) c.in-Err.ensures.leads c.recall.ensures.leads
 
-pub returns-in-Ok-clause-own : goal.returns-in-Ok-clause-own
-returns-in-Ok-clause-own g c = own_told c.in-Ok.job _ _ c.in-Ok.ensures.call
-
-pub returns-then-is_fault-clause-leads : goal.returns-then-is_fault-clause-leads
-returns-then-is_fault-clause-leads g c = next_told c.order_and_store_grow.ensures c.found_drains_go_on.ensures.goes c.parts_stay_right.ensures.stay (Rose (g.K.Keeper.own c.args.replica.now.keeper) (g.K.Keeper.own c.next_job.new.self.keeper)) (Err c.in-Err.error) true _ _ (sym c.is_fault.ensures ∙ c.if-is_fault.true) c.is_sound.ensures.state (runs_where _ _ _ _ c.requires.runs) c.in-Err.ensures.call
-
-pub returns-else-is_fault-clause-leads : goal.returns-else-is_fault-clause-leads
-returns-else-is_fault-clause-leads g c = quiet_told false Always _ _ _ (next_told c.order_and_store_grow.ensures c.found_drains_go_on.ensures.goes c.parts_stay_right.ensures.stay (Rose (g.K.Keeper.own c.args.replica.now.keeper) (g.K.Keeper.own c.next_job.new.self.keeper)) (Err c.in-Err.error) false _ _ (sym c.is_fault.ensures ∙ c.if-is_fault.false) c.is_sound.ensures.state (runs_where _ _ _ _ c.requires.runs) c.in-Err.ensures.call) c.recall.ensures.leads
-
-pub returns-else-is_fault-clause-keeps : goal.returns-else-is_fault-clause-keeps
-returns-else-is_fault-clause-keeps g c = continues_more (subst (λ (b : Bool). ContinuesAt g.K.Keeper.told g.K.Keeper.fuse g.K.Keeper.own g.K.Counted.faults g.K.Keeper.quiet g.K.Keeper.schedule b c.args.replica.now c.next_job.new.self) (sym c.is_fault.ensures ∙ c.if-is_fault.false) c.in-Err.ensures.keeps) c.recall.ensures.keeps
+pub returns-else-is_keeper-clause-keeps : goal.returns-else-is_keeper-clause-keeps
+returns-else-is_keeper-clause-keeps g c = let well = sym c.is_keeper.ensures ∙ c.if-is_keeper.false in
+    subst (λ (b : Bool). ContinuesAt g.K.Keeper.told g.K.Keeper.fuse g.K.Keeper.own g.K.Counted.faults g.K.Keeper.quiet g.K.Keeper.schedule b c.args.replica.now c.recall.new.replica) (sym well)
+    (continues_more (subst (λ (b : Bool). ContinuesAt g.K.Keeper.told g.K.Keeper.fuse g.K.Keeper.own g.K.Counted.faults g.K.Keeper.quiet g.K.Keeper.schedule b c.args.replica.now c.begin_job.new.replica) well c.in-Err.ensures.keeps) c.recall.ensures.keeps)

@@ -1,11 +1,8 @@
-use Rattle.std.proofs.Common.{◌∙◌, ◌||◌, Bool, ap, sym, subst, refl}
-use Rattle.mc_fetch.specs.Frame.{AsksAt}
+use Rattle.std.proofs.Common.{refl}
 use Rattle.mc_fetch.specs.Offers.{found_by}
-use Rattle.mc_queue.specs.Views.{shown}
-use Rattle.mc_core.specs.Words.{ContinuesAt}
 use Rattle.mc_core.proofs.Keeps.{still_on}
 use Rattle.mc_drain.proofs.TurnFacts.{report_count}
-use Rattle.mc_drain.proofs.WorkFacts.{answer_keeper, answer_peer, answer_runs, answer_wants, leaves_shown, not_true, still_works, work_told}
+use Rattle.mc_drain.proofs.WorkFacts.{alone_told, still_works}
 use Rattle.mc_drain.proofs.working.work.Goals as goal
 
 pub returns-in-Err-clause-leads : goal.returns-in-Err-clause-leads
@@ -16,25 +13,10 @@ returns-in-Err-clause-keeps g c = still_on refl refl refl
 
 pub returns-clause-leads : goal.returns-clause-leads
 returns-clause-leads g c =
-    let laws = c.found_drains_go_on.ensures in
-    work_told laws.begins laws.closed laws.so_far c.parts_stay_right.ensures.drained c.drain-end.result c.args.budget c.saturating_add-limit.result c.in-Ok.report.processed (found_by (g.F.Fetch.offers c.args.fetch.now))
-    (shown c.drain-end.new.replica.queue) c.answer.result _ _ c.saturating_add-limit.ensures (report_count _ _ _ _ c.in-Ok.report c.in-Ok.ensures.report) c.answer.ensures
-    (leaves_shown c.drain-end.result _ _ _ _ (λ e. c.drain-end.ensures.keeps.stops ∙ ap (λ (b : Bool). b || c.args.replica.now.stopped) e ∙ not_true _ c.in-Ok.ensures.stopped) c.is_sound-2.ensures.state c.drain-end.ensures.flight c.drain-end.ensures.idle)
-    c.drain-end.ensures.leads
-
-pub returns-clause-keeps : goal.returns-clause-keeps
-returns-clause-keeps g c =
-    subst (λ (b : Bool). ContinuesAt g.K.Keeper.told g.K.Keeper.fuse g.K.Keeper.own g.K.Counted.faults g.K.Keeper.quiet g.K.Keeper.schedule b c.args.replica.now c.drain-end.new.replica) (sym (answer_keeper _ _ _ _ _ c.answer.ensures)) c.drain-end.ensures.keeps
-
-pub returns-clause-asks : goal.returns-clause-asks
-returns-clause-asks g c =
-    subst (λ (b : Bool). AsksAt g.F.Fetch.offers g.F.Fetch.places g.F.Fetch.quiet g.F.Counted.faults g.F.Fetch.follows b c.args.fetch.now c.drain-end.new.fetch) (sym (answer_peer _ _ _ _ _ c.answer.ensures)) c.drain-end.ensures.asks
+    alone_told c.in-Ok.report.processed c.args.budget (found_by (g.F.Fetch.offers c.args.fetch.now)) c.finish_work.result _ _ (report_count _ _ _ _ c.in-Ok.report c.in-Ok.ensures.report) c.finish_work.ensures.leads
 
 pub returns-clause-stopped : goal.returns-clause-stopped
-returns-clause-stopped g c = (λ e. absurd (answer_runs _ _ _ _ _ c.answer.ensures e), λ up. absurd (c.in-Ok.ensures.stopped up))
+returns-clause-stopped g c = (λ e. absurd (c.finish_work.ensures.runs e), λ up. absurd (c.in-Ok.ensures.stopped up))
 
 pub returns-clause-still : goal.returns-clause-still
 returns-clause-still g c = λ up. absurd (c.in-Ok.ensures.stopped up)
-
-pub returns-clause-wants : goal.returns-clause-wants
-returns-clause-wants g c = answer_wants _ _ _ _ _ c.answer.ensures c.drain-end.ensures.flight c.drain-end.ensures.idle c.drain-end.ensures.spent

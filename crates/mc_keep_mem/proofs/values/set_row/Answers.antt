@@ -16,17 +16,17 @@ returns-then-insert_row-clause-covered g c =
     c.insert_row.ensures.rows (c.into_string.ensures ∙ (bytes_eq-Decides c.args.row.key c.args.key).0 c.requires.named) c.requires.covered)
 
 pub returns-then-insert_row-clause-backed : goal.returns-then-insert_row-clause-backed
-returns-then-insert_row-clause-backed g c =
+returns-then-insert_row-clause-backed g c = λ hidden backed.
     let ranked : Ranked = (c.args.row.priority, c.args.row.value) in
     let held : Held = record { priority = c.args.row.priority; value = c.args.row.value; holder = c.block_with-holder.result } in
     let rows = rows_in c.args.elements.now.nodes.items c.args.elements.now.lasts c.args.key in
-    let own : stands_for rows ranked c.block_with-holder.result ≡ true = ap (stands_for rows ranked) (rw (c.as_str.ensures, c.as_slice.ensures) at c.block_with-holder.ensures) ∙ found_backs rows ranked in
-    backed_set c.args.elements.now.nodes.items c.args.elements.now.lasts c.args.values.now.rows c.insert_row.new.rows c.args.key (Some held) c.insert_row.ensures.held own c.requires.backed
+    let own : stands_for (hidden c.args.key) rows ranked c.block_with-holder.result ≡ true = ap (stands_for (hidden c.args.key) rows ranked) (rw (c.as_str.ensures, c.as_slice.ensures) at c.block_with-holder.ensures) ∙ found_backs (hidden c.args.key) rows ranked in
+    backed_set hidden c.args.elements.now.nodes.items c.args.elements.now.lasts c.args.values.now.rows c.insert_row.new.rows c.args.key (Some held) c.insert_row.ensures.held own backed
 
 pub returns-else-insert_row-clause-backed : goal.returns-else-insert_row-clause-backed
-returns-else-insert_row-clause-backed g c =
+returns-else-insert_row-clause-backed g c = λ hidden backed.
     let ranked : Ranked = (c.args.row.priority, c.args.row.value) in
     let held : Held = record { priority = c.args.row.priority; value = c.args.row.value; holder = c.block_with-holder.result } in
     let rows = rows_in c.args.elements.now.nodes.items c.args.elements.now.lasts c.args.key in
-    let own : stands_for rows ranked c.block_with-holder.result ≡ true = ap (stands_for rows ranked) (rw (c.as_str.ensures, c.as_slice.ensures) at c.block_with-holder.ensures) ∙ found_backs rows ranked in
-    backed_set c.args.elements.now.nodes.items c.args.elements.now.lasts c.args.values.now.rows c.insert_row.new.rows c.args.key (Some held) c.insert_row.ensures.held own c.requires.backed
+    let own : stands_for (hidden c.args.key) rows ranked c.block_with-holder.result ≡ true = ap (stands_for (hidden c.args.key) rows ranked) (rw (c.as_str.ensures, c.as_slice.ensures) at c.block_with-holder.ensures) ∙ found_backs (hidden c.args.key) rows ranked in
+    backed_set hidden c.args.elements.now.nodes.items c.args.elements.now.lasts c.args.values.now.rows c.insert_row.new.rows c.args.key (Some held) c.insert_row.ensures.held own backed

@@ -23,7 +23,7 @@ invariant_of-self g c = record {
       c.begin.new.self.tied c.in-Ok.ensures.log c.in-Ok.ensures.runs c.is_sound.ensures.kept c.hear-result.ensures.call
       (no_more _ _ _ c.hear-result.ensures.call) c.hear-result.ensures.keeps c.hear-result.ensures.rest
       c.hear-result.ensures.front
-      (refl, refl, open_unsealed g.K.Keeper.told g.K.Keeper.fuse g.K.Keeper.own g.K.Counted.faults g.K.Keeper.quiet g.K.Keeper.schedule _ _ c.in-Ok.ensures.log c.requires.unsealed) tt c.noted-entry.ensures c.note.ensures
+      (open_unsealed g.K.Keeper.told g.K.Keeper.fuse g.K.Keeper.own g.K.Counted.faults g.K.Keeper.quiet g.K.Keeper.schedule _ _ c.in-Ok.ensures.log c.requires.unsealed) (refl, refl, open_unsealed g.K.Keeper.told g.K.Keeper.fuse g.K.Keeper.own g.K.Counted.faults g.K.Keeper.quiet g.K.Keeper.schedule _ _ c.in-Ok.ensures.log c.requires.unsealed) tt c.noted-entry.ensures c.note.ensures
       (λ none. hear_leaves g.K.Keeper.told g.K.Keeper.fuse g.K.Keeper.own g.K.Counted.faults g.K.Keeper.quiet g.K.Keeper.schedule _ _ c.hear-result.result none c.hear-result.ensures.tells c.hear-result.ensures.wants c.hear-result.ensures.rest)).0;
 }
 
@@ -37,5 +37,5 @@ returns-clause-does g c = (replica_ends g.K.Keeper.told g.K.Keeper.fuse g.K.Keep
     c.begin.new.self.tied c.in-Ok.ensures.log c.in-Ok.ensures.runs c.is_sound.ensures.kept c.hear-result.ensures.call
     (no_more _ _ _ c.hear-result.ensures.call) c.hear-result.ensures.keeps c.hear-result.ensures.rest
     c.hear-result.ensures.front
-    (refl, refl, open_unsealed g.K.Keeper.told g.K.Keeper.fuse g.K.Keeper.own g.K.Counted.faults g.K.Keeper.quiet g.K.Keeper.schedule _ _ c.in-Ok.ensures.log c.requires.unsealed) tt c.noted-entry.ensures c.note.ensures
+    (open_unsealed g.K.Keeper.told g.K.Keeper.fuse g.K.Keeper.own g.K.Counted.faults g.K.Keeper.quiet g.K.Keeper.schedule _ _ c.in-Ok.ensures.log c.requires.unsealed) (refl, refl, open_unsealed g.K.Keeper.told g.K.Keeper.fuse g.K.Keeper.own g.K.Counted.faults g.K.Keeper.quiet g.K.Keeper.schedule _ _ c.in-Ok.ensures.log c.requires.unsealed) tt c.noted-entry.ensures c.note.ensures
     (λ none. hear_leaves g.K.Keeper.told g.K.Keeper.fuse g.K.Keeper.own g.K.Counted.faults g.K.Keeper.quiet g.K.Keeper.schedule _ _ c.hear-result.result none c.hear-result.ensures.tells c.hear-result.ensures.wants c.hear-result.ensures.rest)).1

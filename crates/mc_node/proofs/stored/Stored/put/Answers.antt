@@ -23,7 +23,7 @@ invariant_of-self g c = record {
       c.begin.new.self.tied c.in-Ok.ensures.log c.in-Ok.ensures.runs c.is_sound.ensures.kept c.put-result.ensures.call
       (put_more _ c.args.key.now c.args.value.now c.put-result.result _ _ c.put-result.ensures.call c.put-result.ensures.made) c.put-result.ensures.keeps c.put-result.ensures.rest
       (front_short c.put-result.result _ _ c.put-result.ensures.front c.in-Ok.ensures.runs)
-      (refl, refl, open_unsealed g.K.Keeper.told g.K.Keeper.fuse g.K.Keeper.own g.K.Counted.faults g.K.Keeper.quiet g.K.Keeper.schedule _ _ c.in-Ok.ensures.log c.requires.unsealed) tt c.noted-entry.ensures c.note.ensures
+      (open_unsealed g.K.Keeper.told g.K.Keeper.fuse g.K.Keeper.own g.K.Counted.faults g.K.Keeper.quiet g.K.Keeper.schedule _ _ c.in-Ok.ensures.log c.requires.unsealed) (refl, refl, open_unsealed g.K.Keeper.told g.K.Keeper.fuse g.K.Keeper.own g.K.Counted.faults g.K.Keeper.quiet g.K.Keeper.schedule _ _ c.in-Ok.ensures.log c.requires.unsealed) tt c.noted-entry.ensures c.note.ensures
       (λ none. leaves_same g.K.Keeper.told g.K.Keeper.fuse g.K.Keeper.own g.K.Counted.faults g.K.Keeper.quiet g.K.Keeper.schedule _ _ (unnoted _ Made c.put-result.result c.put-result.ensures.refused none) c.put-result.ensures.rest)).0;
 }
 
@@ -37,5 +37,5 @@ returns-clause-does g c = (replica_ends g.K.Keeper.told g.K.Keeper.fuse g.K.Keep
     c.begin.new.self.tied c.in-Ok.ensures.log c.in-Ok.ensures.runs c.is_sound.ensures.kept c.put-result.ensures.call
     (put_more _ c.args.key.now c.args.value.now c.put-result.result _ _ c.put-result.ensures.call c.put-result.ensures.made) c.put-result.ensures.keeps c.put-result.ensures.rest
     (front_short c.put-result.result _ _ c.put-result.ensures.front c.in-Ok.ensures.runs)
-    (refl, refl, open_unsealed g.K.Keeper.told g.K.Keeper.fuse g.K.Keeper.own g.K.Counted.faults g.K.Keeper.quiet g.K.Keeper.schedule _ _ c.in-Ok.ensures.log c.requires.unsealed) tt c.noted-entry.ensures c.note.ensures
+    (open_unsealed g.K.Keeper.told g.K.Keeper.fuse g.K.Keeper.own g.K.Counted.faults g.K.Keeper.quiet g.K.Keeper.schedule _ _ c.in-Ok.ensures.log c.requires.unsealed) (refl, refl, open_unsealed g.K.Keeper.told g.K.Keeper.fuse g.K.Keeper.own g.K.Counted.faults g.K.Keeper.quiet g.K.Keeper.schedule _ _ c.in-Ok.ensures.log c.requires.unsealed) tt c.noted-entry.ensures c.note.ensures
     (λ none. leaves_same g.K.Keeper.told g.K.Keeper.fuse g.K.Keeper.own g.K.Counted.faults g.K.Keeper.quiet g.K.Keeper.schedule _ _ (unnoted _ Made c.put-result.result c.put-result.ensures.refused none) c.put-result.ensures.rest)).1

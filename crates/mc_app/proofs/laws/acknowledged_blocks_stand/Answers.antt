@@ -1,8 +1,0 @@
-use Rattle.mc_app.proofs.WrittenFacts.{commit_stands, put_stands}
-use Rattle.mc_app.proofs.laws.acknowledged_blocks_stand.Goals as goal
-
-pub returns-clause-puts : goal.returns-clause-puts
-returns-clause-puts c = put_stands c.order_and_store_grow.ensures c.acknowledged_puts_are_processed.ensures
-
-pub returns-clause-commits : goal.returns-clause-commits
-returns-clause-commits c = commit_stands c.order_and_store_grow.ensures c.acknowledged_commits_are_processed.ensures

@@ -1,5 +1,0 @@
-use Rattle.mc_app.proofs.WrittenFacts.{put_is_processed}
-use Rattle.mc_app.proofs.laws.acknowledged_puts_are_processed.Goals as goal
-
-pub returns : goal.returns
-returns c = put_is_processed c.written_blocks_stand.ensures

@@ -1,5 +1,0 @@
-use Rattle.mc_app.proofs.PromiseFacts.{equal_answers}
-use Rattle.mc_app.proofs.laws.equal_blocks_answer_equally.Goals as goal
-
-pub returns : goal.returns
-returns c = equal_answers c.same_blocks_same_answers.ensures.answers c.same_blocks_same_answers.ensures.heads

@@ -1,5 +1,0 @@
-use Rattle.mc_app.proofs.StopFacts.{stopped_exactly}
-use Rattle.mc_app.proofs.laws.stopped_is_exact.Goals as goal
-
-pub returns : goal.returns
-returns c = stopped_exactly

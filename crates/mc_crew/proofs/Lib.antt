@@ -1,0 +1,4 @@
+pub mod Hiring
+pub mod Left
+pub mod RoundFacts
+pub mod WorkFacts

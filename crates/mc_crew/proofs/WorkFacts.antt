@@ -1,0 +1,122 @@
+-- A round, and what the caller did after it.
+use Rattle.std.proofs.Common.{◌≡◌, ◌+◌, ◌||◌, ℕ, Bool, true, false, cond, [], Option, Some, None, Result, Ok, Err, refl, sym, ap, ◌∙◌, subst}
+use Rattle.std.proofs.lemmas.Bool.{false≢true}
+use Rattle.std.specs.Prelude.{◌≢◌, IfSome}
+use Rattle.mc_base.specs.Told.{Told}
+use Rattle.mc_base.specs.declared.counted.Counted as counted
+use Rattle.mc_fetch.specs.Fits.{Map}
+use Rattle.mc_keep.specs.Plan.{Schedule}
+use Rattle.mc_keep.specs.declared.fuse.Fuse.{Fuse}
+use Rattle.mc_keep.specs.declared.keeper.Keeper as keeper
+use Rattle.mc_model.specs.Kept.{Kept}
+use Rattle.mc_model.specs.Wanted.{Queue}
+use Rattle.mc_core.specs.Counted.{capped}
+use Rattle.mc_core.specs.Events.{ReplicaState}
+use Rattle.mc_core.specs.Words.{ContinuesAt}
+use Rattle.mc_core.specs.declared.replica.Replica.{Replica}
+use Rattle.mc_core.proofs.Keeps.{continues_more}
+use Rattle.mc_drain.specs.declared.repairing.Repaired.{Repaired}
+use Rattle.mc_drain.specs.declared.working.WorkError.{WorkError}
+use Rattle.mc_drain.specs.declared.working.WorkError.TheVariants.{KeeperFault, PeerFault, Stopped}
+use Rattle.mc_drain.specs.declared.working.Worked.{Worked}
+use Rattle.mc_drain.specs.Leads.{LeadsBy, Never, count, up_to}
+use Rattle.mc_drain.specs.Repairs.{RepairLeads, RepairWants}
+use Rattle.mc_drain.specs.Rounds.{FindsFrom, HasWalkedFrom, HasWorkedFrom}
+use Rattle.mc_drain.specs.Works.{WorkLeads, WorkWants, keeper_broke, peer_broke}
+
+-- what the calls of a round lead to
+abbrev pub Led : Bool → ℕ → Option Map → ReplicaState → ReplicaState → Type 0
+Led failed limit offers s new = LeadsBy failed (up_to limit s) (FindsFrom offers s.state.durable.graph) Never s new
+
+worked_from : (failed : Bool) (before budget limit : ℕ) (offers : Option Map) (s mid : ReplicaState) → limit ≡ capped (before + budget) → before ≡ capped (count s) → Led failed limit offers s mid → HasWorkedFrom failed before budget offers s mid
+worked_from failed before budget limit offers s mid is at led = record { counted = at; leads = subst (λ (n : ℕ). Led failed n offers s mid) is led }
+
+-- the work was left after the round
+pub work_left : (failed : Bool) (before budget limit : ℕ) (offers : Option Map) (why : WorkError) (a m b : Option ReplicaState) → limit ≡ capped (before + budget) → IfSome a (λ s. before ≡ capped (count s)) → Told a m (λ s new. Led failed limit offers s new)
+    → Told m b (λ s new. (before budget : ℕ) (offers : Option Map) (root : ReplicaState) → HasWorkedFrom failed before budget offers root s → WorkLeads budget offers (Err why) root new) → Told a b (λ s new. WorkLeads budget offers (Err why) s new)
+work_left failed before budget limit offers why None m b is at led leaves = tt
+work_left failed before budget limit offers why (Some s) None b is at led leaves = absurd led
+work_left failed before budget limit offers why (Some s) (Some mid) None is at led leaves = absurd leaves
+work_left failed before budget limit offers why (Some s) (Some mid) (Some new) is at led leaves = leaves before budget offers s (worked_from failed before budget limit offers s mid is at led)
+
+-- it went on
+pub work_gone_on : (failed : Bool) (before budget limit : ℕ) (offers now : Option Map) (result : Result Worked WorkError) (a m b : Option ReplicaState) → failed ≡ false → now ≡ offers → limit ≡ capped (before + budget) → IfSome a (λ s. before ≡ capped (count s)) → Told a m (λ s new. Led failed limit offers s new)
+    → Told m b (λ s new. (root : ReplicaState) → HasWorkedFrom false before budget now root s → WorkLeads budget now result root new) → Told a b (λ s new. WorkLeads budget offers result s new)
+work_gone_on failed before budget limit offers now result None m b up same is at led goes = tt
+work_gone_on failed before budget limit offers now result (Some s) None b up same is at led goes = absurd led
+work_gone_on failed before budget limit offers now result (Some s) (Some mid) None up same is at led goes = absurd goes
+work_gone_on failed before budget limit offers now result (Some s) (Some mid) (Some new) up same is at led goes =
+    subst (λ (o : Option Map). HasWorkedFrom false before budget o s mid → WorkLeads budget o result s new) same (goes s)
+    (worked_from false before budget limit offers s mid is at (subst (λ (f : Bool). Led f limit offers s mid) up led))
+
+-- the same of a repair, after its walk
+
+pub repair_left : (failed : Bool) (before budget limit : ℕ) (offers : Option Map) (why : WorkError) (a w m b : Option ReplicaState) → limit ≡ capped (before + budget) → Told a w (λ s new. (before ≡ capped (count new)) × HasWalkedFrom s new) → Told w m (λ s new. Led failed limit offers s new)
+    → Told m b (λ s new. (before budget : ℕ) (offers : Option Map) (root walked : ReplicaState) → HasWalkedFrom root walked → HasWorkedFrom failed before budget offers walked s → RepairLeads budget offers (Err why) root new) → Told a b (λ s new. RepairLeads budget offers (Err why) s new)
+repair_left failed before budget limit offers why None w m b is walked led leaves = tt
+repair_left failed before budget limit offers why (Some s) None m b is walked led leaves = absurd walked
+repair_left failed before budget limit offers why (Some s) (Some x) None b is walked led leaves = absurd led
+repair_left failed before budget limit offers why (Some s) (Some x) (Some mid) None is walked led leaves = absurd leaves
+repair_left failed before budget limit offers why (Some s) (Some x) (Some mid) (Some new) is walked led leaves = leaves before budget offers s x walked.1 (worked_from failed before budget limit offers x mid is walked.0 led)
+
+pub repair_gone_on : (failed : Bool) (before budget limit : ℕ) (offers now : Option Map) (result : Result Repaired WorkError) (a w m b : Option ReplicaState) → failed ≡ false → now ≡ offers → limit ≡ capped (before + budget) → Told a w (λ s new. (before ≡ capped (count new)) × HasWalkedFrom s new)
+    → Told w m (λ s new. Led failed limit offers s new)
+    → Told m b (λ s new. (root walked : ReplicaState) → HasWalkedFrom root walked → HasWorkedFrom false before budget now walked s → RepairLeads budget now result root new) → Told a b (λ s new. RepairLeads budget offers result s new)
+repair_gone_on failed before budget limit offers now result None w m b up same is walked led goes = tt
+repair_gone_on failed before budget limit offers now result (Some s) None m b up same is walked led goes = absurd walked
+repair_gone_on failed before budget limit offers now result (Some s) (Some x) None b up same is walked led goes = absurd led
+repair_gone_on failed before budget limit offers now result (Some s) (Some x) (Some mid) None up same is walked led goes = absurd goes
+repair_gone_on failed before budget limit offers now result (Some s) (Some x) (Some mid) (Some new) up same is walked led goes =
+    subst (λ (o : Option Map). HasWorkedFrom false before budget o x mid → RepairLeads budget o result s new) same (goes s x walked.1)
+    (worked_from false before budget limit offers x mid is walked.0 (subst (λ (f : Bool). Led f limit offers x mid) up led))
+
+-- what the answer says where it was left
+
+pub left_keeper : (T : Type 0) (stopped : Bool) (why : WorkError) → why ≡ cond stopped KeeperFault PeerFault → keeper_broke {T = T} (Err why) ≡ stopped
+left_keeper T true why is = ap (λ (e : WorkError). keeper_broke {T = T} (Err e)) is
+left_keeper T false why is = ap (λ (e : WorkError). keeper_broke {T = T} (Err e)) is
+
+pub left_peer : (T : Type 0) (failed stopped : Bool) (why : WorkError) → why ≡ cond stopped KeeperFault PeerFault → (failed || stopped) ≡ true → peer_broke {T = T} (Err why) ≡ true → failed ≡ true
+left_peer T true stopped why is over broke = refl
+left_peer T false true why is over broke = absurd (false≢true (ap (λ (e : WorkError). peer_broke {T = T} (Err e)) (sym is) ∙ broke))
+left_peer T false false why is over broke = over
+
+abbrev is_stop : WorkError → Bool
+is_stop Stopped = true
+is_stop why = false
+
+left_stop : (stopped : Bool) → is_stop (cond stopped KeeperFault PeerFault) ≡ false
+left_stop true = refl
+left_stop false = refl
+
+abbrev is_stop_of : {T : Type 0} → Result T WorkError → Bool
+is_stop_of (Ok value) = false
+is_stop_of (Err why) = is_stop why
+
+pub left_runs : (T : Type 0) (stopped : Bool) (why : WorkError) → why ≡ cond stopped KeeperFault PeerFault → ◌≢◌ {A = Result T WorkError} (Err why) (Err Stopped)
+left_runs T stopped why is e = absurd (false≢true (sym (left_stop stopped) ∙ ap is_stop (sym is) ∙ ap is_stop_of e))
+
+pub left_wants : (stopped : Bool) (why : WorkError) (q : Queue) → why ≡ cond stopped KeeperFault PeerFault → (stopped ≡ false → q.flight ≡ []) → WorkWants (Err why) q
+left_wants true why q is none = subst (λ (e : WorkError). WorkWants (Err e) q) (sym is) tt
+left_wants false why q is none = subst (λ (e : WorkError). WorkWants (Err e) q) (sym is) (none refl)
+
+pub left_repair_wants : (stopped : Bool) (why : WorkError) (q : Queue) → why ≡ cond stopped KeeperFault PeerFault → (stopped ≡ false → q.flight ≡ []) → RepairWants (Err why) q
+left_repair_wants true why q is none = subst (λ (e : WorkError). RepairWants (Err e) q) (sym is) tt
+left_repair_wants false why q is none = subst (λ (e : WorkError). RepairWants (Err e) q) (sym is) (none refl)
+
+-- a replica stays as it is where it has stopped, and goes on by calls that did not fail where it has not
+module _ {K D : Type 0} {g : keeper.Ghosts K D} {h : counted.Ghosts K} {i : counted.Ghosts D} {told : K → Option Kept} {fuse : K → Option Fuse} {own faults : K → ℕ} {quiet : K → Bool} {schedule : K → Option Schedule} where
+  pub left_keeps : (T : Type 0) (stopped : Bool) (why : WorkError) (old mid new : Replica K D g h i) → why ≡ cond stopped KeeperFault PeerFault → ContinuesAt told fuse own faults quiet schedule stopped old mid → ContinuesAt told fuse own faults quiet schedule false mid new
+      → (stopped ≡ true → new ≡ mid) → ContinuesAt told fuse own faults quiet schedule (keeper_broke {T = T} (Err why)) old new
+  left_keeps T true why old mid new is first next same =
+      subst (λ (f : Bool). ContinuesAt told fuse own faults quiet schedule f old new) (sym (left_keeper T true why is)) (subst (λ (x : Replica K D g h i). ContinuesAt told fuse own faults quiet schedule true old x) (sym (same refl)) first)
+  left_keeps T false why old mid new is first next same =
+      subst (λ (f : Bool). ContinuesAt told fuse own faults quiet schedule f old new) (sym (left_keeper T false why is)) (continues_more first next)
+
+  pub gone_on_keeps : (stopped failed : Bool) (old mid new : Replica K D g h i) → stopped ≡ false → ContinuesAt told fuse own faults quiet schedule stopped old mid → ContinuesAt told fuse own faults quiet schedule failed mid new → ContinuesAt told fuse own faults quiet schedule failed old new
+  gone_on_keeps stopped failed old mid new up first next = continues_more (subst (λ (f : Bool). ContinuesAt told fuse own faults quiet schedule f old mid) up first) next
+
+-- neither failed
+pub over_none : (failed stopped : Bool) → (failed || stopped) ≡ false → (failed ≡ false) × (stopped ≡ false)
+over_none true stopped e = absurd (false≢true (sym e))
+over_none false stopped e = (refl, e)

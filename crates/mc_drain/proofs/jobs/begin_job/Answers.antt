@@ -1,0 +1,17 @@
+use Rattle.std.proofs.Common.{◌∙◌, true, false, Ok, Err, refl, sym}
+use Rattle.std.specs.Prelude.{⊤}
+use Rattle.mc_base.specs.Causes.{Rose}
+use Rattle.mc_drain.proofs.TurnFacts.{next_told, own_told, runs_where}
+use Rattle.mc_drain.proofs.jobs.begin_job.Goals as goal
+
+pub returns-in-Ok-clause-leads : goal.returns-in-Ok-clause-leads
+returns-in-Ok-clause-leads g c = next_told c.order_and_store_grow.ensures c.found_drains_go_on.ensures.goes c.parts_stay_right.ensures.stay ⊤ (Ok c.in-Ok.job) false _ _ refl c.is_sound.ensures.state (runs_where _ _ _ _ c.requires.runs) c.in-Ok.ensures.call
+
+pub returns-in-Ok-clause-own : goal.returns-in-Ok-clause-own
+returns-in-Ok-clause-own g c = own_told c.in-Ok.job _ _ c.in-Ok.ensures.call
+
+pub returns-then-is_fault-clause-leads : goal.returns-then-is_fault-clause-leads
+returns-then-is_fault-clause-leads g c = next_told c.order_and_store_grow.ensures c.found_drains_go_on.ensures.goes c.parts_stay_right.ensures.stay (Rose (g.K.Keeper.own c.args.replica.now.keeper) (g.K.Keeper.own c.next_job.new.self.keeper)) (Err c.in-Err.error) true _ _ (sym c.is_fault.ensures ∙ c.if-is_fault.true) c.is_sound.ensures.state (runs_where _ _ _ _ c.requires.runs) c.in-Err.ensures.call
+
+pub returns-else-is_fault-clause-leads : goal.returns-else-is_fault-clause-leads
+returns-else-is_fault-clause-leads g c = next_told c.order_and_store_grow.ensures c.found_drains_go_on.ensures.goes c.parts_stay_right.ensures.stay (Rose (g.K.Keeper.own c.args.replica.now.keeper) (g.K.Keeper.own c.next_job.new.self.keeper)) (Err c.in-Err.error) false _ _ (sym c.is_fault.ensures ∙ c.if-is_fault.false) c.is_sound.ensures.state (runs_where _ _ _ _ c.requires.runs) c.in-Err.ensures.call

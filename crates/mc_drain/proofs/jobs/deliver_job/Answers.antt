@@ -1,0 +1,18 @@
+use Rattle.std.proofs.Common.{◌∙◌, true, false, Ok, Err, refl, sym}
+use Rattle.std.specs.Prelude.{⊤}
+use Rattle.mc_base.specs.Causes.{Rose}
+use Rattle.mc_core.specs.Jobs.{found_in}
+use Rattle.mc_drain.proofs.TurnFacts.{deliver_told, stuck_told}
+use Rattle.mc_drain.proofs.jobs.deliver_job.Goals as goal
+
+pub returns-in-Ok-clause-leads : goal.returns-in-Ok-clause-leads
+returns-in-Ok-clause-leads g c = deliver_told c.order_and_store_grow.ensures c.found_drains_go_on.ensures.goes c.parts_stay_right.ensures.stay c.deliveries_are_drains.ensures.takes c.deliveries_are_drains.ensures.says c.args.job.cid (found_in c.args.found) ⊤ (Ok c.in-Ok.delivered) false _ _ refl c.is_sound.ensures.state c.in-Ok.ensures.call
+
+pub returns-in-Ok-clause-stuck : goal.returns-in-Ok-clause-stuck
+returns-in-Ok-clause-stuck g c = stuck_told c.args.job.cid (found_in c.args.found) c.in-Ok.delivered _ _ _ _ c.in-Ok.ensures.call c.in-Ok.ensures.wants
+
+pub returns-then-is_fault-clause-leads : goal.returns-then-is_fault-clause-leads
+returns-then-is_fault-clause-leads g c = deliver_told c.order_and_store_grow.ensures c.found_drains_go_on.ensures.goes c.parts_stay_right.ensures.stay c.deliveries_are_drains.ensures.takes c.deliveries_are_drains.ensures.says c.args.job.cid (found_in c.args.found) (Rose (g.K.Keeper.own c.args.replica.now.keeper) (g.K.Keeper.own c.deliver.new.self.keeper)) (Err c.in-Err.error) true _ _ (sym c.is_fault.ensures ∙ c.if-is_fault.true) c.is_sound.ensures.state c.in-Err.ensures.call
+
+pub returns-else-is_fault-clause-leads : goal.returns-else-is_fault-clause-leads
+returns-else-is_fault-clause-leads g c = deliver_told c.order_and_store_grow.ensures c.found_drains_go_on.ensures.goes c.parts_stay_right.ensures.stay c.deliveries_are_drains.ensures.takes c.deliveries_are_drains.ensures.says c.args.job.cid (found_in c.args.found) (Rose (g.K.Keeper.own c.args.replica.now.keeper) (g.K.Keeper.own c.deliver.new.self.keeper)) (Err c.in-Err.error) false _ _ (sym c.is_fault.ensures ∙ c.if-is_fault.false) c.is_sound.ensures.state c.in-Err.ensures.call

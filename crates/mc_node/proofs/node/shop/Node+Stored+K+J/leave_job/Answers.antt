@@ -1,0 +1,13 @@
+use Rattle.std.proofs.Common.{ap}
+use Rattle.mc_node.specs.Items.{is_sealing}
+use Rattle.mc_node.proofs.SeatFacts.{begins_given, begins_on, seen_given}
+use Rattle.mc_node.proofs.node.shop.Node+Stored+K+J.leave_job.Goals as goal
+
+pub give_back-requires : goal.give_back-requires
+give_back-requires g c = record { sealed = begins_on is_sealing _ _ c.requires.sealed c.take-held.ensures.taken.seen }
+
+pub returns-clause-seen : goal.returns-clause-seen
+returns-clause-seen g c = seen_given _ _ _ _ c.take-held.ensures.taken.seen c.give_back.ensures.extends (ap (λ v. v.seen) c.give.ensures.given)
+
+pub returns-clause-sealed : goal.returns-clause-sealed
+returns-clause-sealed g c = begins_given is_sealing _ _ _ _ c.take-held.ensures.taken.seen c.give_back.ensures.extends (ap (λ v. v.seen) c.give.ensures.given) c.requires.sealed

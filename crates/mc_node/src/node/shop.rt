@@ -1,0 +1,171 @@
+// A sealed node is a shop for workers.
+ghost use Rattle.std.specs.Prelude.{◌≡◌, true, IfOk};
+ghost use Rattle.mc_turn.specs.Lists.{Begins};
+ghost use Rattle.mc_turn.specs.Seats.{IsSeatOf};
+ghost use Rattle.mc_fetch.specs.Fits.{FoundFits, NextFits};
+ghost use Rattle.mc_worker.specs.Ends.{deliver_ends, job_out, next_ends};
+ghost use Rattle.mc_node.specs.Entries.{is_sealed_log};
+ghost use Rattle.mc_node.specs.Seats.{knows};
+ghost use Rattle.mc_node.specs.Works.{IsUnder};
+
+use super::{Node, NodeSeat};
+use crate::hired::Hired;
+use crate::stored::Stored;
+use mc_base::Cid;
+use mc_fetch::{Delivered, Found, Job, Naming};
+use mc_keep::Keeper;
+use mc_worker::{HandEnd, Shop, ShopError, end_of};
+use std::alloc::Global;
+use std::sync::Wait;
+
+/// A sealed node is a shop: a worker's seat is one of the node's, with a limit of at most `J.most`. Each call takes the
+/// turn, makes one call of the replica, and gives the turn back. `Stopped` goes first, and then `Spent`, which comes
+/// exactly where the replica has at least as many processed blocks as the seat's limit; the job of a delivery that is
+/// spent waits again.
+impl<K: Keeper, J: Naming> Shop for Node<Stored<K, J>> {
+    ghost use Rattle.std.specs.Prelude.{◌≡◌, true};
+    ghost use Rattle.mc_turn.specs.Seats.{IsSeatOf};
+    ghost use Rattle.mc_node.specs.Entries.{is_sealed_log};
+    ghost use Rattle.mc_node.specs.Seats.{knows};
+    ghost use Rattle.mc_node.specs.Works.{IsUnder};
+
+    type Seat = Hired<Stored<K, J>, K>;
+
+    ghost owns = { λ node hired. IsSeatOf node.turn hired.seat.seat × IsUnder J.most hired.limit
+        × (is_sealed_log (knows hired.seat).seen ≡ true) };
+
+    ghost ended = { λ hired. hired.last };
+
+    ghost out = { λ hired. hired.out };
+
+    ghost found = { J.found };
+
+    ghost kept = { J.kept };
+
+    fn last(seat: &Hired<Stored<K, J>, K>) -> Option<HandEnd> {
+        seat.last
+    }
+
+    fn next_job<W: Wait>(
+        &self,
+        alloc: Global,
+        seat: &mut Hired<Stored<K, J>, K>,
+        wait: &W,
+    ) -> Result<Option<Job>, ShopError> {
+        let result = self.take_job(alloc, &mut seat.seat, seat.limit, wait);
+        seat.last = next_end(&result);
+        seat.out = next_out(&result);
+        result
+    }
+
+    fn deliver<W: Wait>(
+        &self,
+        alloc: Global,
+        seat: &mut Hired<Stored<K, J>, K>,
+        job: Job,
+        bytes: Found,
+        wait: &W,
+    ) -> Result<Delivered, ShopError> {
+        let result = self.end_job(alloc, &mut seat.seat, seat.limit, job, bytes, wait);
+        seat.last = deliver_end(&result);
+        seat.out = None;
+        result
+    }
+
+    fn give_back<W: Wait>(&self, seat: &mut Hired<Stored<K, J>, K>, job: Job, wait: &W) {
+        self.leave_job(&mut seat.seat, job, wait);
+        seat.out = None;
+    }
+}
+
+impl<K: Keeper, J: Naming> Node<Stored<K, J>> {
+    // A job begins.
+    fn take_job<W: Wait>(
+        &self,
+        alloc: Global,
+        seat: &mut NodeSeat<Stored<K, J>, K>,
+        limit: u64,
+        wait: &W,
+    ) -> Result<Option<Job>, ShopError>
+        requires own { IsSeatOf self.now.turn seat.old.seat }
+        requires sealed { is_sealed_log (knows seat.old).seen ≡ true }
+        ensures own { IsSeatOf self.now.turn seat.new.seat }
+        ensures seen { Begins (knows seat.old).seen (knows seat.new).seen }
+        ensures sealed { is_sealed_log (knows seat.new).seen ≡ true }
+        ensures job { IfOk result (NextFits J.found J.kept) }
+    {
+        let mut held = self.turn.take(&mut seat.seat, wait);
+        let result = held.value.next_job(alloc, limit);
+        self.turn.give(&mut seat.seat, held);
+        result
+    }
+
+    // What was found for a job is delivered.
+    fn end_job<W: Wait>(
+        &self,
+        alloc: Global,
+        seat: &mut NodeSeat<Stored<K, J>, K>,
+        limit: u64,
+        job: Job,
+        found: Found,
+        wait: &W,
+    ) -> Result<Delivered, ShopError>
+        requires own { IsSeatOf self.now.turn seat.old.seat }
+        requires sealed { is_sealed_log (knows seat.old).seen ≡ true }
+        requires limit { IsUnder J.most limit }
+        requires fits { FoundFits J.found job.cid found }
+        ensures own { IsSeatOf self.now.turn seat.new.seat }
+        ensures seen { Begins (knows seat.old).seen (knows seat.new).seen }
+        ensures sealed { is_sealed_log (knows seat.new).seen ≡ true }
+    {
+        let mut held = self.turn.take(&mut seat.seat, wait);
+        let result = held.value.deliver(alloc, limit, job, found);
+        self.turn.give(&mut seat.seat, held);
+        result
+    }
+
+    // A job is given back.
+    fn leave_job<W: Wait>(&self, seat: &mut NodeSeat<Stored<K, J>, K>, job: Job, wait: &W)
+        requires own { IsSeatOf self.now.turn seat.old.seat }
+        requires sealed { is_sealed_log (knows seat.old).seen ≡ true }
+        ensures own { IsSeatOf self.now.turn seat.new.seat }
+        ensures seen { Begins (knows seat.old).seen (knows seat.new).seen }
+        ensures sealed { is_sealed_log (knows seat.new).seen ≡ true }
+    {
+        let mut held = self.turn.take(&mut seat.seat, wait);
+        held.value.give_back(job);
+        self.turn.give(&mut seat.seat, held);
+    }
+}
+
+// How a call that asked for a job ended.
+fn next_end(answer: &Result<Option<Job>, ShopError>) -> Option<HandEnd>
+    ensures { result ≡ next_ends answer.now }
+{
+    match answer {
+        Ok(Some(_)) => None,
+        Ok(None) => Some(HandEnd::Idle),
+        Err(error) => Some(end_of(*error)),
+    }
+}
+
+// The block of the job that it took.
+fn next_out(answer: &Result<Option<Job>, ShopError>) -> Option<Cid>
+    ensures { result ≡ job_out answer.now }
+{
+    match answer {
+        Ok(Some(job)) => Some(job.cid),
+        Ok(None) => None,
+        Err(_) => None,
+    }
+}
+
+// How a delivery ended.
+fn deliver_end(answer: &Result<Delivered, ShopError>) -> Option<HandEnd>
+    ensures { result ≡ deliver_ends answer.now }
+{
+    match answer {
+        Ok(_) => None,
+        Err(error) => Some(end_of(*error)),
+    }
+}

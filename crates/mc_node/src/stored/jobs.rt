@@ -1,0 +1,144 @@
+// The calls of workers on a sealed node. A fault of the keeper alone is noted.
+ghost use Rattle.std.specs.Prelude.{◌≡◌, [], cond, false, true, None, Ok, Err, IfOk, IfSome, length};
+ghost use Rattle.mc_turn.specs.Lists.{Begins};
+ghost use Rattle.mc_fetch.specs.Fits.{FoundFits, NextFits};
+ghost use Rattle.mc_model.specs.Graph.{has};
+ghost use Rattle.mc_model.specs.Wanted.{give_back};
+ghost use Rattle.mc_queue.specs.Views.{shown};
+ghost use Rattle.mc_core.specs.Counted.{capped};
+ghost use Rattle.mc_drain.specs.Words.{begin_failed};
+ghost use Rattle.mc_node.specs.Entries.{is_sealed_log};
+ghost use Rattle.mc_node.specs.Jobs.{KeepsLimit, StopsWhere, halt_if, shop_answer};
+ghost use Rattle.mc_node.specs.Works.{IsUnder};
+
+use super::Stored;
+use super::entries::note;
+use crate::note::Note;
+use mc_drain::{DrainEnd, begin_job, deliver_job, give_job_back};
+use mc_fetch::{Delivered, Found, Job, Naming};
+use mc_keep::Keeper;
+use mc_model::kept_is_durable;
+use mc_worker::ShopError;
+use std::alloc::Global;
+
+impl<K: Keeper, J: Naming> Stored<K, J> {
+    // A job begins for the first block that waits, where fewer than `limit` blocks are processed.
+    pub(crate) fn next_job(&mut self, alloc: Global, limit: u64) -> Result<Option<Job>, ShopError>
+        requires sealed { is_sealed_log self.old.log.items ≡ true }
+        ensures extends { Begins self.old.log.items self.new.log.items }
+        ensures job { IfOk result (NextFits J.found J.kept) }
+        ensures stopped { StopsWhere self.old.replica.stopped result }
+        ensures limit { IfSome (K.told self.old.replica.keeper) (λ kept.
+            KeepsLimit limit (capped (length kept.order)) result) }
+        ensures idle { result ≡ Ok None → (shown self.old.replica.queue).waiting ≡ [] }
+    {
+        kept_is_durable();
+        if self.is_stopped() {
+            return Err(ShopError::Stopped);
+        }
+        let length = match self.begin() {
+            Ok(length) => length,
+            Err(_) => return Err(ShopError::Memory),
+        };
+        if length >= limit {
+            return Err(ShopError::Spent);
+        }
+        self.replica.is_sound();
+        let result = begin_job(alloc, &mut self.replica);
+        let entry = halted(&result);
+        note(&mut self.log, &self.replica, entry);
+        answered(result)
+    }
+
+    // What was found for a job is delivered, where fewer than `limit` blocks are processed. Else the job is given back.
+    pub(crate) fn deliver(
+        &mut self,
+        alloc: Global,
+        limit: u64,
+        job: Job,
+        found: Found,
+    ) -> Result<Delivered, ShopError>
+        requires sealed { is_sealed_log self.old.log.items ≡ true }
+        requires limit { IsUnder J.most limit }
+        requires fits { FoundFits J.found job.cid found }
+        ensures extends { Begins self.old.log.items self.new.log.items }
+        ensures stopped { StopsWhere self.old.replica.stopped result }
+        ensures limit { IfSome (K.told self.old.replica.keeper) (λ kept.
+            KeepsLimit limit (capped (length kept.order)) result) }
+        ensures back { result ≡ Err ShopError.Spent → shown self.new.replica.queue
+            ≡ cond (has job.cid (shown self.old.replica.queue).flight)
+            (give_back (shown self.old.replica.queue) job.cid)
+            (shown self.old.replica.queue) }
+    {
+        kept_is_durable();
+        if self.is_stopped() {
+            return Err(ShopError::Stopped);
+        }
+        let processed = match self.begin() {
+            Ok(processed) => processed,
+            Err(_) => {
+                self.give_back(job);
+                return Err(ShopError::Memory);
+            }
+        };
+        if processed >= limit {
+            self.give_back(job);
+            return Err(ShopError::Spent);
+        }
+        self.replica.is_sound();
+        let result = deliver_job(alloc, &mut self.replica, job, found);
+        let entry = halted(&result);
+        note(&mut self.log, &self.replica, entry);
+        answered(result)
+    }
+
+    // A job is given back. One of a replica that has stopped is gone with all that was wanted.
+    pub(crate) fn give_back(&mut self, job: Job)
+        requires sealed { is_sealed_log self.old.log.items ≡ true }
+        ensures log { self.new.log.items ≡ self.old.log.items }
+        ensures extends { Begins self.old.log.items self.new.log.items }
+        ensures back { self.old.replica.stopped ≡ false → shown self.new.replica.queue
+            ≡ cond (has job.cid (shown self.old.replica.queue).flight)
+            (give_back (shown self.old.replica.queue) job.cid)
+            (shown self.old.replica.queue) }
+    {
+        kept_is_durable();
+        if self.is_stopped() {
+            return;
+        }
+        self.replica.is_sound();
+        give_job_back(&mut self.replica, job);
+    }
+
+    // Whether the keeper has failed.
+    fn is_stopped(&self) -> bool
+        ensures { result ≡ self.now.replica.stopped }
+    {
+        match self.replica.report() {
+            Ok(_) => false,
+            Err(_) => true,
+        }
+    }
+}
+
+// The entry that an answer leaves: that of a halt for a fault, and else none.
+fn halted<T>(answer: &Result<T, DrainEnd>) -> Option<Note>
+    ensures { result ≡ halt_if (begin_failed answer.now) }
+{
+    match answer {
+        Ok(_) => None,
+        Err(DrainEnd::KeeperFault) => Some(Note::Halted),
+        Err(_) => None,
+    }
+}
+
+// What the shop answers where the replica answers this.
+fn answered<T>(answer: Result<T, DrainEnd>) -> Result<T, ShopError>
+    ensures { result ≡ shop_answer answer }
+{
+    match answer {
+        Ok(value) => Ok(value),
+        Err(DrainEnd::KeeperFault) => Err(ShopError::KeeperFault),
+        Err(_) => Err(ShopError::Memory),
+    }
+}

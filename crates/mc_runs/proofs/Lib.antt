@@ -1,0 +1,9 @@
+pub mod StormFacts
+pub mod PromiseFacts
+pub mod WrittenFacts
+pub mod StormedFacts
+pub mod LinkFacts
+pub mod ReplyFacts
+pub mod FuseFacts
+pub mod StopFacts
+pub mod ReachFacts

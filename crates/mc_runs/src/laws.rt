@@ -1,0 +1,156 @@
+// What is promised of every run, by the definitions.
+ghost use Rattle.std.specs.Prelude.{◌≡◌, ◌≢◌, ◌↔◌, ℕ, Bool, List, [], Option, Some, true, false, slice_get};
+ghost use Rattle.mc_model.specs.Made.{made_cid};
+ghost use Rattle.mc_model.specs.SameMembers.{SameMembers};
+ghost use Rattle.mc_model.specs.State.{blocks_of};
+ghost use Rattle.mc_core.specs.Events.{ReplicaState};
+ghost use Rattle.mc_core.specs.Puts.{next_links, delta_of_put};
+ghost use Rattle.mc_script.specs.declared.command.Command.{Command as Asked};
+ghost use Rattle.mc_script.specs.declared.command.Command.TheVariants.{Put, Del, Commit, Repair, Storm};
+ghost use Rattle.mc_script.specs.declared.reply.Reply.{Reply as Said};
+ghost use Rattle.mc_script.specs.declared.reply.Reply.TheVariants.{Priority, Deleted, Stopped, Stormed, Clean, FaultKeeper, FaultPeer};
+ghost use Rattle.mc_world.specs.declared.entry.LineEntry.{LineEntry as Entry};
+ghost use Rattle.mc_world.specs.declared.links.Link.{Link as LinkState};
+ghost use Rattle.mc_world.specs.Asks.{focus, is_named, may_fail};
+ghost use Rattle.mc_world.specs.Effects.{DoneAt};
+ghost use Rattle.mc_runs.specs.Promises.{AfterLine, HasCommitted, HasDeleted, HasMore, HasProcessed, HasSettled};
+ghost use Rattle.mc_runs.specs.Promises.{IsLineAt, OnlyGrows, SinceLine};
+ghost use Rattle.mc_runs.specs.Promises.{asks_running, fired_at, is_read, read_at, same_pair};
+ghost use Rattle.mc_runs.specs.Promises.{some_stopped, tells_at};
+ghost use Rattle.mc_runs.specs.Runs.{Answer, Runs};
+ghost use Rattle.mc_world.specs.Step.{Step, with_link};
+ghost use Rattle.mc_world.specs.Worlds.{Place, WorldState, is_linked, state_at};
+
+use mc_core::written_blocks_stand;
+use mc_model::{order_and_store_grow, same_blocks_same_answers};
+
+/// No line takes a block out of the processed ones of a replica, or changes its position; nor out of the stored ones,
+/// or changes its bytes: whatever faults came, at whatever replica. So a block that was acknowledged stays in every
+/// later state. A world has as many replicas at its end as at its start, and a keeper that tells nothing of its content
+/// never tells it later.
+pub fn runs_only_grow()
+    ensures step { (w : WorldState) (command : Asked) (entry : Entry) (reply : Said) (w2 : WorldState) →
+        Step w command entry reply w2 → OnlyGrows w w2 }
+    ensures runs { (lines : List (List ℕ)) (answers : List (Option Answer)) (old new : WorldState) →
+        Runs old lines answers new → OnlyGrows old new }
+{
+    order_and_store_grow();
+}
+
+/// A put that is answered by `ok` has processed its block, at the end of what its replica had processed before.
+pub fn acknowledged_puts_are_processed()
+    ensures { (w : WorldState) (r : ℕ) (key bytes : List ℕ) (entry : Entry) (priority : ℕ) (w2 : WorldState) →
+        Step w (Put r key bytes) entry (Priority priority) w2 →
+        HasProcessed w r (λ kept. made_cid (next_links kept) (delta_of_put kept key bytes)) w2 }
+{
+    written_blocks_stand();
+}
+
+/// A commit of a batch that is answered by `ok` and a number that isn't 0 has processed the block of the batch that was
+/// open, at the end of what its replica had processed before.
+pub fn acknowledged_commits_are_processed()
+    ensures { (w : WorldState) (r : ℕ) (entry : Entry) (priority : ℕ) (w2 : WorldState) →
+        Step w (Commit r) entry (Priority priority) w2 → priority ≢ 0 → HasCommitted w r w2 }
+{
+    order_and_store_grow();
+    written_blocks_stand();
+}
+
+/// A delete that is answered by `deleted N` has processed its N blocks, and no other, at the end of what its replica
+/// had processed before.
+pub fn acknowledged_deletes_are_processed()
+    ensures { (w : WorldState) (r : ℕ) (key : List ℕ) (entry : Entry) (count : ℕ) (w2 : WorldState) →
+        Step w (Del r key) entry (Deleted count) w2 → HasDeleted w r key count w2 }
+{}
+
+/// After a storm that was answered by `stormed M S`, its replica has processed at least M blocks more, in the world after
+/// it and, in a run, in the last one. The line may stand at any place, counted from 0.
+pub fn acknowledged_storms_are_processed()
+    ensures step { (w : WorldState) (r writers writes : ℕ) (entry : Entry) (made same : ℕ) (w2 : WorldState) →
+        Step w (Storm r writers writes) entry (Stormed made same) w2 → HasMore w r made w2 }
+    ensures line { (lines : List (List ℕ)) (answers : List (Option Answer)) (first last : WorldState)
+        (k r writers writes made same : ℕ) → Runs first lines answers last →
+        IsLineAt lines answers k (Storm r writers writes) (Stormed made same) → SinceLine first lines answers k last
+        (λ w w2. HasMore w r made w2) }
+{
+    order_and_store_grow();
+}
+
+/// In a run, the block of a put that was answered by `ok` stands in the last world, at its place in the order of the
+/// blocks that its replica processed; and so does that of a batch whose commit was answered by `ok` and a number that
+/// isn't 0. The line may stand at any place, counted from 0.
+pub fn acknowledged_blocks_stand()
+    ensures puts { (lines : List (List ℕ)) (answers : List (Option Answer)) (first last : WorldState)
+        (k r : ℕ) (key bytes : List ℕ) (priority : ℕ) → Runs first lines answers last →
+        IsLineAt lines answers k (Put r key bytes) (Priority priority) → SinceLine first lines answers k last
+        (λ w w2. HasProcessed w r (λ kept. made_cid (next_links kept) (delta_of_put kept key bytes)) w2) }
+    ensures commits { (lines : List (List ℕ)) (answers : List (Option Answer)) (first last : WorldState)
+        (k r : ℕ) (priority : ℕ) → Runs first lines answers last →
+        IsLineAt lines answers k (Commit r) (Priority priority) → priority ≢ 0 → SinceLine first lines answers k last
+        (λ w w2. HasCommitted w r w2) }
+{
+    order_and_store_grow();
+    acknowledged_puts_are_processed();
+    acknowledged_commits_are_processed();
+}
+
+/// Replicas with equal processed blocks, in whatever order, give equal answers to every command that only reads: two of
+/// one world or of two worlds, whatever else these hold.
+pub fn equal_blocks_answer_equally()
+    ensures { (w w2 : WorldState) (p p2 q q2 : Place) (s t : ReplicaState) (command : Asked) (other : ℕ)
+        (reply said : Said) → is_read command ≡ true → state_at p ≡ Some s → state_at q ≡ Some t →
+        SameMembers (blocks_of s.state.durable) (blocks_of t.state.durable) →
+        DoneAt w command p p2 reply → DoneAt w2 (read_at other command) q q2 said → reply ≡ said }
+{
+    same_blocks_same_answers();
+}
+
+/// A replica that a command doesn't work on, and whose keeper can't fail in it, is as it was, over every keeper: its
+/// content, its fuse, what runs, and what is planted at it.
+pub fn others_stay()
+    ensures { (w : WorldState) (command : Asked) (entry : Entry) (reply : Said) (w2 : WorldState) (r : ℕ) →
+        Step w command entry reply w2 → focus command ≢ Some r → is_named (may_fail command) r ≡ false →
+        slice_get w2.places r ≡ slice_get w.places r }
+{}
+
+/// A link has no direction: r is linked to another one exactly where that one is linked to r. Once the link of two
+/// replicas is set it is up exactly where it was set up, and the link of every other pair is as it was.
+pub fn links_are_mutual()
+    ensures mutual { (down : List LinkState) (r other : ℕ) → is_linked down r other ≡ is_linked down other r }
+    ensures set { (down : List LinkState) (r other : ℕ) (up : Bool) → r ≢ other →
+        is_linked (with_link down r other up) r other ≡ up }
+    ensures others { (down : List LinkState) (r other : ℕ) (up : Bool) (a b : ℕ) → same_pair r other a b ≡ false →
+        is_linked (with_link down r other up) a b ≡ is_linked down a b }
+{}
+
+/// Where no desk of a peer failed, no answer is `fault peer`. Where no keeper failed by itself, an answer of
+/// `fault keeper` is that of a fuse: one of the keepers that may fail in the command was armed before it, and is no
+/// more. And where the fuse of a keeper that tells its content made a commit fail, the answer is `fault keeper`.
+pub fn quiet_faults_are_fuses()
+    ensures peer { (w : WorldState) (command : Asked) (entry : Entry) (reply : Said) (w2 : WorldState) →
+        Step w command entry reply w2 → entry.desks ≡ [] → reply ≢ FaultPeer }
+    ensures keeper { (w : WorldState) (command : Asked) (entry : Entry) (reply : Said) (w2 : WorldState) →
+        Step w command entry reply w2 → entry.own ≡ [] → reply ≡ FaultKeeper →
+        (r : ℕ) × (is_named (may_fail command) r ≡ true) × (fired_at w w2 r ≡ true) }
+    ensures fired { (w : WorldState) (command : Asked) (entry : Entry) (reply : Said) (w2 : WorldState) (r : ℕ) →
+        Step w command entry reply w2 → tells_at (slice_get w.places r) ≡ true → fired_at w w2 r ≡ true →
+        reply ≡ FaultKeeper }
+{}
+
+/// A command is answered by `stopped` exactly where a replica that it works on doesn't run: that of every command of
+/// one replica but `plant`, `open`, `stopat` and `stopafter`, and either of the two of `same`.
+pub fn stopped_is_exact()
+    ensures { (w : WorldState) (command : Asked) (entry : Entry) (reply : Said) (w2 : WorldState) →
+        Step w command entry reply w2 → (reply ≡ Stopped) ↔ (some_stopped w (asks_running command) ≡ true) }
+{}
+
+/// After a repair that was answered by `clean`, no gap is left at its replica, and where no stored block leads back to
+/// itself, the processed blocks are exactly those that its heads reach. In a run the line may stand at any place, counted
+/// from 0.
+pub fn clean_repairs_are_reached()
+    ensures step { (w : WorldState) (r workers : ℕ) (entry : Entry) (w2 : WorldState) →
+        Step w (Repair r workers) entry Clean w2 → HasSettled w2 r }
+    ensures line { (lines : List (List ℕ)) (answers : List (Option Answer)) (first last : WorldState)
+        (k r workers : ℕ) → Runs first lines answers last → IsLineAt lines answers k (Repair r workers) Clean →
+        AfterLine first lines answers k last (λ w. HasSettled w r) }
+{}

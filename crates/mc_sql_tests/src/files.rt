@@ -1,0 +1,91 @@
+// Files of another layout, and folders in which no file is made.
+use crate::tables::changed;
+use mc_keep::KeepError;
+use mc_keep_sql::SqlKeeper;
+use sqlite::{Connection, Error, FileStore};
+use sqlite_disk::Disk;
+use std::fs;
+use std::test::Fail;
+
+const FOLDER: &str = "mc_sql_layout_test";
+
+const FILE: &str = "mc_sql_layout_test/a.db";
+
+// Runs these statements over a connection to files, and closes them.
+fn close_after<D: Disk + Drop>(
+    connection: Connection<FileStore<D>>,
+    statements: &str,
+) -> Result<(), KeepError> {
+    match changed(connection, statements)?.close() {
+        Ok(()) => Ok(()),
+        Err(_) => Err(KeepError::Failed),
+    }
+}
+
+// The same over the tables of a keeper.
+fn change_tables<D: Disk + Drop>(
+    keeper: Result<SqlKeeper<FileStore<D>>, KeepError>,
+    statements: &str,
+) -> Result<(), KeepError> {
+    close_after(keeper?.into_connection(), statements)
+}
+
+// The same over a file.
+fn change_file<D: Disk + Drop>(
+    connection: Result<Connection<FileStore<D>>, Error>,
+    statements: &str,
+) -> Result<(), KeepError> {
+    match connection {
+        Ok(connection) => close_after(connection, statements),
+        Err(_) => Err(KeepError::Failed),
+    }
+}
+
+// A folder of this name without a file.
+fn make_folder(rt: &HostRuntime) -> Result<(), Fail> {
+    let _ = fs::remove_dir_all(rt, FOLDER);
+    fs::create_dir(rt, FOLDER)?;
+    Ok(())
+}
+
+fn is_refused(rt: &HostRuntime, folder: &str) -> bool {
+    matches!(SqlKeeper::open(rt, folder, 0), Err(KeepError::Failed))
+}
+
+// Whether the file is refused, and left as it is.
+fn is_left(rt: &HostRuntime) -> Result<bool, Fail> {
+    let before = fs::read(rt, FILE)?;
+    let refused = is_refused(rt, FOLDER);
+    let after = fs::read(rt, FILE)?;
+    Ok(refused && !before.is_empty() && before.as_slice() == after.as_slice())
+}
+
+#[test]
+fn a_file_of_another_layout_is_left(rt: HostRuntime) -> Result<(), Fail> {
+    for statements in ["UPDATE meta SET layout = 2", "DROP TABLE link"] {
+        make_folder(&rt)?;
+        change_tables(SqlKeeper::open(&rt, FOLDER, 0), statements)?;
+        assert!(rt; is_left(&rt)?, "{statements}");
+    }
+    fs::remove_dir_all(&rt, FOLDER)?;
+    Ok(())
+}
+
+#[test]
+fn a_file_of_another_program_is_left(rt: HostRuntime) -> Result<(), Fail> {
+    make_folder(&rt)?;
+    let statements =
+        "CREATE TABLE note (id INTEGER PRIMARY KEY, title TEXT); INSERT INTO note VALUES (1, 'a')";
+    change_file(Connection::open(&rt, FILE), statements)?;
+    assert!(rt; is_left(&rt)?);
+    fs::remove_dir_all(&rt, FOLDER)?;
+    Ok(())
+}
+
+#[test]
+fn a_folder_without_room_for_files_is_refused(rt: HostRuntime) -> Result<(), Fail> {
+    assert!(rt; is_refused(&rt, "/proc"));
+    assert!(rt; is_refused(&rt, "/dev/null"));
+    assert!(rt; is_refused(&rt, "mc_sql_no_folder"));
+    Ok(())
+}

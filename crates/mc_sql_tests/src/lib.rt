@@ -1,0 +1,24 @@
+//! Tests of the keeper over SQLite beside the one in memory: the same scripts are answered alike, and what the keepers
+//! hold is the same; tables that are damaged or of another layout; and disks that stop at each of their calls.
+#![tactic(auto)]
+
+#[cfg(test)]
+mod both;
+#[cfg(test)]
+mod damage;
+#[cfg(test)]
+mod drawing;
+#[cfg(test)]
+mod drawn;
+#[cfg(test)]
+mod files;
+#[cfg(test)]
+mod rows;
+#[cfg(test)]
+mod shown;
+#[cfg(test)]
+mod stops;
+#[cfg(test)]
+mod tables;
+#[cfg(test)]
+mod worlds;

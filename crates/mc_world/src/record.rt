@@ -1,0 +1,156 @@
+// The record of a line: what failed in it.
+ghost use Rattle.std.specs.Prelude.{◌≡◌, ◌≤◌, ◌+◌, ◌++◌, [], ◌∷◌, OnErr, OnOk, IfOk, length};
+ghost use Rattle.mc_world.specs.Counting.{desk_counts, fault_counts, own_counts, risen_from, rises};
+ghost use Rattle.mc_world.specs.Counting.{HasRecord, entry_since};
+ghost use Rattle.mc_world.specs.Keepers.{desk_count, keeper_of};
+
+use crate::seat::{Held, Seat};
+use crate::{LineEntry, World};
+use mc_base::{Counted, List};
+use mc_keep::Keeper;
+use std::alloc::{AllocError, Global};
+
+// How often the keepers of a world have failed, how often by themselves, and how often the desks, by replica.
+#[derive(Drop)]
+pub(crate) struct Counts {
+    pub(crate) keepers: Vec<u64>,
+    pub(crate) own: Vec<u64>,
+    pub(crate) desks: Vec<u64>,
+}
+
+// What is counted in a world now.
+pub(crate) fn counts_of<K: Keeper>(world: &World<K>, alloc: Global) -> Result<Counts, AllocError>
+    ensures keepers { IfOk result (λ counts. counts.keepers.items ≡ fault_counts K.faults world.now.seats.items) }
+    ensures owns { IfOk result (λ counts. counts.own.items ≡ own_counts K.own world.now.seats.items) }
+    ensures of_desks { IfOk result (λ counts. counts.desks.items ≡ desk_counts K.Desk.faults world.now.desks.items) }
+{
+    let keepers = faults_of(alloc, world.seats.as_slice())?;
+    let own = own_of(alloc, world.seats.as_slice())?;
+    let desks = desks_of::<K>(alloc, world.desks.as_slice())?;
+    Ok(Counts {
+        keepers,
+        own,
+        desks,
+    })
+}
+
+fn faults_of<K: Keeper>(alloc: Global, seats: &[Seat<K>]) -> Result<Vec<u64>, AllocError>
+    ensures { IfOk result (λ counts. counts.items ≡ fault_counts K.faults seats.now) }
+{
+    let mut counts = Vec::with_capacity(alloc, seats.len())?;
+    for seat in seats {
+        counts.push(keeper_of(seat).faults())?;
+    }
+    Ok(counts)
+}
+
+fn own_of<K: Keeper>(alloc: Global, seats: &[Seat<K>]) -> Result<Vec<u64>, AllocError>
+    ensures { IfOk result (λ counts. counts.items ≡ own_counts K.own seats.now) }
+{
+    let mut counts = Vec::with_capacity(alloc, seats.len())?;
+    for seat in seats {
+        counts.push(keeper_of(seat).own_faults())?;
+    }
+    Ok(counts)
+}
+
+fn desks_of<K: Keeper>(alloc: Global, desks: &[List<K::Desk>]) -> Result<Vec<u64>, AllocError>
+    ensures { IfOk result (λ counts. counts.items ≡ desk_counts K.Desk.faults desks.now) }
+{
+    let mut counts = Vec::with_capacity(alloc, desks.len())?;
+    for list in desks {
+        counts.push(count_desks::<K>(list.as_slice()))?;
+    }
+    Ok(counts)
+}
+
+// The counts of some desks together, at most `u64::MAX`.
+fn count_desks<K: Keeper>(desks: &[K::Desk]) -> u64
+    ensures { result ≡ desk_count K.Desk.faults desks.now }
+{
+    let mut count: u64 = 0;
+    for desk in desks {
+        count = count.saturating_add(desk.faults());
+    }
+    count
+}
+
+// The keeper of a replica.
+fn keeper_of<K: Keeper>(seat: &Seat<K>) -> &K
+    ensures { result.now ≡ keeper_of seat.now }
+{
+    match &seat.held {
+        Held::Up(replica) => replica.keeper(),
+        Held::Down(idle) => &idle.keeper,
+    }
+}
+
+// Records a line: what failed since these counts were read.
+pub(crate) fn record_line<K: Keeper>(
+    world: &mut World<K>,
+    alloc: Global,
+    before: &Counts,
+) -> Result<(), AllocError>
+    ensures ok { OnOk result (HasRecord (world.old.entries
+        ++ entry_since K.faults K.own K.Desk.faults before.now world.old ∷ []) world.old world.new) }
+    ensures err { OnErr result (HasRecord world.old.entries world.old world.new) }
+{
+    let after = counts_of(world, alloc)?;
+    let keepers = risen(alloc, before.keepers.as_slice(), after.keepers.as_slice())?;
+    let desks = risen(alloc, before.desks.as_slice(), after.desks.as_slice())?;
+    let own = risen(alloc, before.own.as_slice(), after.own.as_slice())?;
+    push_entry(
+        &mut world.entries,
+        LineEntry {
+            keepers,
+            desks,
+            own,
+        },
+    )
+}
+
+fn push_entry(entries: &mut List<LineEntry>, entry: LineEntry) -> Result<(), AllocError>
+    ensures ok { OnOk result (entries.new ≡ entries.old ++ entry ∷ []) }
+    ensures err { OnErr result (entries.new ≡ entries.old) }
+{
+    entries.push(entry)?;
+    Ok(())
+}
+
+// The numbers of the counts that rose.
+fn risen(alloc: Global, before: &[u64], after: &[u64]) -> Result<List<u64>, AllocError>
+    ensures { IfOk result (λ numbers. numbers ≡ risen_from 0 before.now after.now) }
+{
+    let mut numbers = List::new(alloc);
+    add_risen(&mut numbers, 0, before, after)?;
+    Ok(numbers)
+}
+
+// The same from this number on, behind others.
+fn add_risen(
+    numbers: &mut List<u64>,
+    number: u64,
+    before: &[u64],
+    after: &[u64],
+) -> Result<(), AllocError>
+    requires few { number + length before.now ≤ 18446744073709551615 }
+    ensures { OnOk result (numbers.new ≡ numbers.old ++ risen_from number before.now after.now) }
+{
+    let [old, before @ ..] = before else {
+        return Ok(());
+    };
+    let [new, after @ ..] = after else {
+        return Ok(());
+    };
+    if rises(*old, *new) {
+        numbers.push(number)?;
+    }
+    add_risen(numbers, number + 1, before, after)
+}
+
+// Whether a count rose, or stands at its last value.
+fn rises(before: u64, now: u64) -> bool
+    ensures { result ≡ rises before now }
+{
+    now >= before.saturating_add(1)
+}
