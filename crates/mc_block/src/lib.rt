@@ -11,6 +11,3 @@ pub use fault::{BlockError, Damage};
 pub use laws::written_blocks_are_good;
 pub use read::{links_of, read_block, read_found};
 pub use write::{Made, write_block};
-
-#[cfg(test)]
-mod tests;

@@ -16,6 +16,3 @@ pub use laws::{nodes_are_read, written_nodes_are_read};
 pub use node::{Node, NodeView};
 pub use read::{read_node, view_node};
 pub use write::{node_len, write_node};
-
-#[cfg(test)]
-mod tests;

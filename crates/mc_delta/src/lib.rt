@@ -13,6 +13,3 @@ pub use laws::{deltas_are_read, written_deltas_are_read};
 pub use length::len_delta;
 pub use read::read_delta;
 pub use write::write_delta;
-
-#[cfg(test)]
-mod tests;

@@ -5,8 +5,6 @@ mod draws;
 mod generate;
 mod lines;
 mod summary;
-#[cfg(test)]
-mod tests;
 
 pub use generate::script;
 pub use summary::Summary;

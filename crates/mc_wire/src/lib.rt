@@ -14,6 +14,3 @@ pub use laws::{fields_are_read, varints_are_read, written_is_read};
 pub use read::{next_field, next_key, read_field};
 pub use varint::varint_len;
 pub use write::{put_part_field, put_part_head, put_varint_field};
-
-#[cfg(test)]
-mod tests;

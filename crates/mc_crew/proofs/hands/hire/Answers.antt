@@ -1,4 +1,4 @@
-use Rattle.std.proofs.Common.{◌∙◌, ap}
+use Rattle.std.proofs.Common.{◌∙◌, ap, arith}
 use Rattle.mc_node.specs.Entries.{is_sealed_log}
 use Rattle.mc_crew.proofs.Hiring.{hiring_fits, hiring_on, hiring_parts}
 use Rattle.mc_crew.proofs.hands.hire.Goals as goal
@@ -15,4 +15,4 @@ hand_of-requires-clause-fits g c = hiring_fits _ _ _ _ _ _ _ _ _ _ _ c.loop-fetc
 pub loop-fetch-preserved : goal.loop-fetch-preserved
 loop-fetch-preserved g c =
     hiring_on _ _ _ _ _ _ _ _ _ _ _ c.loop-fetch.invariant c.in-Some.fetch _ c.hand_of.result _ _ _ _ _ c.in-Some.ensures.items c.split-other.ensures.own.0
-    (ap (λ v. v.parts) c.split-other.ensures.left) (ap (λ v. v.seen) c.split-other.ensures.left) c.hand_of.ensures.ready c.hand_of.ensures.fetch c.push_reserved.ensures.items c.push_reserved.ensures.capacity
+    (ap (λ v. v.parts) c.split-other.ensures.left) (ap (λ v. v.seen) c.split-other.ensures.left) c.hand_of.ensures.ready c.hand_of.ensures.fetch c.push_reserved.ensures.items (omega (arith, c.push_reserved.ensures.capacity))

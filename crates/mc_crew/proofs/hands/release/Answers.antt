@@ -1,4 +1,4 @@
-use Rattle.std.proofs.Common.{◌∙◌, ◌++◌, ◌∷◌, [], ◌||◌, ap}
+use Rattle.std.proofs.Common.{◌∙◌, ◌++◌, ◌∷◌, [], ◌||◌, ap, arith}
 use Rattle.mc_turn.specs.Seats.{IsSeatOf}
 use Rattle.mc_worker.specs.Ends.{is_peer}
 use Rattle.mc_crew.proofs.Hiring.{releasing_mine, releasing_on, releasing_start}
@@ -15,5 +15,5 @@ join-requires g c = record {
 pub loop-hand-preserved : goal.loop-hand-preserved
 loop-hand-preserved g c =
     releasing_on _ _ _ _ _ _ _ _ _ _ _ c.loop-hand.invariant c.in-Some.hand _ _ _ _ _ _ c.in-Some.ensures.items c.join.ensures.own (λ replica sealed. c.join.ensures.sealed replica (c.loop-hand.invariant.stays replica sealed))
-    (c.push_reserved.ensures.items ∙ ap (λ x. c.loop-hand.fetches.items ++ x ∷ []) c.freed-other.ensures.fetch) c.push_reserved.ensures.capacity
+    (c.push_reserved.ensures.items ∙ ap (λ x. c.loop-hand.fetches.items ++ x ∷ []) c.freed-other.ensures.fetch) (omega (arith, c.push_reserved.ensures.capacity))
     (c.noted-failed.ensures ∙ ap (λ e. c.loop-hand.failed || is_peer e) c.freed-other.ensures.end)

@@ -1,6 +1,6 @@
 // Lines that are commands and lines that are none, and the text of each reply.
-use crate::*;
 use mc_base::{Bytes, Cid, List, Text};
+use mc_script::{Command, LineError, Reply, read_line, write_reply};
 use std::alloc::{AllocError, Global};
 use std::test::Fail;
 

@@ -1,5 +1,5 @@
 // Whole scripts, as another program writes them.
-use crate::script;
+use mc_gen::script;
 use std::test::Fail;
 
 #[test]

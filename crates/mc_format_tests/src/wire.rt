@@ -1,6 +1,9 @@
 // Fields and faults, by the Protocol Buffers encoding.
-use super::*;
 use mc_base::Bytes;
+use mc_wire::{
+    Content, Field, WireFault, WireFaultAt, next_field, put_part_field, put_varint_field,
+    varint_len,
+};
 use std::test::Fail;
 
 #[derive(Drop)]

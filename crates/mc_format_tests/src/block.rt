@@ -1,6 +1,6 @@
 // Blocks and damages by vectors that were computed outside.
-use super::*;
 use mc_base::{Bytes, Cid, List, Text};
+use mc_block::{BlockError, Damage, read_block, write_block};
 use mc_dagpb::{NodeFault, NodeFaultKind};
 use mc_delta::{DeltaFault, DeltaFaultKind};
 use mc_model::{Delta, Element, id_of};

@@ -1,6 +1,6 @@
 // Deltas by the vectors of the format.
-use super::*;
 use mc_base::{Bytes, List, Text};
+use mc_delta::{DeltaError, DeltaFault, DeltaFaultKind, len_delta, read_delta, write_delta};
 use mc_model::{Delta, Element, Tomb};
 use mc_wire::WireFault;
 use std::test::Fail;

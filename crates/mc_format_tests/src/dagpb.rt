@@ -1,6 +1,6 @@
 // Nodes by the vectors of this profile, with the link of the empty block.
-use super::*;
 use mc_base::{Bytes, Cid, List};
+use mc_dagpb::{NodeError, NodeFault, NodeFaultKind, node_len, read_node, view_node, write_node};
 use std::alloc::{AllocError, Global};
 use std::test::Fail;
 

@@ -1,0 +1,26 @@
+//! Tests of the formats: each is read and written by outside vectors and worked tables. They stand above all of these
+//! crates, so that none of them is proved again for its tests.
+#![tactic(auto)]
+
+#[cfg(test)]
+mod base;
+#[cfg(test)]
+mod base32;
+#[cfg(test)]
+mod block;
+#[cfg(test)]
+mod cast;
+#[cfg(test)]
+mod cidtext;
+#[cfg(test)]
+mod dagpb;
+#[cfg(test)]
+mod delta;
+#[cfg(test)]
+mod generated;
+#[cfg(test)]
+mod key;
+#[cfg(test)]
+mod script;
+#[cfg(test)]
+mod wire;
