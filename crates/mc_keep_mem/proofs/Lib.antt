@@ -20,3 +20,4 @@ pub mod Reserves
 pub mod Empty
 pub mod DeskCounts
 pub mod HolderFacts
+pub mod BroughtFacts

@@ -3,7 +3,7 @@ ghost use Rattle.std.specs.Prelude.{◌≡◌, ℕ, ◌<◌, ◌≤◌, ◌+◌,
 ghost use Rattle.std.specs.Prelude as prelude;
 ghost use Rattle.std.specs.HashMap.{spare, get_by_text};
 ghost use Rattle.std.specs.Str.{bytes_eq};
-ghost use Rattle.mc_keep_mem.specs.Chains.{AreChains, rows_in, row_of_node, with_element};
+ghost use Rattle.mc_keep_mem.specs.Chains.{AreChains, KeepsRows, last_in, rows_in, row_of_node, with_element};
 
 use mc_base::{Bytes, Cid, Text};
 use mc_keep::ElementRow;
@@ -25,15 +25,16 @@ pub(crate) struct Node {
 pub(crate) struct Elements<S: BuildHasher + Drop> {
     pub(crate) nodes: Vec<Node>,
     pub(crate) lasts: HashMap<String, usize, S>,
-    ghost chains: { AreChains nodes.items lasts },
+    ghost chains: { AreChains nodes.items (last_in lasts) },
 }
 
 /// Puts a row in. It takes no memory.
 pub(crate) fn put_element<S: BuildHasher + Drop>(elements: &mut Elements<S>, row: ElementRow)
     requires nodes_room { vec_len elements.old.nodes < vec_capacity elements.old.nodes }
     requires lasts_room { 0 < spare elements.old.lasts }
-    ensures rows { (key : prelude.List ℕ) → rows_in elements.new.nodes.items elements.new.lasts key
-        ≡ cond (bytes_eq row.key key) (row ∷ rows_in elements.old.nodes.items elements.old.lasts key) (rows_in elements.old.nodes.items elements.old.lasts key) }
+    ensures rows { (key : prelude.List ℕ) → rows_in elements.new.nodes.items (last_in elements.new.lasts) key
+        ≡ cond (bytes_eq row.key key) (row ∷ rows_in elements.old.nodes.items (last_in elements.old.lasts) key) (rows_in elements.old.nodes.items (last_in elements.old.lasts) key) }
+    ensures stays { KeepsRows elements.old.nodes.items elements.new.nodes.items }
     ensures nodes_spare { vec_len elements.new.nodes ≡ vec_len elements.old.nodes + 1 }
     ensures nodes_capacity { vec_capacity elements.old.nodes ≤ vec_capacity elements.new.nodes }
     ensures lasts_spare { spare elements.old.lasts ≤ spare elements.new.lasts + 1 }
@@ -45,7 +46,7 @@ pub(crate) fn put_element<S: BuildHasher + Drop>(elements: &mut Elements<S>, row
         value,
     } = row;
     let place = count_of(&elements.nodes);
-    let before = set_last(&mut elements.lasts, key, place);
+    let before = set_place(&mut elements.lasts, key, place);
     elements.nodes.push_reserved(Node {
         cid,
         priority,
@@ -60,18 +61,19 @@ fn count_of(nodes: &Vec<Node>) -> usize
     nodes.as_slice().len()
 }
 
-// Makes a place the last of a key, and gives the one that was.
-fn set_last<S: BuildHasher>(
-    lasts: &mut HashMap<String, usize, S>,
+/// Sets the place of a key, and gives the one that it had. It takes no memory.
+pub(crate) fn set_place<S: BuildHasher>(
+    places: &mut HashMap<String, usize, S>,
     key: Text,
     place: usize,
 ) -> Option<usize>
-    requires room { 0 < spare lasts.old }
-    ensures before { result ≡ get_by_text lasts.old key }
-    ensures lasts { (other : prelude.List ℕ) → get_by_text lasts.new other ≡ cond (bytes_eq key other) (Some place) (get_by_text lasts.old other) }
-    ensures spare { spare lasts.old ≤ spare lasts.new + 1 }
+    requires room { 0 < spare places.old }
+    ensures before { result ≡ get_by_text places.old key }
+    ensures places { (other : prelude.List ℕ) → get_by_text places.new other
+        ≡ cond (bytes_eq key other) (Some place) (get_by_text places.old other) }
+    ensures spare { spare places.old ≤ spare places.new + 1 }
 {
-    match lasts.insert(key.into_string(), place) {
+    match places.insert(key.into_string(), place) {
         Ok(before) => before,
         Err(_) => unreachable!(),
     }
@@ -95,32 +97,35 @@ pub(crate) fn reserve_elements<S: BuildHasher + Drop>(
     rows: usize,
 ) -> Result<(), AllocError>
     ensures ok { OnOk result ((vec_len elements.new.nodes + rows ≤ vec_capacity elements.new.nodes) × (rows ≤ spare elements.new.lasts)) }
-    ensures rows { (key : prelude.List ℕ) → rows_in elements.new.nodes.items elements.new.lasts key ≡ rows_in elements.old.nodes.items elements.old.lasts key }
+    ensures rows { (key : prelude.List ℕ) → rows_in elements.new.nodes.items (last_in elements.new.lasts) key ≡ rows_in elements.old.nodes.items (last_in elements.old.lasts) key }
+    ensures nodes { elements.new.nodes.items ≡ elements.old.nodes.items }
     ensures nodes_len { vec_len elements.new.nodes ≡ vec_len elements.old.nodes }
     ensures nodes_capacity { vec_capacity elements.old.nodes ≤ vec_capacity elements.new.nodes }
     ensures lasts_spare { spare elements.old.lasts ≤ spare elements.new.lasts }
 {
     elements.nodes.reserve(rows)?;
-    reserve_lasts(&mut elements.lasts, rows)
+    reserve_places(&mut elements.lasts, rows)
 }
 
-fn reserve_lasts<S: BuildHasher>(
-    lasts: &mut HashMap<String, usize, S>,
-    rows: usize,
+/// Makes room for so many keys.
+pub(crate) fn reserve_places<S: BuildHasher>(
+    places: &mut HashMap<String, usize, S>,
+    keys: usize,
 ) -> Result<(), AllocError>
-    ensures ok { OnOk result (rows ≤ spare lasts.new) }
-    ensures lasts { (key : prelude.List ℕ) → get_by_text lasts.new key ≡ get_by_text lasts.old key }
-    ensures spare { spare lasts.old ≤ spare lasts.new }
+    ensures ok { OnOk result (keys ≤ spare places.new) }
+    ensures places { (key : prelude.List ℕ) → get_by_text places.new key ≡ get_by_text places.old key }
+    ensures spare { spare places.old ≤ spare places.new }
 {
-    lasts.reserve(rows)
+    places.reserve(keys)
 }
 
 /// Puts rows in. It takes no memory.
 pub(crate) fn put_elements<S: BuildHasher + Drop>(elements: &mut Elements<S>, rows: Vec<ElementRow>)
     requires nodes_room { vec_len elements.old.nodes + length rows.items ≤ vec_capacity elements.old.nodes }
     requires lasts_room { length rows.items ≤ spare elements.old.lasts }
-    ensures rows { (key : prelude.List ℕ) → rows_in elements.new.nodes.items elements.new.lasts key
-        ≡ fold (with_element key) (rows_in elements.old.nodes.items elements.old.lasts key) rows.items }
+    ensures rows { (key : prelude.List ℕ) → rows_in elements.new.nodes.items (last_in elements.new.lasts) key
+        ≡ fold (with_element key) (rows_in elements.old.nodes.items (last_in elements.old.lasts) key) rows.items }
+    ensures stays { KeepsRows elements.old.nodes.items elements.new.nodes.items }
     ensures nodes_spare { vec_len elements.new.nodes ≤ vec_len elements.old.nodes + length rows.items }
     ensures nodes_capacity { vec_capacity elements.old.nodes ≤ vec_capacity elements.new.nodes }
     ensures lasts_spare { spare elements.old.lasts ≤ spare elements.new.lasts + length rows.items }

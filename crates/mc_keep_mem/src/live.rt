@@ -1,10 +1,9 @@
 // The live rows of a key. A hidden row that is met is passed over from then on, but for the last one of the key.
 ghost use Rattle.std.specs.Prelude.{◌≡◌, vec_len, vec_capacity, filter, true, IfOk, Some};
-ghost use Rattle.std.specs.HashMap.{get_by_text};
 ghost use Rattle.mc_model.specs.Ascending.{Ascends};
 ghost use Rattle.mc_model.specs.Id.{id_text};
 ghost use Rattle.mc_keep.specs.ElementOrder.{element_cmp};
-ghost use Rattle.mc_keep_mem.specs.Chains.{before_at, is_before, is_live, led_to, live_from, rows_in, IsLiveAt, IsOf, Pruned};
+ghost use Rattle.mc_keep_mem.specs.Chains.{before_at, is_before, is_live, last_in, led_to, live_from, rows_in, IsLiveAt, IsOf, Pruned};
 ghost use Rattle.mc_keep_mem.specs.Tombs.{has_tomb_in};
 
 use crate::elements::{Elements, Node, row_of};
@@ -24,9 +23,9 @@ pub(crate) fn live_elements_of<S: BuildHasher + Drop>(
 ) -> Result<List<ElementRow>, AllocError>
     ensures rows { IfOk result (λ rows. Ascends element_cmp rows (filter
         (is_live (has_tomb_in tombs.now.keys.keys tombs.now.ids.keys tombs.now.pairs.keys key.now))
-        (rows_in elements.old.nodes.items elements.old.lasts key.now))) }
+        (rows_in elements.old.nodes.items (last_in elements.old.lasts) key.now))) }
     ensures pruned { Pruned (has_tomb_in tombs.now.keys.keys tombs.now.ids.keys tombs.now.pairs.keys)
-        elements.old.nodes.items elements.new.nodes.items elements.old.lasts }
+        elements.old.nodes.items elements.new.nodes.items (last_in elements.old.lasts) }
     ensures lasts { elements.new.lasts ≡ elements.old.lasts }
     ensures len { vec_len elements.new.nodes ≡ vec_len elements.old.nodes }
     ensures capacity { vec_capacity elements.new.nodes ≡ vec_capacity elements.old.nodes }
@@ -47,9 +46,9 @@ fn live_rows<S: BuildHasher + Drop>(
 ) -> Result<Vec<ElementRow>, AllocError>
     ensures rows { IfOk result (λ rows. rows.items ≡ filter
         (is_live (has_tomb_in tombs.now.keys.keys tombs.now.ids.keys tombs.now.pairs.keys key.now))
-        (rows_in elements.old.nodes.items elements.old.lasts key.now)) }
+        (rows_in elements.old.nodes.items (last_in elements.old.lasts) key.now)) }
     ensures pruned { Pruned (has_tomb_in tombs.now.keys.keys tombs.now.ids.keys tombs.now.pairs.keys)
-        elements.old.nodes.items elements.new.nodes.items elements.old.lasts }
+        elements.old.nodes.items elements.new.nodes.items (last_in elements.old.lasts) }
     ensures lasts { elements.new.lasts ≡ elements.old.lasts }
     ensures len { vec_len elements.new.nodes ≡ vec_len elements.old.nodes }
     ensures capacity { vec_capacity elements.new.nodes ≡ vec_capacity elements.old.nodes }
@@ -75,14 +74,14 @@ fn first_live<S: BuildHasher + Drop>(
 ) -> Result<Option<usize>, AllocError>
     ensures live { IfOk result (λ at. IsLiveAt
         (has_tomb_in tombs.now.keys.keys tombs.now.ids.keys tombs.now.pairs.keys key.now)
-        elements.new.nodes.items elements.old.lasts key.now at) }
+        elements.new.nodes.items (last_in elements.old.lasts) key.now at) }
     ensures rest { IfOk result (λ at. live_from
         (has_tomb_in tombs.now.keys.keys tombs.now.ids.keys tombs.now.pairs.keys key.now)
         elements.new.nodes.items key.now at ≡ filter
         (is_live (has_tomb_in tombs.now.keys.keys tombs.now.ids.keys tombs.now.pairs.keys key.now))
-        (rows_in elements.old.nodes.items elements.old.lasts key.now)) }
+        (rows_in elements.old.nodes.items (last_in elements.old.lasts) key.now)) }
     ensures pruned { Pruned (has_tomb_in tombs.now.keys.keys tombs.now.ids.keys tombs.now.pairs.keys)
-        elements.old.nodes.items elements.new.nodes.items elements.old.lasts }
+        elements.old.nodes.items elements.new.nodes.items (last_in elements.old.lasts) }
     ensures lasts { elements.new.lasts ≡ elements.old.lasts }
     ensures len { vec_len elements.new.nodes ≡ vec_len elements.old.nodes }
     ensures capacity { vec_capacity elements.new.nodes ≡ vec_capacity elements.old.nodes }
@@ -107,10 +106,10 @@ fn next_live<S: BuildHasher + Drop>(
     key: &str,
     place: usize,
 ) -> Result<Option<usize>, AllocError>
-    requires own { IsOf elements.old.nodes.items elements.old.lasts key.now place }
+    requires own { IsOf elements.old.nodes.items (last_in elements.old.lasts) key.now place }
     ensures live { IfOk result (λ at. IsLiveAt
         (has_tomb_in tombs.now.keys.keys tombs.now.ids.keys tombs.now.pairs.keys key.now)
-        elements.new.nodes.items elements.old.lasts key.now at) }
+        elements.new.nodes.items (last_in elements.old.lasts) key.now at) }
     ensures rest { IfOk result (λ at. live_from
         (has_tomb_in tombs.now.keys.keys tombs.now.ids.keys tombs.now.pairs.keys key.now)
         elements.new.nodes.items key.now at ≡ live_from
@@ -118,7 +117,7 @@ fn next_live<S: BuildHasher + Drop>(
         elements.old.nodes.items key.now (before_at elements.old.nodes.items place)) }
     ensures back { IfOk result (λ at. is_before place at ≡ true) }
     ensures pruned { Pruned (has_tomb_in tombs.now.keys.keys tombs.now.ids.keys tombs.now.pairs.keys)
-        elements.old.nodes.items elements.new.nodes.items elements.old.lasts }
+        elements.old.nodes.items elements.new.nodes.items (last_in elements.old.lasts) }
     ensures lasts { elements.new.lasts ≡ elements.old.lasts }
     ensures len { vec_len elements.new.nodes ≡ vec_len elements.old.nodes }
     ensures capacity { vec_capacity elements.new.nodes ≡ vec_capacity elements.old.nodes }
@@ -135,8 +134,8 @@ fn next_live<S: BuildHasher + Drop>(
     Ok(None)
 }
 
-// Whether a tombstone hides the row of a key. No id is made where the key has no tombstone.
-fn is_hidden<S: BuildHasher + Drop>(
+/// Whether a tombstone hides the row of a key. No id is made where the key has no tombstone.
+pub(crate) fn is_hidden<S: BuildHasher + Drop>(
     alloc: Global,
     tombs: &Tombs<S>,
     key: &str,

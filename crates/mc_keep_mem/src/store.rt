@@ -17,15 +17,15 @@ use crate::elements::Elements;
 use crate::graph::{block_bytes, has_block};
 use crate::heads::{has_head, head_rows};
 use crate::holder::holder_of;
-use crate::live::live_elements_of;
+use crate::live::{is_hidden, live_elements_of};
 use crate::next::next_row;
 use crate::tables::{Tables, commit_tables, reserve_tables};
 use crate::tombs::{Tombs, has_tomb as has_tomb_row};
-use crate::values::{Values, has_value, value_of};
+use crate::values::{Values, has_value, node_of, value_of};
 use indexmap::{IndexMap, IndexSet};
 use mc_base::{Bytes, Cid, List};
 use mc_keep::{Changes, ElementRow, HeadRow, Summary, ValueRow, changes_fit, commits_are_events};
-use mc_model::{gaps_are_counted, id_of};
+use mc_model::gaps_are_counted;
 use std::alloc::{AllocError, Global};
 use std::collections::{BTreeSet, HashMap, HashSet};
 use std::hash::BuildHasher;
@@ -163,28 +163,31 @@ impl<S: BuildHasher + Drop> Store<S> {
     pub(crate) fn value(&self, alloc: Global, key: &str) -> Result<Option<ValueRow>, AllocError>
         ensures { IfOk result (λ row. IsValueRow (processed (kept_in self.now.tables)) key.now row) }
     {
-        value_of(alloc, &self.tables.values.rows, key)
+        value_of(
+            alloc,
+            &self.tables.elements.nodes,
+            &self.tables.values.rows,
+            key,
+        )
     }
 
     pub(crate) fn holder(&self, alloc: Global, key: &str) -> Result<Option<Cid>, AllocError>
         ensures { IfOk result (λ cid. IsHolder (processed (kept_in self.now.tables)) key.now cid) }
     {
-        let Some(held) = self.tables.values.rows.get(key) else {
+        let nodes = &self.tables.elements.nodes;
+        let Some(node) = node_of(nodes, &self.tables.values.rows, key) else {
             return Ok(None);
         };
-        if let Some(cid) = held.holder {
-            let id = id_of(alloc, &cid)?;
-            if !self.hidden(key, id.as_str()) {
-                return Ok(Some(cid));
-            }
+        if !is_hidden(alloc, &self.tables.tombs, key, node)? {
+            return Ok(Some(node.cid));
         }
-        holder_of(alloc, &self.tables.elements, &self.tables.tombs, key, held)
+        holder_of(alloc, &self.tables.elements, &self.tables.tombs, key, node)
     }
 
     pub(crate) fn has(&self, key: &str) -> bool
         ensures { result ≡ is_some (value_row (processed (kept_in self.now.tables)) key.now) }
     {
-        has_value(&self.tables.values.rows, key)
+        has_value(&self.tables.elements.nodes, &self.tables.values.rows, key)
     }
 
     // Puts the keys that wait into order, so the tables change, and nothing that they tell.
@@ -198,7 +201,14 @@ impl<S: BuildHasher + Drop> Store<S> {
         ensures kept { kept_in self.new.tables ≡ kept_in self.old.tables }
         ensures room { self.new.room ≡ self.old.room }
     {
-        next_row(alloc, &mut self.tables.values, bound, inclusive)
+        let elements = &self.tables.elements;
+        next_row(
+            alloc,
+            &mut self.tables.values,
+            &elements.nodes,
+            bound,
+            inclusive,
+        )
     }
 
     // Makes room for so many rows.

@@ -1,7 +1,7 @@
 // All tables of a keeper, and a commit on them that takes no memory.
 ghost use Rattle.std.specs.Prelude.{◌≡◌, ◌≤◌, ◌+◌, ◌-◌, IfSome, OnOk};
 ghost use Rattle.mc_keep.specs.Changes.{row_count};
-ghost use Rattle.mc_keep_mem.specs.Values.{IsCovered};
+ghost use Rattle.mc_keep_mem.specs.Values.{value_in, IsCovered};
 ghost use Rattle.mc_keep_mem.specs.Fits.{RoomFor, Applied, ChangesMeet, Reserved};
 
 use crate::cids::reserve_cids;
@@ -84,7 +84,7 @@ pub(crate) fn reserve_tables<S: BuildHasher + Drop>(
     tables: &mut Tables<S>,
     rows: usize,
 ) -> Result<(), AllocError>
-    requires covered { IsCovered tables.old.values.rows tables.old.values.ordered tables.old.values.pending.items }
+    requires covered { IsCovered (value_in tables.old.values.rows) tables.old.values.ordered tables.old.values.pending.items }
     ensures ok { OnOk result (RoomFor tables.new rows) }
     ensures reserved { Reserved tables.old tables.new }
 {
