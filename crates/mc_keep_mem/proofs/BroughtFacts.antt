@@ -1,6 +1,6 @@
 -- The values that the changes of a commit bring are those of rows of their keys.
-use Rattle.std.proofs.Common.{◌≡◌, ℕ, Bool, true, false, not, List, [], ◌∷◌, ◌++◌, ◌||◌, ◌&&◌, ◌⊎◌, inl, inr, Option, Some, None, sym, refl, ap, ◌∙◌}
-use Rattle.std.specs.Prelude.{filter, fold, is_some, if◌then◌else◌}
+use Rattle.std.proofs.Common.{◌≡◌, ℕ, Bool, true, false, not, List, [], ◌∷◌, ◌++◌, ◌&&◌, inl, inr, Option, Some, None, sym, refl, ap, ◌∙◌}
+use Rattle.std.specs.Prelude.{fold, is_some, if◌then◌else◌}
 use Rattle.std.specs.List.{list_all, list_any}
 use Rattle.std.specs.Str.{bytes_eq}
 use Rattle.std.specs.declared.hash.BuildHasher as build
@@ -22,11 +22,12 @@ use Rattle.mc_keep.specs.declared.rows.ValueRow.{ValueRow}
 use Rattle.mc_keep.specs.Changes.{has_tomb_row, newly_processed, ranked_row, value_after, values_after}
 use Rattle.mc_keep.specs.Live.{is_shown, ranked_of}
 use Rattle.mc_keep.specs.Tables.{element_rows, element_rows_of, ChangesFit}
+use Rattle.mc_keep_mem.specs.Places.{last_in, value_in}
 use Rattle.mc_keep_mem.specs.declared.tables.Tables.{Tables}
-use Rattle.mc_keep_mem.specs.Chains.{is_live, last_in, rows_in, with_element}
+use Rattle.mc_keep_mem.specs.Chains.{is_live, rows_in, with_element}
 use Rattle.mc_keep_mem.specs.Fits.{kept_in, tomb_in, Fits}
 use Rattle.mc_keep_mem.specs.Holder.{is_brought, is_held, row_with}
-use Rattle.mc_keep_mem.specs.Values.{row_in, value_in}
+use Rattle.mc_keep_mem.specs.Values.{row_in}
 use Rattle.mc_keep_mem.proofs.Fit.{elements_put}
 use Rattle.mc_keep_mem.proofs.FitAfter.{rows_of-append}
 use Rattle.mc_keep_mem.proofs.HolderFacts.{is_found, some_row}
@@ -73,7 +74,7 @@ module _ {S X : Type 0} {g : build.Ghosts S X} {h : hash.Ghosts X} (old : Tables
   more = newly_processed (kept_in old) changes
 
   abbrev rows : List ℕ → List ElementRow
-  rows key = rows_in old.elements.nodes.items (last_in old.elements.lasts) key
+  rows key = rows_in old.elements.nodes.items (last_in old.elements.keys) key
 
   module _ (key : List ℕ) (ranked : Ranked) where
     abbrev has : ElementRow → Bool
@@ -102,7 +103,7 @@ module _ {S X : Type 0} {g : build.Ghosts S X} {h : hash.Ghosts X} (old : Tables
         and_from (bytes_eq row.key key) (has row) parts.0 (and_parts (has row) (not (has_tomb (blocks ++ more) key (id_text row.cid.0))) parts.1).0)
         (meet.rows.elements.same (λ (row : ElementRow). bytes_eq row.key key && held row) ∙ e)
 
-    is_there : values_after key (row_in old.elements.nodes.items (value_in old.values.rows) key) changes.values ≡ Some ranked → is_some (row_with ranked (fold (with_element key) (rows key) changes.elements)) ≡ true
+    is_there : values_after key (row_in old.elements.nodes.items (value_in old.elements.keys) key) changes.values ≡ Some ranked → is_some (row_with ranked (fold (with_element key) (rows key) changes.elements)) ≡ true
     is_there e =
         let value : value_row (blocks ++ more) key ≡ Some ranked = meet.rows.values key ∙ ap (λ z. values_after key z changes.values) (sym (fits.values key)) ∙ e in
         is_found has (fold (with_element key) (rows key) changes.elements)
@@ -114,4 +115,4 @@ module _ {S X : Type 0} {g : build.Ghosts S X} {h : hash.Ghosts X} (old : Tables
         ])
 
   pub are_brought : list_all (is_brought (λ key. fold (with_element key) (rows key) changes.elements)) changes.values ≡ true
-  are_brought = all_brought (λ key. fold (with_element key) (rows key) changes.elements) (row_in old.elements.nodes.items (value_in old.values.rows)) changes.values meet.rows.values_once is_there
+  are_brought = all_brought (λ key. fold (with_element key) (rows key) changes.elements) (row_in old.elements.nodes.items (value_in old.elements.keys)) changes.values meet.rows.values_once is_there

@@ -21,3 +21,4 @@ pub mod Empty
 pub mod DeskCounts
 pub mod HolderFacts
 pub mod BroughtFacts
+pub mod PlaceFacts

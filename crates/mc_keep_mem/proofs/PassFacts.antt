@@ -1,13 +1,13 @@
 -- What is left of the ways where a node leads past the next one.
-use Rattle.std.proofs.Common.{◌≡◌, ℕ, zero, suc, ◌+◌, ◌<◌, ◌≤◌, ◌||◌, ◌⊎◌, inl, inr, arith, Bool, true, false, cond, List, [], ◌∷◌, map, length, set, Option, Some, None, sym, refl, ap, ◌∙◌, subst}
+use Rattle.std.proofs.Common.{◌≡◌, ℕ, zero, suc, ◌+◌, ◌<◌, ◌≤◌, ◌||◌, inl, inr, arith, Bool, true, false, cond, List, [], ◌∷◌, map, length, set, Option, Some, None, sym, refl, ap, ◌∙◌, subst}
 use Rattle.std.specs.Prelude.{slice_get, nat_eq, filter}
 use Rattle.std.specs.Option.{option_map}
 use Rattle.std.proofs.lemmas.Bool.Decides.{nat_tests}
 use Rattle.std.proofs.lemmas.Bool.{cases_lt, and_from, and_parts, or_cases, or_left, or_right, or_parts}
-use Rattle.std.proofs.lemmas.Option.{slice_get_within, slice_get-get_or}
+use Rattle.std.proofs.lemmas.Option.{slice_get_within}
 use Rattle.mc_keep.specs.declared.rows.ElementRow.{ElementRow}
 use Rattle.mc_keep_mem.specs.declared.elements.Node.{Node}
-use Rattle.mc_keep_mem.specs.Chains.{before_at, chain, is_before, is_live, is_on, lead_back, led_to, live_from, row_at, row_of_node, rows_in, AreChains, IsOf, Pruned}
+use Rattle.mc_keep_mem.specs.Chains.{before_at, chain, is_before, is_live, is_on, lead_back, led_to, live_from, row_at, row_of_node, AreChains, IsOf, Pruned}
 use Rattle.mc_keep_mem.proofs.ChainFacts.{before_later, is_below, node_leads, on_more, chain_step, fewer_steps, steps_left}
 
 get_led_here : (nodes : List Node) (place : ℕ) (before : Option ℕ) (node : Node) → slice_get nodes place ≡ Some node → slice_get (led_to nodes place before) place ≡ Some (record node { before = before })

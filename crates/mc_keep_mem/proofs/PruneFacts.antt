@@ -1,14 +1,13 @@
 -- A walk along the ways of a key that passes over its hidden rows.
-use Rattle.std.proofs.Common.{◌≡◌, ℕ, ◌<◌, ◌≤◌, arith, Bool, true, false, cond, List, [], ◌∷◌, ◌++◌, map, length, get_or, ltb, Option, Some, None, sym, refl, ap, ◌∙◌, subst, append_assoc}
+use Rattle.std.proofs.Common.{◌≡◌, ℕ, arith, Bool, true, false, cond, List, [], ◌∷◌, ◌++◌, map, length, get_or, ltb, Option, Some, None, sym, refl, ap, ◌∙◌, subst, append_assoc}
 use Rattle.std.specs.Prelude.{slice_get, filter}
-use Rattle.std.proofs.lemmas.List.{append-nil}
 use Rattle.std.proofs.lemmas.Bool.Decides.{nat_tests}
 use Rattle.std.proofs.lemmas.Option.{slice_get_within, slice_get-get_or}
 use Rattle.mc_keep.specs.declared.rows.ElementRow.{ElementRow}
 use Rattle.mc_keep_mem.specs.declared.elements.Node.{Node}
-use Rattle.mc_keep_mem.specs.Chains.{before_at, chain, is_before, is_live, is_on, lead_back, led_to, live_from, row_of_node, rows_in, AreChains, IsLiveAt, IsOf, Pruned}
-use Rattle.mc_keep_mem.proofs.ChainFacts.{chain_done, chain_step, got_at, is_below, node_leads, steps_left}
-use Rattle.mc_keep_mem.proofs.PassFacts.{is_passed, leads_to_own, led_length, on_first, passed_chains, IsPassed}
+use Rattle.mc_keep_mem.specs.Chains.{before_at, is_before, is_live, is_on, lead_back, led_to, live_from, row_of_node, rows_in, AreChains, IsLiveAt, IsOf, Pruned}
+use Rattle.mc_keep_mem.proofs.ChainFacts.{chain_done, chain_step, got_at, is_below, node_leads}
+use Rattle.mc_keep_mem.proofs.PassFacts.{is_passed, leads_to_own, on_first, passed_chains, IsPassed}
 
 -- the node that leads to a place
 record Leading (nodes : List Node) (place after : ℕ) : Type 0 where

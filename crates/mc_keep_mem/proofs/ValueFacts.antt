@@ -1,5 +1,5 @@
 -- What a change of one key does to the table of value rows, and to its keys in order.
-use Rattle.std.proofs.Common.{◌≡◌, ℕ, Bool, true, false, cond, ◌||◌, List, [], ◌∷◌, ◌++◌, Option, Some, None, sym, refl, ap, ◌∙◌, subst}
+use Rattle.std.proofs.Common.{◌≡◌, ℕ, Bool, true, false, cond, ◌||◌, List, [], ◌∷◌, ◌++◌, Option, Some, None, sym, refl, ap, ◌∙◌}
 use Rattle.std.specs.Prelude.{is_some}
 use Rattle.std.specs.Str.{bytes_eq}
 use Rattle.std.specs.Option.{option_map, option_and_then}
@@ -24,40 +24,25 @@ more true b c e = refl
 more false b c e = or_left b c e
 
 module _ {Y : Type 0} (old new : List ℕ → Option ℕ) (ordered : BTreeSet (String Y)) (pending : List (String Y)) (key : List ℕ) where
-  covered_where : (place : ℕ) (pending' : List (String Y)) → ((other : List ℕ) → new other ≡ cond (bytes_eq key other) (Some place) (old other))
+  covered_where : (pending' : List (String Y)) → ((other : List ℕ) → is_some (new other) ≡ cond (bytes_eq key other) true (is_some (old other)))
       → ((other : List ℕ) → bytes_eq key other ≡ true → (contains_text ordered other || has_text pending' other) ≡ true)
       → ((other : List ℕ) → (contains_text ordered other || has_text pending other) ≡ true → (contains_text ordered other || has_text pending' other) ≡ true)
       → IsCovered old ordered pending → IsCovered new ordered pending'
-  covered_where place pending' rows here kept covered = record { each = λ other has. by other (bytes_eq key other) refl (sym (ap is_some (rows other)) ∙ has) }
+  covered_where pending' set here kept covered = record { each = λ other has. by other (bytes_eq key other) refl (sym (set other) ∙ has) }
     where
-      by : (other : List ℕ) (b : Bool) → bytes_eq key other ≡ b → is_some (cond (bytes_eq key other) (Some place) (old other)) ≡ true → (contains_text ordered other || has_text pending' other) ≡ true
+      by : (other : List ℕ) (b : Bool) → bytes_eq key other ≡ b → cond (bytes_eq key other) true (is_some (old other)) ≡ true → (contains_text ordered other || has_text pending' other) ≡ true
       by other true e has = here other e
-      by other false e has = kept other (covered.each other (sym (ap (λ t. is_some (cond t (Some place) (old other))) e) ∙ has))
-
-  -- a key that has a value already is covered
-  pub covered_again : (place : ℕ) → ((other : List ℕ) → new other ≡ cond (bytes_eq key other) (Some place) (old other))
-      → is_some (old key) ≡ true → IsCovered old ordered pending → IsCovered new ordered pending
-  covered_again place rows had covered =
-      covered_where place pending rows (λ other e. subst (λ z. (contains_text ordered z || has_text pending z) ≡ true) ((bytes_eq-Decides key other).0 e) (covered.each key had)) (λ other e. e) covered
+      by other false e has = kept other (covered.each other (sym (ap (λ t. cond t true (is_some (old other))) e) ∙ has))
 
   -- a new key is covered by its text among those that wait
-  pub covered_new : (place : ℕ) (text : String Y) → ((other : List ℕ) → new other ≡ cond (bytes_eq key other) (Some place) (old other))
-      → string_bytes text ≡ key → IsCovered old ordered pending → IsCovered new ordered (pending ++ text ∷ [])
-  covered_new place text rows named covered =
-      covered_where place (pending ++ text ∷ []) rows
+  pub covered_new : (text : String Y) → ((other : List ℕ) → is_some (new other) ≡ cond (bytes_eq key other) true (is_some (old other))) → string_bytes text ≡ key → IsCovered old ordered pending → IsCovered new ordered (pending ++ text ∷ [])
+  covered_new text set named covered =
+      covered_where (pending ++ text ∷ []) set
       (λ other e. or_right (contains_text ordered other) (has_text (pending ++ text ∷ []) other)
       (list_any-append (λ t. bytes_eq other (string_bytes t)) pending (text ∷ []) ∙ or_right (has_text pending other) (bytes_eq other (string_bytes text) || false)
       (or_left (bytes_eq other (string_bytes text)) false (ap (bytes_eq other) named ∙ nat_list_eq_equiv.symm other key ∙ e))))
       (λ other e. ap (λ t. contains_text ordered other || t) (list_any-append (λ t. bytes_eq other (string_bytes t)) pending (text ∷ [])) ∙ more (contains_text ordered other) (has_text pending other) (bytes_eq other (string_bytes text) || false) e)
       covered
-
-  -- where a value goes, nothing else has to be covered
-  pub covered_less : ((other : List ℕ) → new other ≡ cond (bytes_eq key other) None (old other)) → IsCovered old ordered pending → IsCovered new ordered pending
-  covered_less rows covered = record { each = λ other has. by other (bytes_eq key other) refl (sym (ap is_some (rows other)) ∙ has) }
-    where
-      by : (other : List ℕ) (b : Bool) → bytes_eq key other ≡ b → is_some (cond (bytes_eq key other) None (old other)) ≡ true → (contains_text ordered other || has_text pending other) ≡ true
-      by other true e has = absurd (let f : false ≡ true = sym (ap (λ t. is_some (cond t None (old other))) e) ∙ has in cc)
-      by other false e has = covered.each other (sym (ap (λ t. is_some (cond t None (old other))) e) ∙ has)
 
 -- what the value of a key is once its place is set, or gone
 module _ (nodes : List Node) (old new : List ℕ → Option ℕ) (key : List ℕ) where
@@ -75,13 +60,6 @@ module _ (nodes : List Node) (old new : List ℕ → Option ℕ) (key : List ℕ
           ap (λ (z : List ℕ). option_map ranked_of (row_at nodes z place)) (sym ((bytes_eq-Decides key other).0 e))
           ∙ ap (option_map ranked_of) at ∙ found (row_with ranked rows) refl some
       by false e = refl
-
-  pub row_gone : ((other : List ℕ) → new other ≡ cond (bytes_eq key other) None (old other)) → (other : List ℕ) → row_in nodes new other ≡ cond (bytes_eq key other) None (row_in nodes old other)
-  row_gone set other = ap (λ value. option_map ranked_of (option_and_then (row_at nodes other) value)) (set other) ∙ by (bytes_eq key other)
-    where
-      by : (b : Bool) → option_map ranked_of (option_and_then (row_at nodes other) (cond b None (old other))) ≡ cond b None (row_in nodes old other)
-      by true = refl
-      by false = refl
 
 -- what stays where it stood has the values that it had
 pub row_kept : (nodes new : List Node) (values : List ℕ → Option ℕ) → KeepsRows nodes new → AreThere nodes values → (key : List ℕ) → row_in new values key ≡ row_in nodes values key

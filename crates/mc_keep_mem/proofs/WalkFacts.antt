@@ -5,7 +5,7 @@ use Rattle.std.specs.Option.{option_map}
 use Rattle.mc_base.specs.declared.cid.Cid.{Cid}
 use Rattle.mc_keep.specs.declared.rows.ElementRow.{ElementRow}
 use Rattle.mc_keep_mem.specs.declared.elements.Node.{Node}
-use Rattle.mc_keep_mem.specs.Chains.{AreChains, chain, row_at, row_of_node, rows_in, rows_from, is_before, lead_back}
+use Rattle.mc_keep_mem.specs.Chains.{AreChains, row_at, row_of_node, rows_in, rows_from, is_before, lead_back}
 use Rattle.mc_keep_mem.proofs.ChainFacts.{steps_left, chain_step, chain_done, got_at, is_none}
 
 -- the block of the first row that passes

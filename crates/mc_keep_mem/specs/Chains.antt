@@ -2,8 +2,6 @@
 use Rattle.std.specs.Prelude.{◌≡◌, ⊤, ℕ, zero, suc, ◌+◌, Bool, true, false, not, ◌&&◌, ◌||◌, nat_eq, nat_lt, List, [], ◌∷◌, length, map, filter, slice_get, Option, Some, None}
 use Rattle.std.specs.Prelude.{cond}
 use Rattle.std.specs.Str.{bytes_eq}
-use Rattle.std.specs.HashMap.{HashMap, get_by_text}
-use Rattle.std.specs.declared.string.String.{String}
 use Rattle.std.specs.Option.{option_map}
 use Rattle.mc_model.specs.Id.{id_text}
 use Rattle.mc_keep.specs.declared.rows.ElementRow.{ElementRow}
@@ -52,10 +50,6 @@ row_at nodes key place = option_map (row_of_node key) (slice_get nodes place)
 -- what stood at a place still stands there
 abbrev pub KeepsRows : List Node → List Node → Type 0
 KeepsRows old new = (key : List ℕ) (place : ℕ) (row : ElementRow) → row_at old key place ≡ Some row → row_at new key place ≡ Some row
-
--- the place of the last row of each key
-abbrev pub last_in : {Y S : Type 0} → HashMap (String Y) ℕ S → List ℕ → Option ℕ
-last_in lasts key = get_by_text lasts key
 
 -- the rows of a key, where these are the places of the last ones
 abbrev pub rows_in : List Node → (List ℕ → Option ℕ) → List ℕ → List ElementRow

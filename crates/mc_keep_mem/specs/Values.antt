@@ -3,7 +3,6 @@ use Rattle.std.specs.Prelude.{◌≡◌, ℕ, Bool, true, ◌||◌, List, Option
 use Rattle.std.specs.List.{list_any}
 use Rattle.std.specs.Option.{option_map, option_and_then}
 use Rattle.std.specs.Str.{bytes_eq}
-use Rattle.std.specs.HashMap.{HashMap, get_by_text}
 use Rattle.std.specs.BTreeSet.{BTreeSet, contains_text}
 use Rattle.std.specs.declared.string.String.{String}
 use Rattle.std.specs.String.{string_bytes}
@@ -11,10 +10,6 @@ use Rattle.mc_model.specs.Rank.{Ranked}
 use Rattle.mc_keep.specs.Live.{ranked_of}
 use Rattle.mc_keep_mem.specs.declared.elements.Node.{Node}
 use Rattle.mc_keep_mem.specs.Chains.{row_at}
-
--- the place of the row with the value of each key
-abbrev pub value_in : {Y S : Type 0} → HashMap (String Y) ℕ S → List ℕ → Option ℕ
-value_in rows key = get_by_text rows key
 
 -- the value of a key, with its priority, where these are the places of the values
 abbrev pub row_in : List Node → (List ℕ → Option ℕ) → List ℕ → Option Ranked

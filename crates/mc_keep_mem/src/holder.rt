@@ -2,12 +2,14 @@
 ghost use Rattle.std.specs.Prelude.{◌≡◌, IfOk};
 ghost use Rattle.std.specs.Option.{option_and_then};
 ghost use Rattle.mc_model.specs.Rank.{same_ranked};
-ghost use Rattle.mc_keep_mem.specs.Chains.{last_in, row_at, rows_in, row_of_node};
+ghost use Rattle.mc_keep_mem.specs.Chains.{row_at, rows_in, row_of_node};
 ghost use Rattle.mc_keep_mem.specs.Holder.{is_held, holder_among, row_with};
+ghost use Rattle.mc_keep_mem.specs.Places.{last_in};
 ghost use Rattle.mc_keep_mem.specs.Tombs.{has_tomb_in};
 
 use crate::elements::{Elements, Node};
 use crate::live::is_hidden;
+use crate::places::last_of;
 use crate::tombs::Tombs;
 use mc_base::Cid;
 use std::alloc::{AllocError, Global};
@@ -22,9 +24,9 @@ pub(crate) fn holder_of<S: BuildHasher + Drop>(
     key: &str,
     held: &Node,
 ) -> Result<Option<Cid>, AllocError>
-    ensures { IfOk result (λ cid. cid ≡ holder_among (has_tomb_in tombs.now.keys.keys tombs.now.ids.keys tombs.now.pairs.keys key.now) (held.now.priority, held.now.value) (rows_in elements.now.nodes.items (last_in elements.now.lasts) key.now)) }
+    ensures { IfOk result (λ cid. cid ≡ holder_among (has_tomb_in tombs.now.keys.keys tombs.now.ids.keys tombs.now.pairs.keys key.now) (held.now.priority, held.now.value) (rows_in elements.now.nodes.items (last_in elements.now.keys) key.now)) }
 {
-    let mut at = elements.lasts.get(key).copied();
+    let mut at = last_of(&elements.keys, key);
     while let Some(place) = at {
         let Some(node) = elements.nodes.get(place) else {
             return Ok(None);
@@ -46,9 +48,9 @@ pub(crate) fn place_with<S: BuildHasher + Drop>(
     value: &[u8],
 ) -> Option<usize>
     ensures { option_and_then (row_at elements.now.nodes.items key.now) result
-        ≡ row_with (priority, value.now) (rows_in elements.now.nodes.items (last_in elements.now.lasts) key.now) }
+        ≡ row_with (priority, value.now) (rows_in elements.now.nodes.items (last_in elements.now.keys) key.now) }
 {
-    let mut at = elements.lasts.get(key).copied();
+    let mut at = last_of(&elements.keys, key);
     while let Some(place) = at {
         let Some(node) = elements.nodes.get(place) else {
             return None;

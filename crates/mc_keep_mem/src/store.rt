@@ -54,7 +54,7 @@ impl<S: BuildHasher + Copy + Drop> Store<S> {
                 heads: IndexMap::new(alloc),
                 elements: Elements {
                     nodes: Vec::new(alloc),
-                    lasts: HashMap::with_hasher(alloc, hasher),
+                    keys: HashMap::with_hasher(alloc, hasher),
                 },
                 tombs: Tombs {
                     keys: IndexSet::with_hasher(alloc, hasher),
@@ -62,7 +62,6 @@ impl<S: BuildHasher + Copy + Drop> Store<S> {
                     pairs: HashSet::new(alloc),
                 },
                 values: Values {
-                    rows: HashMap::with_hasher(alloc, hasher),
                     ordered: BTreeSet::new(alloc),
                     pending: Vec::new(alloc),
                 },
@@ -163,19 +162,13 @@ impl<S: BuildHasher + Drop> Store<S> {
     pub(crate) fn value(&self, alloc: Global, key: &str) -> Result<Option<ValueRow>, AllocError>
         ensures { IfOk result (λ row. IsValueRow (processed (kept_in self.now.tables)) key.now row) }
     {
-        value_of(
-            alloc,
-            &self.tables.elements.nodes,
-            &self.tables.values.rows,
-            key,
-        )
+        value_of(alloc, &self.tables.elements, key)
     }
 
     pub(crate) fn holder(&self, alloc: Global, key: &str) -> Result<Option<Cid>, AllocError>
         ensures { IfOk result (λ cid. IsHolder (processed (kept_in self.now.tables)) key.now cid) }
     {
-        let nodes = &self.tables.elements.nodes;
-        let Some(node) = node_of(nodes, &self.tables.values.rows, key) else {
+        let Some(node) = node_of(&self.tables.elements, key) else {
             return Ok(None);
         };
         if !is_hidden(alloc, &self.tables.tombs, key, node)? {
@@ -187,7 +180,7 @@ impl<S: BuildHasher + Drop> Store<S> {
     pub(crate) fn has(&self, key: &str) -> bool
         ensures { result ≡ is_some (value_row (processed (kept_in self.now.tables)) key.now) }
     {
-        has_value(&self.tables.elements.nodes, &self.tables.values.rows, key)
+        has_value(&self.tables.elements, key)
     }
 
     // Puts the keys that wait into order, so the tables change, and nothing that they tell.
@@ -201,11 +194,10 @@ impl<S: BuildHasher + Drop> Store<S> {
         ensures kept { kept_in self.new.tables ≡ kept_in self.old.tables }
         ensures room { self.new.room ≡ self.old.room }
     {
-        let elements = &self.tables.elements;
         next_row(
             alloc,
             &mut self.tables.values,
-            &elements.nodes,
+            &self.tables.elements,
             bound,
             inclusive,
         )

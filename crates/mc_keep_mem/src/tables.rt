@@ -1,7 +1,6 @@
 // All tables of a keeper, and a commit on them that takes no memory.
 ghost use Rattle.std.specs.Prelude.{◌≡◌, ◌≤◌, ◌+◌, ◌-◌, IfSome, OnOk};
 ghost use Rattle.mc_keep.specs.Changes.{row_count};
-ghost use Rattle.mc_keep_mem.specs.Values.{value_in, IsCovered};
 ghost use Rattle.mc_keep_mem.specs.Fits.{RoomFor, Applied, ChangesMeet, Reserved};
 
 use crate::cids::reserve_cids;
@@ -27,7 +26,7 @@ pub(crate) struct Tables<S: BuildHasher + Drop> {
     pub(crate) heads: IndexMap<Cid, u64>,
     pub(crate) elements: Elements<S>,
     pub(crate) tombs: Tombs<S>,
-    pub(crate) values: Values<S>,
+    pub(crate) values: Values,
 }
 
 /// Makes the changes, for which there is room, and gives the room that is left. It takes no memory.
@@ -73,7 +72,7 @@ fn apply<S: BuildHasher + Drop>(tables: &mut Tables<S>, changes: Changes, room: 
     put_heads(&mut tables.heads, heads_in.as_slice());
     put_elements(&mut tables.elements, elements.into_vec());
     put_tombs(&mut tables.tombs, tombs.into_vec());
-    put_values(&mut tables.values, &tables.elements, values.into_vec());
+    put_values(&mut tables.values, &mut tables.elements, values.into_vec());
     if let Some(mark) = mark {
         tables.mark = mark;
     }
@@ -84,7 +83,6 @@ pub(crate) fn reserve_tables<S: BuildHasher + Drop>(
     tables: &mut Tables<S>,
     rows: usize,
 ) -> Result<(), AllocError>
-    requires covered { IsCovered (value_in tables.old.values.rows) tables.old.values.ordered tables.old.values.pending.items }
     ensures ok { OnOk result (RoomFor tables.new rows) }
     ensures reserved { Reserved tables.old tables.new }
 {

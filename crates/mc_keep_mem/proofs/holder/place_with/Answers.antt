@@ -12,7 +12,7 @@ abbrev has : ℕ → List ℕ → ElementRow → Bool
 has priority value row = same_ranked (priority, value) (ranked_of row)
 
 pub loop-at-init : goal.loop-at-init
-loop-at-init g c = walk_begins (find (has c.args.priority c.args.value.now)) c.args.elements.now.chains (c.copied-at.ensures ∙ c.get.ensures.value)
+loop-at-init g c = walk_begins (find (has c.args.priority c.args.value.now)) c.args.elements.now.chains c.last_of-at.ensures
 
 pub loop-at-smaller : goal.loop-at-smaller
 loop-at-smaller g c = (walk_steps c.args.elements.now.chains.back c.loop-at.invariant c.in-Some.is c.deref.ensures.value c.in-Some-get.ensures.lookup.0 c.in-Some-get.ensures.lookup.1).fewer

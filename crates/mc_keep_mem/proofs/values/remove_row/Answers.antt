@@ -1,6 +1,9 @@
-use Rattle.std.proofs.Common.{None}
-use Rattle.std.proofs.lemmas.Map.Text.{hash_map_updates_text}
+use Rattle.mc_keep_mem.proofs.ChainFacts.{same_chains}
+use Rattle.mc_keep_mem.specs.Places.{last_in}
+use Rattle.std.proofs.Common.{refl}
 use Rattle.mc_keep_mem.proofs.values.remove_row.Goals as goal
 
-pub returns-clause-places : goal.returns-clause-places
-returns-clause-places g c = hash_map_updates_text c.args.key.now c.args.rows.now c.remove-old.new.self None c.remove-old.ensures.updates
+pub invariant_of-elements : goal.invariant_of-elements
+invariant_of-elements g c = record {
+  chains = same_chains c.args.elements.now.nodes.items c.args.elements.now.nodes.items (last_in c.args.elements.now.keys) (last_in c.set_value-had.new.keys) refl c.set_value-had.ensures.lasts c.args.elements.now.chains;
+}

@@ -20,7 +20,6 @@ commit_tables-self-requires-clause-meet g c = record {
   new = c.requires.fit.store.new;
   once = c.requires.fit.store.once;
   fresh = search rules;
-  named = c.requires.fit.rows.values_named;
   covered = c.args.self.now.fits.covered;
   brought = are_brought c.args.self.now.tables c.args.changes c.args.self.now.fits c.requires.fit;
 }
