@@ -33,7 +33,7 @@ back_push first (n ∷ nodes) node back before =
     and_from (is_before first n.before) (lead_back (first + 1) (nodes ++ node ∷ [])) parts.0
     (back_push (first + 1) nodes node parts.1 (subst (λ z. is_before z node.before ≡ true) (omega arith) before))
 
-get_push : {A : Type 0} (xs : List A) (y : A) (i : ℕ) → i < length xs → slice_get (xs ++ y ∷ []) i ≡ slice_get xs i
+pub get_push : {A : Type 0} (xs : List A) (y : A) (i : ℕ) → i < length xs → slice_get (xs ++ y ∷ []) i ≡ slice_get xs i
 get_push [] y i below = absurd (omega (arith, below))
 get_push (x ∷ xs) y zero below = refl
 get_push (x ∷ xs) y (suc i) below = get_push xs y i (omega (arith, below))

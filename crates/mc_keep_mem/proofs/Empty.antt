@@ -2,6 +2,7 @@
 use Rattle.std.proofs.Common.{◌≡◌, ℕ, Bool, true, false, List, [], None, map, sym, refl, ap, ◌∙◌, subst}
 use Rattle.std.specs.Prelude.{filter, is_some}
 use Rattle.std.specs.List.{list_any}
+use Rattle.std.specs.HashMap.{keys as map_keys}
 use Rattle.std.specs.Map.{lookup}
 use Rattle.std.specs.Option.{option_map, option_and_then}
 use Rattle.std.specs.Str.{bytes_eq}
@@ -17,7 +18,7 @@ use Rattle.mc_keep_mem.specs.declared.places.Places.{Places}
 use Rattle.mc_keep_mem.specs.declared.tables.Tables.{Tables}
 use Rattle.mc_keep_mem.specs.Chains.{is_live, row_at, rows_in}
 use Rattle.mc_keep_mem.specs.Fits.{kept_in, tomb_in, Fits}
-use Rattle.mc_keep_mem.specs.Graph.{stored_of}
+use Rattle.mc_keep_mem.specs.Graph.{cid_in, stored_of}
 use Rattle.mc_keep_mem.specs.Holder.{is_backed}
 use Rattle.mc_keep_mem.specs.Tombs.{same_pair, number_of}
 
@@ -25,10 +26,10 @@ abbrev empty : Bool → Kept
 empty mark = record { graph = []; order = []; mark = mark }
 
 module _ {S X : Type 0} {g : build.Ghosts S X} {h : hash.Ghosts X} (tables : Tables S X g h)
-    (blocks : tables.blocks.entries ≡ []) (order : tables.order.keys ≡ []) (gaps : tables.gaps.keys ≡ []) (heads : tables.heads.entries ≡ [])
+    (blocks : tables.graph.blocks.entries ≡ []) (order : tables.graph.order.items ≡ []) (gaps : tables.gaps.keys ≡ []) (heads : tables.heads.entries ≡ [])
     (nodes : tables.elements.nodes.items ≡ []) (pairs : tables.tombs.pairs.keys ≡ []) (keys : tables.elements.keys.entries ≡ []) where
   told : kept_in tables ≡ empty tables.mark
-  told = λ i. record { graph = ap (map stored_of) blocks i; order = order i; mark = tables.mark }
+  told = λ i. record { graph = ap (map stored_of) blocks i; order = ap (map (cid_in (map_keys tables.graph.blocks))) order i; mark = tables.mark }
 
   none : processed (kept_in tables) ≡ []
   none = ap processed told

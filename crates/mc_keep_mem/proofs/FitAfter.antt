@@ -25,7 +25,7 @@ use Rattle.mc_keep_mem.specs.Places.{last_in, value_in}
 use Rattle.mc_keep_mem.specs.declared.tables.Tables.{Tables}
 use Rattle.mc_keep_mem.specs.Chains.{is_live, rows_in}
 use Rattle.mc_keep_mem.specs.Front.{closed_by}
-use Rattle.mc_keep_mem.specs.Fits.{kept_in, tomb_in, Fits, Applied}
+use Rattle.mc_keep_mem.specs.Fits.{kept_in, order_in, tomb_in, Fits, Applied}
 use Rattle.mc_keep_mem.proofs.Fit.{elements_put, tombs_put, closed_all, opened_all}
 use Rattle.mc_keep_mem.proofs.HolderFacts.{are_there, backed_put}
 use Rattle.mc_keep_mem.proofs.ValueFacts.{row_kept}
@@ -116,12 +116,12 @@ module _ {S X : Type 0} {g : build.Ghosts S X} {h : hash.Ghosts X} (old new : Ta
   gaps_after : (cid : Cid) → is_among new.gaps.keys cid ≡ is_gap (processed (kept_in new)) cid
   gaps_after cid =
       applied.gaps cid
-      ∙ opened_all new.order.keys cid (fold (closed_by cid) (is_among old.gaps.keys cid) changes.marks) changes.links
-      ∙ ap (λ t. t || (is_among changes.links cid && not (is_among new.order.keys cid))) (closed_all cid (is_among old.gaps.keys cid) changes.marks)
-      ∙ ap (λ t. (t && not (is_among changes.marks cid)) || (is_among changes.links cid && not (is_among new.order.keys cid))) (fits.gaps cid ∙ ap (λ t. is_linked (processed (kept_in old)) cid && not t) (is_processed_has (kept_in old).graph (kept_in old).order cid))
-      ∙ ap (λ t. ((is_linked (processed (kept_in old)) cid && not (is_among old.order.keys cid)) && not (is_among changes.marks cid)) || (is_among changes.links cid && not t)) (ap (λ z. is_among z cid) applied.order ∙ list_any-append (same_cid cid) old.order.keys changes.marks)
-      ∙ gap_more (is_linked (processed (kept_in old)) cid) (is_among old.order.keys cid) (is_among changes.marks cid) (is_among changes.links cid)
-      ∙ ap (λ t. t && not (is_among old.order.keys cid || is_among changes.marks cid)) (sym (meet.front.links cid))
+      ∙ opened_all (order_in new) cid (fold (closed_by cid) (is_among old.gaps.keys cid) changes.marks) changes.links
+      ∙ ap (λ t. t || (is_among changes.links cid && not (is_among (order_in new) cid))) (closed_all cid (is_among old.gaps.keys cid) changes.marks)
+      ∙ ap (λ t. (t && not (is_among changes.marks cid)) || (is_among changes.links cid && not (is_among (order_in new) cid))) (fits.gaps cid ∙ ap (λ t. is_linked (processed (kept_in old)) cid && not t) (is_processed_has (kept_in old).graph (kept_in old).order cid))
+      ∙ ap (λ t. ((is_linked (processed (kept_in old)) cid && not (is_among (order_in old) cid)) && not (is_among changes.marks cid)) || (is_among changes.links cid && not t)) (ap (λ z. is_among z cid) applied.order ∙ list_any-append (same_cid cid) (order_in old) changes.marks)
+      ∙ gap_more (is_linked (processed (kept_in old)) cid) (is_among (order_in old) cid) (is_among changes.marks cid) (is_among changes.links cid)
+      ∙ ap (λ t. t && not (is_among (order_in old) cid || is_among changes.marks cid)) (sym (meet.front.links cid))
       ∙ ap (λ t. is_linked (processed (kept_in old) ++ newly_processed (kept_in old) changes) cid && not t) (sym (processed_has (kept_in old) changes cid))
       ∙ ap (λ z. is_gap z cid) (sym blocks_after)
 

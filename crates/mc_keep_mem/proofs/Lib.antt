@@ -22,3 +22,4 @@ pub mod DeskCounts
 pub mod HolderFacts
 pub mod BroughtFacts
 pub mod PlaceFacts
+pub mod OrderFacts

@@ -61,7 +61,7 @@ module _ {S X : Type 0} {g : build.Ghosts S X} {h : hash.Ghosts X} (old new : Ta
   pub room_reserved : (rows : ℕ) → RoomFor old rows → RoomFor new rows
   room_reserved rows room = record {
     blocks = le_trans room.blocks reserved.blocks_room;
-    order = le_trans room.order reserved.order_room;
+    order = fewer rows (vec_len new.graph.order) (vec_len old.graph.order) (vec_capacity old.graph.order) (vec_capacity new.graph.order) (let same = reserved.order_len in omega (arith, same)) room.order reserved.order_room;
     gaps = le_trans room.gaps reserved.gaps_room;
     heads = le_trans room.heads reserved.heads_room;
     nodes = le_trans (subst (λ (z : ℕ). z + rows ≤ vec_capacity old.elements.nodes) (sym reserved.nodes_len) room.nodes) reserved.nodes_room;

@@ -12,9 +12,9 @@ ghost use Rattle.mc_keep.specs.ElementOrder.{element_cmp};
 ghost use Rattle.mc_keep.specs.Tables.{ChangesFit, IsSummary, IsSmall, IsValueRow};
 ghost use Rattle.mc_keep_mem.specs.Fits.{Fits, RoomFor, kept_in};
 
-use crate::cids::{cid_at, has_cid, position_of};
+use crate::cids::has_cid;
 use crate::elements::Elements;
-use crate::graph::{block_bytes, has_block};
+use crate::graph::{Graph, block_bytes, cid_at, has_block, is_processed, position_of};
 use crate::heads::{has_head, head_rows};
 use crate::holder::holder_of;
 use crate::live::{is_hidden, live_elements_of};
@@ -47,8 +47,10 @@ impl<S: BuildHasher + Copy + Drop> Store<S> {
     {
         Store {
             tables: Tables {
-                blocks: IndexMap::new(alloc),
-                order: IndexSet::new(alloc),
+                graph: Graph {
+                    blocks: IndexMap::new(alloc),
+                    order: Vec::new(alloc),
+                },
                 mark: false,
                 gaps: IndexSet::new(alloc),
                 heads: IndexMap::new(alloc),
@@ -86,19 +88,19 @@ impl<S: BuildHasher + Drop> Store<S> {
     pub(crate) fn block(&self, alloc: Global, cid: &Cid) -> Result<Option<Bytes>, AllocError>
         ensures { IfOk result (λ bytes. bytes ≡ bytes_at (kept_in self.now.tables).graph cid.now) }
     {
-        block_bytes(alloc, &self.tables.blocks, cid)
+        block_bytes(alloc, &self.tables.graph, cid)
     }
 
     pub(crate) fn stored(&self, cid: &Cid) -> bool
         ensures { result ≡ is_stored (kept_in self.now.tables).graph cid.now }
     {
-        has_block(&self.tables.blocks, cid)
+        has_block(&self.tables.graph, cid)
     }
 
     pub(crate) fn position(&self, cid: &Cid) -> Option<u64>
         ensures { result ≡ position (same_cid cid.now) (kept_in self.now.tables).order }
     {
-        match position_of(&self.tables.order, cid) {
+        match position_of(&self.tables.graph, cid) {
             Some(place) => Some(place as u64),
             None => None,
         }
@@ -107,14 +109,14 @@ impl<S: BuildHasher + Drop> Store<S> {
     pub(crate) fn at(&self, position: u64) -> Option<Cid>
         ensures { result ≡ slice_get (kept_in self.now.tables).order position }
     {
-        cid_at(&self.tables.order, position as usize)
+        cid_at(&self.tables.graph, position as usize)
     }
 
     // A processed block is linked unless it is a head, and another one where it is a gap.
     pub(crate) fn linked(&self, cid: &Cid) -> bool
         ensures { result ≡ is_linked (processed (kept_in self.now.tables)) cid.now }
     {
-        if has_cid(&self.tables.order, cid) {
+        if is_processed(&self.tables.graph, cid) {
             return !has_head(&self.tables.heads, cid);
         }
         has_cid(&self.tables.gaps, cid)
@@ -152,8 +154,8 @@ impl<S: BuildHasher + Drop> Store<S> {
     {
         gaps_are_counted();
         Summary {
-            processed: self.tables.order.as_slice().len() as u64,
-            stored: self.tables.blocks.keys().as_slice().len() as u64,
+            processed: self.tables.graph.order.as_slice().len() as u64,
+            stored: self.tables.graph.blocks.keys().as_slice().len() as u64,
             gaps: self.tables.gaps.as_slice().len() as u64,
             mark: self.tables.mark,
         }

@@ -19,6 +19,7 @@ pub commit_tables-self-requires-clause-meet : goal.commit_tables-self-requires-c
 commit_tables-self-requires-clause-meet g c = record {
   new = c.requires.fit.store.new;
   once = c.requires.fit.store.once;
+  stored = c.requires.fit.marks.stored;
   fresh = search rules;
   covered = c.args.self.now.fits.covered;
   brought = are_brought c.args.self.now.tables c.args.changes c.args.self.now.fits c.requires.fit;
