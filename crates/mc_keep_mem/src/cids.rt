@@ -1,13 +1,11 @@
 // A set of identifiers with room for the next commits.
-ghost use Rattle.std.specs.Prelude.{◌≡◌, ◌≤◌, ◌<◌, ◌+◌, [], ◌∷◌, ◌++◌, false, OnOk, length, slice_get};
-ghost use Rattle.std.specs.List.{position};
-ghost use Rattle.indexmap.specs.IndexSet.{spare, insert_key};
+ghost use Rattle.std.specs.Prelude.{◌≡◌, ◌≤◌, ◌<◌, ◌+◌, ◌||◌, ◌&&◌, not, OnOk};
+ghost use Rattle.indexmap.specs.IndexSet.{spare};
 ghost use Rattle.mc_base.specs.declared.cid.Cid.{Cid};
-ghost use Rattle.std.specs.Prelude.{not, ◌||◌, ◌&&◌};
 ghost use Rattle.mc_model.specs.Front.{same_cid, is_among};
 
 use indexmap::IndexSet;
-use mc_base::{Cid, List};
+use mc_base::Cid;
 use std::alloc::AllocError;
 
 pub(crate) fn has_cid(cids: &IndexSet<Cid>, cid: &Cid) -> bool

@@ -1,5 +1,5 @@
 // The table of element rows, with room for the next commits: the rows of a key are a chain from its last row to its first.
-ghost use Rattle.std.specs.Prelude.{◌≡◌, ℕ, ◌<◌, ◌≤◌, ◌+◌, ◌++◌, ◌∷◌, [], length, fold, vec_len, vec_capacity, IfOk, OnOk, cond, true, Option, Some, None};
+ghost use Rattle.std.specs.Prelude.{◌≡◌, ℕ, ◌<◌, ◌≤◌, ◌+◌, ◌∷◌, length, fold, vec_len, vec_capacity, IfOk, OnOk, cond};
 ghost use Rattle.std.specs.Prelude as prelude;
 ghost use Rattle.std.specs.HashMap.{spare};
 ghost use Rattle.std.specs.Str.{bytes_eq};
@@ -35,7 +35,8 @@ pub(crate) fn put_element<S: BuildHasher + Drop>(elements: &mut Elements<S>, row
     requires nodes_room { vec_len elements.old.nodes < vec_capacity elements.old.nodes }
     requires keys_room { 0 < spare elements.old.keys }
     ensures rows { (key : prelude.List ℕ) → rows_in elements.new.nodes.items (last_in elements.new.keys) key
-        ≡ cond (bytes_eq row.key key) (row ∷ rows_in elements.old.nodes.items (last_in elements.old.keys) key) (rows_in elements.old.nodes.items (last_in elements.old.keys) key) }
+        ≡ cond (bytes_eq row.key key) (row ∷ rows_in elements.old.nodes.items (last_in elements.old.keys) key)
+        (rows_in elements.old.nodes.items (last_in elements.old.keys) key) }
     ensures values { (key : prelude.List ℕ) → value_in elements.new.keys key ≡ value_in elements.old.keys key }
     ensures stays { KeepsRows elements.old.nodes.items elements.new.nodes.items }
     ensures nodes_spare { vec_len elements.new.nodes ≡ vec_len elements.old.nodes + 1 }
@@ -81,8 +82,10 @@ pub(crate) fn reserve_elements<S: BuildHasher + Drop>(
     elements: &mut Elements<S>,
     rows: usize,
 ) -> Result<(), AllocError>
-    ensures ok { OnOk result ((vec_len elements.new.nodes + rows ≤ vec_capacity elements.new.nodes) × (rows ≤ spare elements.new.keys)) }
-    ensures rows { (key : prelude.List ℕ) → rows_in elements.new.nodes.items (last_in elements.new.keys) key ≡ rows_in elements.old.nodes.items (last_in elements.old.keys) key }
+    ensures ok { OnOk result ((vec_len elements.new.nodes + rows ≤ vec_capacity elements.new.nodes)
+        × (rows ≤ spare elements.new.keys)) }
+    ensures rows { (key : prelude.List ℕ) → rows_in elements.new.nodes.items (last_in elements.new.keys) key
+        ≡ rows_in elements.old.nodes.items (last_in elements.old.keys) key }
     ensures values { (key : prelude.List ℕ) → value_in elements.new.keys key ≡ value_in elements.old.keys key }
     ensures nodes { elements.new.nodes.items ≡ elements.old.nodes.items }
     ensures nodes_len { vec_len elements.new.nodes ≡ vec_len elements.old.nodes }

@@ -1,5 +1,5 @@
 // The order of the processed blocks and the gaps, as a commit changes them.
-ghost use Rattle.std.specs.Prelude.{◌≡◌, ◌≤◌, ◌<◌, ◌+◌, ◌++◌, ◌&&◌, ◌||◌, not, true, length, fold, vec_len, vec_capacity};
+ghost use Rattle.std.specs.Prelude.{◌≡◌, ◌≤◌, ◌<◌, ◌+◌, ◌++◌, true, length, fold, vec_len, vec_capacity};
 ghost use Rattle.std.specs.List.{list_all};
 ghost use Rattle.indexmap.specs.IndexMap.{spare as map_spare};
 ghost use Rattle.indexmap.specs.IndexSet.{spare};
@@ -44,7 +44,8 @@ fn drop_cids(gaps: &mut IndexSet<Cid>, cids: &[Cid])
 // Adds those of the new links that are not processed to the gaps.
 pub(crate) fn put_gaps(gaps: &mut IndexSet<Cid>, graph: &Graph, links: &[Cid])
     requires room { length links.now ≤ spare gaps.old }
-    ensures gaps { (cid : Cid) → is_among gaps.new.keys cid ≡ fold (opened_by (order_of graph.now.blocks graph.now.order.items) cid) (is_among gaps.old.keys cid) links.now }
+    ensures gaps { (cid : Cid) → is_among gaps.new.keys cid
+        ≡ fold (opened_by (order_of graph.now.blocks graph.now.order.items) cid) (is_among gaps.old.keys cid) links.now }
     ensures spare { spare gaps.old ≤ spare gaps.new + length links.now }
 {
     for link in links {
@@ -55,7 +56,8 @@ pub(crate) fn put_gaps(gaps: &mut IndexSet<Cid>, graph: &Graph, links: &[Cid])
 // Adds a link to the gaps unless it is processed.
 fn put_gap(gaps: &mut IndexSet<Cid>, graph: &Graph, link: &Cid)
     requires room { 0 < spare gaps.old }
-    ensures gaps { (cid : Cid) → is_among gaps.new.keys cid ≡ opened_by (order_of graph.now.blocks graph.now.order.items) cid (is_among gaps.old.keys cid) link.now }
+    ensures gaps { (cid : Cid) → is_among gaps.new.keys cid
+        ≡ opened_by (order_of graph.now.blocks graph.now.order.items) cid (is_among gaps.old.keys cid) link.now }
     ensures spare { spare gaps.old ≤ spare gaps.new + 1 }
 {
     if is_processed(graph, link) {

@@ -1,8 +1,8 @@
-// The stored blocks, in the order in which they came, and the order of the processed ones, with room for the next commits.
-ghost use Rattle.std.specs.Prelude.{◌≡◌, ℕ, ◌≤◌, ◌<◌, ◌+◌, [], ◌∷◌, ◌++◌, true, false, not, length, slice_get, vec_len, vec_capacity};
-ghost use Rattle.std.specs.Prelude.{IfOk, OnOk, Some, cond, fold, is_some};
+// The stored blocks, in the order in which they came, and the order of the processed ones, with room for the next
+// commits.
+ghost use Rattle.std.specs.Prelude.{◌≡◌, ◌≤◌, ◌<◌, ◌+◌, [], ◌∷◌, ◌++◌, true, false, length, slice_get};
+ghost use Rattle.std.specs.Prelude.{IfOk, OnOk, Some, cond, fold, vec_len, vec_capacity};
 ghost use Rattle.std.specs.List.{list_all, list_any, position};
-ghost use Rattle.std.specs.Option.{option_and_then};
 ghost use Rattle.indexmap.specs.IndexMap.{keys, spare};
 ghost use Rattle.indexmap.specs.IndexSet.{insert_key};
 ghost use Rattle.mc_base.specs.declared.cid.Cid.{Cid};

@@ -15,8 +15,8 @@ use mc_base::Cid;
 use std::alloc::{AllocError, Global};
 use std::hash::BuildHasher;
 
-/// The block of the last row of the key that has the value of `held` with its priority and is not hidden, or none where no
-/// row is.
+/// The block of the last row of the key that has the value of `held` with its priority and is not hidden, or none where
+/// no row is.
 pub(crate) fn holder_of<S: BuildHasher + Drop>(
     alloc: Global,
     elements: &Elements<S>,
@@ -24,7 +24,10 @@ pub(crate) fn holder_of<S: BuildHasher + Drop>(
     key: &str,
     held: &Node,
 ) -> Result<Option<Cid>, AllocError>
-    ensures { IfOk result (λ cid. cid ≡ holder_among (has_tomb_in tombs.now.keys.keys tombs.now.ids.keys tombs.now.pairs.keys key.now) (held.now.priority, held.now.value) (rows_in elements.now.nodes.items (last_in elements.now.keys) key.now)) }
+    ensures { IfOk result (λ cid. cid ≡ holder_among
+        (has_tomb_in tombs.now.keys.keys tombs.now.ids.keys tombs.now.pairs.keys key.now)
+        (held.now.priority, held.now.value)
+        (rows_in elements.now.nodes.items (last_in elements.now.keys) key.now)) }
 {
     let mut at = last_of(&elements.keys, key);
     while let Some(place) = at {

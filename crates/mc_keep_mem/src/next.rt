@@ -59,7 +59,8 @@ pub(crate) fn next_row<S: BuildHasher + Drop>(
 ) -> Result<Option<ValueRow>, AllocError>
     requires covered { IsCovered (value_in elements.now.keys) values.old.ordered values.old.pending.items }
     requires there { AreThere elements.now.nodes.items (value_in elements.now.keys) }
-    ensures ok { IfOk result (λ row. IsNextOf (row_in elements.now.nodes.items (value_in elements.now.keys)) bound.now inclusive row) }
+    ensures ok { IfOk result (λ row. IsNextOf
+        (row_in elements.now.nodes.items (value_in elements.now.keys)) bound.now inclusive row) }
     ensures covered { IsCovered (value_in elements.now.keys) values.new.ordered values.new.pending.items }
     ensures len { vec_len values.new.pending ≤ vec_len values.old.pending }
     ensures capacity { vec_capacity values.old.pending ≤ vec_capacity values.new.pending }
@@ -80,7 +81,8 @@ fn next_in_order<S: BuildHasher + Drop>(
     requires covered { IsCovered (value_in elements.now.keys) values.old.ordered values.old.pending.items }
     requires settled { values.old.pending.items ≡ [] }
     requires there { AreThere elements.now.nodes.items (value_in elements.now.keys) }
-    ensures ok { IfOk result (λ row. IsNextOf (row_in elements.now.nodes.items (value_in elements.now.keys)) (string_bytes from.now) inclusive row) }
+    ensures ok { IfOk result (λ row. IsNextOf
+        (row_in elements.now.nodes.items (value_in elements.now.keys)) (string_bytes from.now) inclusive row) }
     ensures pending { values.new.pending ≡ values.old.pending }
     ensures covered { IsCovered (value_in elements.now.keys) values.new.ordered values.new.pending.items }
 {

@@ -98,7 +98,8 @@ fn add_key<S: BuildHasher>(keys: &mut HashMap<String, Places, S>, key: Text, pla
     let _none = keys.insert(key.into_string(), places);
 }
 
-/// Gives a key that has rows a value, by its place, or takes the value away. Tells whether it had one. It takes no memory.
+/// Gives a key that has rows a value, by its place, or takes the value away, and tells whether it had one. It takes no
+/// memory.
 pub(crate) fn set_value<S: BuildHasher>(
     keys: &mut HashMap<String, Places, S>,
     key: &str,

@@ -1,6 +1,6 @@
-// The values of the keys, and the keys with a value in order: those that were put into order, and those that wait to be.
-ghost use Rattle.std.specs.Prelude.{◌≡◌, ℕ, ◌<◌, ◌≤◌, ◌+◌, ◌++◌, ◌∷◌, [], Bool, true, List, length, vec_len, vec_capacity};
-ghost use Rattle.std.specs.Prelude.{IfOk, OnOk, IfSome, IfNone, is_some, fold, cond, not, Some, None};
+// The values of the keys, and the keys with a value in order: those that were put into order, and those that wait.
+ghost use Rattle.std.specs.Prelude.{◌≡◌, ℕ, ◌<◌, ◌≤◌, ◌+◌, Bool, true, List, length, vec_len, vec_capacity};
+ghost use Rattle.std.specs.Prelude.{IfOk, OnOk, IfSome, IfNone, is_some, cond, Some, None};
 ghost use Rattle.std.specs.Str.{bytes_eq};
 ghost use Rattle.std.specs.List.{list_all};
 ghost use Rattle.std.specs.HashMap.{spare};
