@@ -1,15 +1,15 @@
 -- Chains of nodes: what one more node leaves of them.
 use Rattle.std.proofs.Common.{◌≡◌, ℕ, zero, suc, ◌+◌, ◌<◌, ◌≤◌, ◌||◌, ◌⊎◌, inl, inr, arith, Bool, true, false, cond, List, [], ◌∷◌, ◌++◌, map, length, Option, Some, None, sym, refl, ap, ◌∙◌, subst, length-append, ltb, get_or}
 use Rattle.std.specs.Prelude.{slice_get, nat_eq, nat_lt}
+use Rattle.std.specs.Option.{option_map}
 use Rattle.std.specs.Str.{bytes_eq}
-use Rattle.std.specs.HashMap.{HashMap, get_by_text}
-use Rattle.std.specs.declared.string.String.{String}
 use Rattle.std.proofs.lemmas.Bool.Decides.{nat_tests}
 use Rattle.std.proofs.lemmas.Bool.{and_from, and_parts, or_cases}
+use Rattle.std.proofs.lemmas.Option.{slice_get_within}
 use Rattle.std.proofs.lemmas.Slice.Eq.{bytes_eq-Decides}
 use Rattle.mc_keep.specs.declared.rows.ElementRow.{ElementRow}
 use Rattle.mc_keep_mem.specs.declared.elements.Node.{Node}
-use Rattle.mc_keep_mem.specs.Chains.{is_before, is_on, lead_back, chain, row_of_node, rows_in, AreChains}
+use Rattle.mc_keep_mem.specs.Chains.{is_before, is_on, lead_back, chain, row_of_node, rows_in, AreChains, KeepsRows}
 
 pub before_later : (place later : ℕ) (at : Option ℕ) → place ≤ later → is_before place at ≡ true → is_before later at ≡ true
 before_later place later None l e = refl
@@ -33,7 +33,7 @@ back_push first (n ∷ nodes) node back before =
     and_from (is_before first n.before) (lead_back (first + 1) (nodes ++ node ∷ [])) parts.0
     (back_push (first + 1) nodes node parts.1 (subst (λ z. is_before z node.before ≡ true) (omega arith) before))
 
-get_push : {A : Type 0} (xs : List A) (y : A) (i : ℕ) → i < length xs → slice_get (xs ++ y ∷ []) i ≡ slice_get xs i
+pub get_push : {A : Type 0} (xs : List A) (y : A) (i : ℕ) → i < length xs → slice_get (xs ++ y ∷ []) i ≡ slice_get xs i
 get_push [] y i below = absurd (omega (arith, below))
 get_push (x ∷ xs) y zero below = refl
 get_push (x ∷ xs) y (suc i) below = get_push xs y i (omega (arith, below))
@@ -130,14 +130,22 @@ module _ (nodes : List Node) (back : lead_back 0 nodes ≡ true) where
         | inr later ↦ go n.before (before_later at bound n.before (omega (arith, l)) (node_leads at n got)) later
       ]
 
+-- one more node leaves what stands at each place
+pub push_keeps : (nodes : List Node) (node : Node) → KeepsRows nodes (nodes ++ node ∷ [])
+push_keeps nodes node = λ key place row got. ap (option_map (row_of_node key)) (get_push nodes node place (by key place row (slice_get nodes place) refl got)) ∙ got
+  where
+    by : (key : List ℕ) (place : ℕ) (row : ElementRow) (found : Option Node) → slice_get nodes place ≡ found → option_map (row_of_node key) found ≡ Some row → place < length nodes
+    by key place row None is e = absurd (let f : None ≡ Some row = e in cc)
+    by key place row (Some n) is e = slice_get_within nodes place n is
+
 -- the table after one more row
-pub record IsRowPut {Y S : Type 0} (nodes new_nodes : List Node) (lasts new_lasts : HashMap (String Y) ℕ S) (row : ElementRow) : Type 0 where
+pub record IsRowPut (nodes new_nodes : List Node) (lasts new_lasts : List ℕ → Option ℕ) (row : ElementRow) : Type 0 where
   pub chains : AreChains new_nodes new_lasts
   pub rows : (key : List ℕ) → rows_in new_nodes new_lasts key ≡ cond (bytes_eq row.key key) (row ∷ rows_in nodes lasts key) (rows_in nodes lasts key)
 
-module _ {Y S : Type 0} (nodes : List Node) (lasts new_lasts : HashMap (String Y) ℕ S) (key : List ℕ) (node : Node) (chains : AreChains nodes lasts)
-    (leads : node.before ≡ get_by_text lasts key)
-    (updates : (other : List ℕ) → get_by_text new_lasts other ≡ cond (bytes_eq key other) (Some (length nodes)) (get_by_text lasts other)) where
+module _ (nodes : List Node) (lasts new_lasts : List ℕ → Option ℕ) (key : List ℕ) (node : Node) (chains : AreChains nodes lasts)
+    (leads : node.before ≡ lasts key)
+    (updates : (other : List ℕ) → new_lasts other ≡ cond (bytes_eq key other) (Some (length nodes)) (lasts other)) where
   longer : length (nodes ++ node ∷ []) ≡ suc (length nodes)
   longer = length-append nodes (node ∷ []) ∙ omega arith
 
@@ -145,67 +153,67 @@ module _ {Y S : Type 0} (nodes : List Node) (lasts new_lasts : HashMap (String Y
   before_end = ap (is_before (length nodes)) leads ∙ chains.there key
 
   abbrev OnAfter : List ℕ → ℕ → Type 0
-  OnAfter other place = ((key ≡ other) × (place ≡ length nodes)) ⊎ (is_on nodes (length nodes) (get_by_text lasts other) place ≡ true)
+  OnAfter other place = ((key ≡ other) × (place ≡ length nodes)) ⊎ (is_on nodes (length nodes) (lasts other) place ≡ true)
 
   -- what is on the way of a key is the new node, or was there before
-  on_after : (other : List ℕ) (place : ℕ) → is_on (nodes ++ node ∷ []) (length (nodes ++ node ∷ [])) (get_by_text new_lasts other) place ≡ true → OnAfter other place
+  on_after : (other : List ℕ) (place : ℕ) → is_on (nodes ++ node ∷ []) (length (nodes ++ node ∷ [])) (new_lasts other) place ≡ true → OnAfter other place
   on_after other place e =
       by (bytes_eq key other) refl
-      (ap (λ z. is_on (nodes ++ node ∷ []) (suc (length nodes)) z place) (sym (updates other)) ∙ ap (λ z. is_on (nodes ++ node ∷ []) z (get_by_text new_lasts other) place) (sym longer) ∙ e)
+      (ap (λ z. is_on (nodes ++ node ∷ []) (suc (length nodes)) z place) (sym (updates other)) ∙ ap (λ z. is_on (nodes ++ node ∷ []) z (new_lasts other) place) (sym longer) ∙ e)
     where
       own : key ≡ other → (nat_eq (length nodes) place || is_on (nodes ++ node ∷ []) (length nodes) node.before place) ≡ true → OnAfter other place
       own same f = elim (or_cases (nat_eq (length nodes) place) (is_on (nodes ++ node ∷ []) (length nodes) node.before place) f) [
         | inl new ↦ inl (same, grind (arith, nat_tests, new))
         | inr old ↦ inr (
-            ap (λ z. is_on nodes (length nodes) z place) (sym (leads ∙ ap (get_by_text lasts) same))
+            ap (λ z. is_on nodes (length nodes) z place) (sym (leads ∙ ap lasts same))
             ∙ sym (on_push nodes chains.back node (length nodes) node.before place before_end) ∙ old)
       ]
 
-      by : (b : Bool) → bytes_eq key other ≡ b → is_on (nodes ++ node ∷ []) (suc (length nodes)) (cond b (Some (length nodes)) (get_by_text lasts other)) place ≡ true → OnAfter other place
+      by : (b : Bool) → bytes_eq key other ≡ b → is_on (nodes ++ node ∷ []) (suc (length nodes)) (cond b (Some (length nodes)) (lasts other)) place ≡ true → OnAfter other place
       by true same f = own ((bytes_eq-Decides key other).0 same) (ap (λ found. on_next nodes chains.back (nodes ++ node ∷ []) (length nodes) (length nodes) place found) (sym (get_last nodes node)) ∙ f)
       by false other' f = inr (
-          on_more nodes chains.back (length nodes) (suc (length nodes)) (get_by_text lasts other) place (chains.there other) (omega arith)
-          ∙ sym (on_push nodes chains.back node (suc (length nodes)) (get_by_text lasts other) place (chains.there other)) ∙ f)
+          on_more nodes chains.back (length nodes) (suc (length nodes)) (lasts other) place (chains.there other) (omega arith)
+          ∙ sym (on_push nodes chains.back node (suc (length nodes)) (lasts other) place (chains.there other)) ∙ f)
 
   still_apart : (a b : List ℕ) (place : ℕ) → OnAfter a place → OnAfter b place → a ≡ b
   still_apart a b place (inl x) (inl y) = sym x.0 ∙ y.0
-  still_apart a b place (inl x) (inr y) = absurd (let at = x.1 in let below = on_below nodes chains.back (length nodes) (length nodes) (get_by_text lasts b) place (chains.there b) y in omega (arith, at, below))
-  still_apart a b place (inr x) (inl y) = absurd (let at = y.1 in let below = on_below nodes chains.back (length nodes) (length nodes) (get_by_text lasts a) place (chains.there a) x in omega (arith, at, below))
+  still_apart a b place (inl x) (inr y) = absurd (let at = x.1 in let below = on_below nodes chains.back (length nodes) (length nodes) (lasts b) place (chains.there b) y in omega (arith, at, below))
+  still_apart a b place (inr x) (inl y) = absurd (let at = y.1 in let below = on_below nodes chains.back (length nodes) (length nodes) (lasts a) place (chains.there a) x in omega (arith, at, below))
   still_apart a b place (inr x) (inr y) = chains.apart a b place x y
 
   still_chains : AreChains (nodes ++ node ∷ []) new_lasts
   still_chains = record {
     back = back_push 0 nodes node chains.back (subst (λ z. is_before z node.before ≡ true) (omega arith) before_end);
-    there = λ other. ap (is_before (length (nodes ++ node ∷ []))) (updates other) ∙ ap (λ z. is_before z (cond (bytes_eq key other) (Some (length nodes)) (get_by_text lasts other))) longer ∙ by other (bytes_eq key other);
+    there = λ other. ap (is_before (length (nodes ++ node ∷ []))) (updates other) ∙ ap (λ z. is_before z (cond (bytes_eq key other) (Some (length nodes)) (lasts other))) longer ∙ by other (bytes_eq key other);
     apart = λ a b place x y. still_apart a b place (on_after a place x) (on_after b place y);
   }
     where
-      by : (other : List ℕ) (b : Bool) → is_before (suc (length nodes)) (cond b (Some (length nodes)) (get_by_text lasts other)) ≡ true
+      by : (other : List ℕ) (b : Bool) → is_before (suc (length nodes)) (cond b (Some (length nodes)) (lasts other)) ≡ true
       by other true = grind (arith, nat_tests)
-      by other false = before_later (length nodes) (suc (length nodes)) (get_by_text lasts other) (omega arith) (chains.there other)
+      by other false = before_later (length nodes) (suc (length nodes)) (lasts other) (omega arith) (chains.there other)
 
   at_key : (other : List ℕ) → bytes_eq key other ≡ true → map (row_of_node other) (chain (nodes ++ node ∷ []) (suc (length nodes)) (Some (length nodes))) ≡ row_of_node key node ∷ rows_in nodes lasts other
   at_key other e =
       let same : key ≡ other = (bytes_eq-Decides key other).0 e in
       ap (λ found. map (row_of_node other) (next nodes chains.back (nodes ++ node ∷ []) (length nodes) found)) (get_last nodes node)
-      ∙ ap (λ rest. row_of_node other node ∷ map (row_of_node other) rest) (chain_push nodes chains.back node (length nodes) node.before before_end ∙ ap (chain nodes (length nodes)) (leads ∙ ap (get_by_text lasts) same))
+      ∙ ap (λ rest. row_of_node other node ∷ map (row_of_node other) rest) (chain_push nodes chains.back node (length nodes) node.before before_end ∙ ap (chain nodes (length nodes)) (leads ∙ ap lasts same))
       ∙ ap (λ z. row_of_node z node ∷ rows_in nodes lasts other) (sym same)
 
-  elsewhere : (other : List ℕ) → map (row_of_node other) (chain (nodes ++ node ∷ []) (suc (length nodes)) (get_by_text lasts other)) ≡ rows_in nodes lasts other
+  elsewhere : (other : List ℕ) → map (row_of_node other) (chain (nodes ++ node ∷ []) (suc (length nodes)) (lasts other)) ≡ rows_in nodes lasts other
   elsewhere other =
-      ap (map (row_of_node other)) (chain_push nodes chains.back node (suc (length nodes)) (get_by_text lasts other) (chains.there other)
-      ∙ sym (chain_more nodes chains.back (length nodes) (suc (length nodes)) (get_by_text lasts other) (chains.there other) (omega arith)))
+      ap (map (row_of_node other)) (chain_push nodes chains.back node (suc (length nodes)) (lasts other) (chains.there other)
+      ∙ sym (chain_more nodes chains.back (length nodes) (suc (length nodes)) (lasts other) (chains.there other) (omega arith)))
 
   pub row_put : IsRowPut nodes (nodes ++ node ∷ []) lasts new_lasts (row_of_node key node)
   row_put = record {
     chains = still_chains;
     rows = λ other.
-        ap (λ z. map (row_of_node other) (chain (nodes ++ node ∷ []) z (get_by_text new_lasts other))) longer
+        ap (λ z. map (row_of_node other) (chain (nodes ++ node ∷ []) z (new_lasts other))) longer
         ∙ ap (λ z. map (row_of_node other) (chain (nodes ++ node ∷ []) (suc (length nodes)) z)) (updates other)
         ∙ by other (bytes_eq key other) refl;
   }
     where
-      by : (other : List ℕ) (b : Bool) → bytes_eq key other ≡ b → map (row_of_node other) (chain (nodes ++ node ∷ []) (suc (length nodes)) (cond b (Some (length nodes)) (get_by_text lasts other))) ≡ cond b (row_of_node key node ∷ rows_in nodes lasts other) (rows_in nodes lasts other)
+      by : (other : List ℕ) (b : Bool) → bytes_eq key other ≡ b → map (row_of_node other) (chain (nodes ++ node ∷ []) (suc (length nodes)) (cond b (Some (length nodes)) (lasts other))) ≡ cond b (row_of_node key node ∷ rows_in nodes lasts other) (rows_in nodes lasts other)
       by other true e = at_key other e
       by other false e = elsewhere other
 
@@ -246,18 +254,18 @@ is_none None never = refl
 is_none (Some x) never = absurd (never x refl)
 
 -- the same last rows are the same chains
-pub same_chains : {Y S : Type 0} (nodes new_nodes : List Node) (lasts new_lasts : HashMap (String Y) ℕ S) → new_nodes ≡ nodes
-    → ((key : List ℕ) → get_by_text new_lasts key ≡ get_by_text lasts key) → AreChains nodes lasts → AreChains new_nodes new_lasts
+pub same_chains : (nodes new_nodes : List Node) (lasts new_lasts : List ℕ → Option ℕ) → new_nodes ≡ nodes
+    → ((key : List ℕ) → new_lasts key ≡ lasts key) → AreChains nodes lasts → AreChains new_nodes new_lasts
 same_chains nodes new_nodes lasts new_lasts e same chains = record {
   back = ap (lead_back 0) e ∙ chains.back;
-  there = λ key. ap (λ z. is_before (length z) (get_by_text new_lasts key)) e ∙ ap (is_before (length nodes)) (same key) ∙ chains.there key;
+  there = λ key. ap (λ z. is_before (length z) (new_lasts key)) e ∙ ap (is_before (length nodes)) (same key) ∙ chains.there key;
   apart = λ a b place x y. chains.apart a b place (back a place x) (back b place y);
 }
   where
-    back : (key : List ℕ) (place : ℕ) → is_on new_nodes (length new_nodes) (get_by_text new_lasts key) place ≡ true → is_on nodes (length nodes) (get_by_text lasts key) place ≡ true
-    back key place f = ap (λ z. is_on nodes (length nodes) z place) (sym (same key)) ∙ ap (λ z. is_on z (length z) (get_by_text new_lasts key) place) (sym e) ∙ f
+    back : (key : List ℕ) (place : ℕ) → is_on new_nodes (length new_nodes) (new_lasts key) place ≡ true → is_on nodes (length nodes) (lasts key) place ≡ true
+    back key place f = ap (λ z. is_on nodes (length nodes) z place) (sym (same key)) ∙ ap (λ z. is_on z (length z) (new_lasts key) place) (sym e) ∙ f
 
-pub same_rows : {Y S : Type 0} (nodes new_nodes : List Node) (lasts new_lasts : HashMap (String Y) ℕ S) → new_nodes ≡ nodes
-    → ((key : List ℕ) → get_by_text new_lasts key ≡ get_by_text lasts key) → (key : List ℕ) → rows_in new_nodes new_lasts key ≡ rows_in nodes lasts key
+pub same_rows : (nodes new_nodes : List Node) (lasts new_lasts : List ℕ → Option ℕ) → new_nodes ≡ nodes
+    → ((key : List ℕ) → new_lasts key ≡ lasts key) → (key : List ℕ) → rows_in new_nodes new_lasts key ≡ rows_in nodes lasts key
 same_rows nodes new_nodes lasts new_lasts e same key =
-    ap (λ z. map (row_of_node key) (chain z (length z) (get_by_text new_lasts key))) e ∙ ap (λ z. map (row_of_node key) (chain nodes (length nodes) z)) (same key)
+    ap (λ z. map (row_of_node key) (chain z (length z) (new_lasts key))) e ∙ ap (λ z. map (row_of_node key) (chain nodes (length nodes) z)) (same key)

@@ -1,5 +1,5 @@
 -- What a commit leaves fits.
-use Rattle.std.proofs.Common.{◌≡◌, ℕ, Bool, true, false, not, List, [], ◌++◌, map, ◌||◌, ◌&&◌, sym, refl, ap, ◌∙◌, subst}
+use Rattle.std.proofs.Common.{◌≡◌, ℕ, Bool, true, false, not, List, ◌++◌, map, ◌||◌, ◌&&◌, sym, refl, ap, ◌∙◌, subst}
 use Rattle.std.specs.Prelude.{filter, fold}
 use Rattle.std.specs.List.{list_any}
 use Rattle.std.specs.Str.{bytes_eq}
@@ -21,12 +21,14 @@ use Rattle.mc_keep.specs.declared.changes.Changes.{Changes}
 use Rattle.mc_keep.specs.Changes.{changed, newly_processed, has_tomb_row, values_after, head_after}
 use Rattle.mc_keep.specs.Live.{is_shown, live_element_rows}
 use Rattle.mc_keep.specs.Tables.{element_row, element_rows, element_rows_of, ChangesFit}
+use Rattle.mc_keep_mem.specs.Places.{last_in, value_in}
 use Rattle.mc_keep_mem.specs.declared.tables.Tables.{Tables}
 use Rattle.mc_keep_mem.specs.Chains.{is_live, rows_in}
 use Rattle.mc_keep_mem.specs.Front.{closed_by}
-use Rattle.mc_keep_mem.specs.Fits.{kept_in, tomb_in, Fits, Applied}
+use Rattle.mc_keep_mem.specs.Fits.{kept_in, order_in, tomb_in, Fits, Applied}
 use Rattle.mc_keep_mem.proofs.Fit.{elements_put, tombs_put, closed_all, opened_all}
-use Rattle.mc_keep_mem.proofs.HolderFacts.{backed_put}
+use Rattle.mc_keep_mem.proofs.HolderFacts.{are_there, backed_put}
+use Rattle.mc_keep_mem.proofs.ValueFacts.{row_kept}
 
 -- the rows of a key over further blocks
 pub rows_of-append : (test : ElementRow → Bool) (key : List ℕ) (blocks more : List Block)
@@ -88,21 +90,21 @@ module _ {S X : Type 0} {g : build.Ghosts S X} {h : hash.Ghosts X} (old new : Ta
   abbrev passes : List ℕ → (ElementRow → Bool) → ElementRow → Bool
   passes key test row = is_live (tomb_in new key) row && test row
 
-  old_rows : (key : List ℕ) (test : ElementRow → Bool) → list_any (passes key test) (rows_in old.elements.nodes.items old.elements.lasts key) ≡ list_any (passes key test) (element_rows_of (processed (kept_in old)) key)
+  old_rows : (key : List ℕ) (test : ElementRow → Bool) → list_any (passes key test) (rows_in old.elements.nodes.items (last_in old.elements.keys) key) ≡ list_any (passes key test) (element_rows_of (processed (kept_in old)) key)
   old_rows key test =
-      sym (any_agree (λ row. is_live (tomb_in old key) row && passes key test row) (passes key test) (λ row. both (is_live (tomb_in old key) row) (is_live (tomb_in new key) row) (test row) (still_hidden key row)) (rows_in old.elements.nodes.items old.elements.lasts key))
-      ∙ sym (list_any-filter (passes key test) (is_live (tomb_in old key)) (rows_in old.elements.nodes.items old.elements.lasts key))
+      sym (any_agree (λ row. is_live (tomb_in old key) row && passes key test row) (passes key test) (λ row. both (is_live (tomb_in old key) row) (is_live (tomb_in new key) row) (test row) (still_hidden key row)) (rows_in old.elements.nodes.items (last_in old.elements.keys) key))
+      ∙ sym (list_any-filter (passes key test) (is_live (tomb_in old key)) (rows_in old.elements.nodes.items (last_in old.elements.keys) key))
       ∙ (fits.elements key).same (passes key test)
       ∙ list_any-filter (passes key test) (is_shown (processed (kept_in old)) key) (element_rows_of (processed (kept_in old)) key)
       ∙ any_agree (λ row. is_shown (processed (kept_in old)) key row && passes key test row) (passes key test)
       (λ row. ap (λ t. not t && passes key test row) (sym (fits.tombs key (id_text row.cid.0))) ∙ both (is_live (tomb_in old key) row) (is_live (tomb_in new key) row) (test row) (still_hidden key row)) (element_rows_of (processed (kept_in old)) key)
 
-  elements_after : (key : List ℕ) → SameMembers (filter (is_live (tomb_in new key)) (rows_in new.elements.nodes.items new.elements.lasts key)) (live_element_rows (processed (kept_in new)) key)
+  elements_after : (key : List ℕ) → SameMembers (filter (is_live (tomb_in new key)) (rows_in new.elements.nodes.items (last_in new.elements.keys) key)) (live_element_rows (processed (kept_in new)) key)
   elements_after key = record {
     same = λ test.
-        list_any-filter test (is_live (tomb_in new key)) (rows_in new.elements.nodes.items new.elements.lasts key)
+        list_any-filter test (is_live (tomb_in new key)) (rows_in new.elements.nodes.items (last_in new.elements.keys) key)
         ∙ ap (list_any (passes key test)) (applied.elements key)
-        ∙ elements_put (passes key test) key (rows_in old.elements.nodes.items old.elements.lasts key) changes.elements
+        ∙ elements_put (passes key test) key (rows_in old.elements.nodes.items (last_in old.elements.keys) key) changes.elements
         ∙ ap (λ t. t || list_any (λ (row : ElementRow). bytes_eq row.key key && passes key test row) changes.elements) (old_rows key test)
         ∙ ap (λ t. list_any (passes key test) (element_rows_of (processed (kept_in old)) key) || t) (meet.rows.elements.same (λ (row : ElementRow). bytes_eq row.key key && passes key test row))
         ∙ sym (rows_of-append (passes key test) key (processed (kept_in old)) (newly_processed (kept_in old) changes))
@@ -114,12 +116,12 @@ module _ {S X : Type 0} {g : build.Ghosts S X} {h : hash.Ghosts X} (old new : Ta
   gaps_after : (cid : Cid) → is_among new.gaps.keys cid ≡ is_gap (processed (kept_in new)) cid
   gaps_after cid =
       applied.gaps cid
-      ∙ opened_all new.order.keys cid (fold (closed_by cid) (is_among old.gaps.keys cid) changes.marks) changes.links
-      ∙ ap (λ t. t || (is_among changes.links cid && not (is_among new.order.keys cid))) (closed_all cid (is_among old.gaps.keys cid) changes.marks)
-      ∙ ap (λ t. (t && not (is_among changes.marks cid)) || (is_among changes.links cid && not (is_among new.order.keys cid))) (fits.gaps cid ∙ ap (λ t. is_linked (processed (kept_in old)) cid && not t) (is_processed_has (kept_in old).graph (kept_in old).order cid))
-      ∙ ap (λ t. ((is_linked (processed (kept_in old)) cid && not (is_among old.order.keys cid)) && not (is_among changes.marks cid)) || (is_among changes.links cid && not t)) (ap (λ z. is_among z cid) applied.order ∙ list_any-append (same_cid cid) old.order.keys changes.marks)
-      ∙ gap_more (is_linked (processed (kept_in old)) cid) (is_among old.order.keys cid) (is_among changes.marks cid) (is_among changes.links cid)
-      ∙ ap (λ t. t && not (is_among old.order.keys cid || is_among changes.marks cid)) (sym (meet.front.links cid))
+      ∙ opened_all (order_in new) cid (fold (closed_by cid) (is_among old.gaps.keys cid) changes.marks) changes.links
+      ∙ ap (λ t. t || (is_among changes.links cid && not (is_among (order_in new) cid))) (closed_all cid (is_among old.gaps.keys cid) changes.marks)
+      ∙ ap (λ t. (t && not (is_among changes.marks cid)) || (is_among changes.links cid && not (is_among (order_in new) cid))) (fits.gaps cid ∙ ap (λ t. is_linked (processed (kept_in old)) cid && not t) (is_processed_has (kept_in old).graph (kept_in old).order cid))
+      ∙ ap (λ t. ((is_linked (processed (kept_in old)) cid && not (is_among (order_in old) cid)) && not (is_among changes.marks cid)) || (is_among changes.links cid && not t)) (ap (λ z. is_among z cid) applied.order ∙ list_any-append (same_cid cid) (order_in old) changes.marks)
+      ∙ gap_more (is_linked (processed (kept_in old)) cid) (is_among (order_in old) cid) (is_among changes.marks cid) (is_among changes.links cid)
+      ∙ ap (λ t. t && not (is_among (order_in old) cid || is_among changes.marks cid)) (sym (meet.front.links cid))
       ∙ ap (λ t. is_linked (processed (kept_in old) ++ newly_processed (kept_in old) changes) cid && not t) (sym (processed_has (kept_in old) changes cid))
       ∙ ap (λ z. is_gap z cid) (sym blocks_after)
 
@@ -128,11 +130,13 @@ module _ {S X : Type 0} {g : build.Ghosts S X} {h : hash.Ghosts X} (old new : Ta
     kept = subst IsKept (sym told_after) sound_after;
     elements = elements_after;
     tombs = tombs_after;
-    values = λ key. applied.values key ∙ ap (λ z. values_after key z changes.values) (fits.values key) ∙ sym (meet.rows.values key) ∙ ap (λ z. value_row z key) (sym blocks_after);
+    values = λ key.
+        applied.values key
+        ∙ ap (λ z. values_after key z changes.values) (row_kept old.elements.nodes.items new.elements.nodes.items (value_in old.elements.keys) applied.stays (are_there fits.backed) key ∙ fits.values key) ∙ sym (meet.rows.values key) ∙ ap (λ z. value_row z key) (sym blocks_after);
     covered = applied.covered;
     backed = applied.backed (tomb_in new)
-        (backed_put (tomb_in old) (tomb_in new) old.elements.nodes.items new.elements.nodes.items old.elements.lasts new.elements.lasts old.values.rows changes.elements changes.tombs
-        applied.elements applied.tombs fits.backed);
+        (backed_put (tomb_in old) (tomb_in new) old.elements.nodes.items new.elements.nodes.items (last_in old.elements.keys) (last_in new.elements.keys) (value_in old.elements.keys) changes.elements changes.tombs
+        applied.elements applied.tombs applied.stays fits.backed);
     gaps = gaps_after;
     heads = λ cid. applied.heads cid ∙ ap (λ z. head_after cid z changes.heads_out changes.heads_in) (fits.heads cid) ∙ sym (meet.front.heads cid) ∙ ap (λ z. head_at z cid) (sym blocks_after);
   }

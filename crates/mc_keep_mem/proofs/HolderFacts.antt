@@ -1,12 +1,11 @@
 -- The block of a key's value: found among the rows of the key, it holds the value.
-use Rattle.std.proofs.Common.{◌≡◌, ℕ, Bool, true, false, not, cond, List, [], ◌∷◌, ◌&&◌, ◌||◌, ◌⊎◌, inl, inr, Option, Some, None, sym, refl, ap, ◌∙◌}
-use Rattle.std.specs.Prelude.{filter, find, fold}
-use Rattle.std.specs.HashMap.{HashMap, get_by_text}
+use Rattle.std.proofs.Common.{◌≡◌, arith, ℕ, Bool, true, false, not, cond, List, [], ◌∷◌, ◌&&◌, ◌||◌, inl, inr, Option, Some, None, sym, refl, ap, ◌∙◌}
+use Rattle.std.specs.Prelude.{filter, find, fold, is_some, nat_eq}
 use Rattle.std.specs.Str.{bytes_eq}
-use Rattle.std.specs.declared.string.String.{String}
 use Rattle.std.specs.List.{list_any}
-use Rattle.std.specs.Option.{option_map}
-use Rattle.std.proofs.lemmas.Bool.{and_parts, not-true, or_cases, or_left, or_right}
+use Rattle.std.specs.Option.{option_map, option_and_then}
+use Rattle.std.proofs.lemmas.Bool.{and_from, and_parts, not-true, or_cases, or_left, or_right}
+use Rattle.std.proofs.lemmas.Bool.Decides.{nat_tests}
 use Rattle.std.proofs.lemmas.Slice.Eq.{bytes_eq-Decides}
 use Rattle.mc_base.specs.declared.cid.Cid.{Cid}
 use Rattle.mc_model.specs.declared.block.Block.{Block}
@@ -25,10 +24,10 @@ use Rattle.mc_keep.specs.Live.{ranked_of, is_row_of, live_element_rows, HoldsVal
 use Rattle.mc_keep.specs.Tables.{element_rows_of}
 use Rattle.mc_keep.proofs.Lives.{live_rows-element_rows_of, live_rows_any}
 use Rattle.mc_keep_mem.specs.declared.elements.Node.{Node}
-use Rattle.mc_keep_mem.specs.declared.values.Held.{Held}
-use Rattle.mc_keep_mem.specs.Chains.{is_live, rows_in, with_element, Pruned}
-use Rattle.mc_keep_mem.specs.Holder.{AreBacked, is_backed, is_held, block_among, holder_among, stands_for}
+use Rattle.mc_keep_mem.specs.Chains.{is_live, row_at, rows_in, with_element, KeepsRows, Pruned}
+use Rattle.mc_keep_mem.specs.Holder.{AreBacked, is_backed, is_held, holder_among, row_with, stands_in}
 use Rattle.mc_keep_mem.specs.Tombs.{with_tomb}
+use Rattle.mc_keep_mem.specs.Values.{AreThere}
 use Rattle.mc_keep_mem.proofs.Fit.{elements_put, tombs_put}
 
 -- what is found: a row that passes, and that is one of the list
@@ -63,7 +62,7 @@ none_found test (r ∷ rows) e =
     ] e
 
 -- a value is that of a row that is not hidden
-some_row : (blocks : List Block) (key : List ℕ) (ranked : Ranked) → value_row blocks key ≡ Some ranked → list_any (is_held (has_tomb blocks key) ranked) (element_rows_of blocks key) ≡ true
+pub some_row : (blocks : List Block) (key : List ℕ) (ranked : Ranked) → value_row blocks key ≡ Some ranked → list_any (is_held (has_tomb blocks key) ranked) (element_rows_of blocks key) ≡ true
 some_row blocks key ranked e =
     any_agree (is_held (has_tomb blocks key) ranked) (λ (row : ElementRow). not (has_tomb blocks key (id_text row.cid.0)) && same_ranked ranked (ranked_of row)) (λ row. turned (same_ranked ranked (ranked_of row)) (not (has_tomb blocks key (id_text row.cid.0)))) (element_rows_of blocks key)
     ∙ sym (live_rows_any (has_tomb blocks key) (same_ranked ranked) (element_rows_of blocks key))
@@ -148,8 +147,8 @@ module _ (blocks : List Block) (key : List ℕ) (rows : List ElementRow) (hidden
       by None e = absurd (none e)
       by (Some row) e = held row e
 
-  -- the block that is named beside a value holds it, where it is not hidden
-  pub named_holds : (cid : Cid) → stands_for hidden rows ranked (Some cid) ≡ true → has_tomb blocks key (id_text cid.0) ≡ false → HoldsValue blocks key cid
+  -- the block of a row with the value holds it, where it is not hidden
+  pub named_holds : (cid : Cid) → (hidden (id_text cid.0) || list_any (is_row_of cid ranked) rows) ≡ true → has_tomb blocks key (id_text cid.0) ≡ false → HoldsValue blocks key cid
   named_holds cid there free =
       let own = alike (id_text cid.0) ∙ free in
       record {
@@ -159,77 +158,116 @@ module _ (blocks : List Block) (key : List ℕ) (rows : List ElementRow) (hidden
         lives = free;
       }
 
--- the block of the first row with a value has it
-pub found_backs : (hidden : List ℕ → Bool) (rows : List ElementRow) (ranked : Ranked) → stands_for hidden rows ranked (block_among ranked rows) ≡ true
-found_backs hidden rows ranked = by (find (λ (row : ElementRow). same_ranked ranked (ranked_of row)) rows) refl
+ranked_itself : (ranked : Ranked) → same_ranked ranked ranked ≡ true
+ranked_itself ranked = and_from (nat_eq ranked.0 ranked.0) (bytes_eq ranked.1 ranked.1) (grind (arith, nat_tests)) ((bytes_eq-Decides ranked.1 ranked.1).1 refl)
+
+-- a row that is found has what was asked for, and is one of the list
+pub found_is : (ranked : Ranked) (rows : List ElementRow) (row : ElementRow) → row_with ranked rows ≡ Some row → ranked ≡ ranked_of row
+found_is ranked rows row e =
+    let parts = and_parts (nat_eq ranked.0 row.priority) (bytes_eq ranked.1 row.value) (found_row (λ (r : ElementRow). same_ranked ranked (ranked_of r)) rows row e).passes in
+    let first : ranked.0 ≡ row.priority = let test = parts.0 in grind (arith, nat_tests, test) in
+    let second : ranked.1 ≡ row.value = (bytes_eq-Decides ranked.1 row.value).0 parts.1 in
+    λ i. (first i, second i)
+
+pub found_stands : (hidden : List ℕ → Bool) (ranked : Ranked) (rows : List ElementRow) (row : Option ElementRow) → row ≡ row_with ranked rows → is_some row ≡ true → stands_in hidden rows row ≡ true
+found_stands hidden ranked rows None is some = absurd (let f : false ≡ true = some in cc)
+found_stands hidden ranked rows (Some row) is some =
+    or_right (hidden (id_text row.cid.0)) (list_any (is_row_of row.cid (ranked_of row)) rows)
+    ((found_row (λ (r : ElementRow). same_ranked ranked (ranked_of r)) rows row (sym is)).there (is_row_of row.cid (ranked_of row))
+    (and_from (same_cid row.cid row.cid) (same_ranked (ranked_of row) (ranked_of row)) (cid_itself row.cid) (ranked_itself (ranked_of row))))
+
+-- a row is found where one has what is asked for
+pub is_found : (test : ElementRow → Bool) (rows : List ElementRow) → list_any test rows ≡ true → is_some (find test rows) ≡ true
+is_found test rows any = by (find test rows) refl
   where
-    by : (found : Option ElementRow) → find (λ (row : ElementRow). same_ranked ranked (ranked_of row)) rows ≡ found → stands_for hidden rows ranked (option_map (λ (row : ElementRow). row.cid) found) ≡ true
-    by None e = refl
-    by (Some row) e =
-        let found = found_row (λ (row : ElementRow). same_ranked ranked (ranked_of row)) rows row e in
-        or_right (hidden (id_text row.cid.0)) (list_any (is_row_of row.cid ranked) rows)
-        (found.there (is_row_of row.cid ranked) (ap (λ b. b && same_ranked ranked (ranked_of row)) (cid_itself row.cid) ∙ found.passes))
+    by : (found : Option ElementRow) → find test rows ≡ found → is_some (find test rows) ≡ true
+    by None e = absurd (let f : true ≡ false = sym any ∙ none_found test rows e in cc)
+    by (Some row) e = ap is_some e
 
 -- more rows and more hidden blocks take nothing away
-more_stands : (hidden more : List ℕ → Bool) (rows new : List ElementRow) (held : Option Held) → ((id : List ℕ) → hidden id ≡ true → more id ≡ true)
-    → ((test : ElementRow → Bool) → list_any test rows ≡ true → list_any test new ≡ true) → is_backed hidden rows held ≡ true → is_backed more new held ≡ true
-more_stands hidden more rows new None up on e = refl
-more_stands hidden more rows new (Some held) up on e = by held.holder e
-  where
-    by : (holder : Option Cid) → stands_for hidden rows (held.priority, held.value) holder ≡ true → stands_for more new (held.priority, held.value) holder ≡ true
-    by None e = refl
-    by (Some cid) e = elim (or_cases (hidden (id_text cid.0)) (list_any (is_row_of cid (held.priority, held.value)) rows) e) [
-      | inl gone ↦ or_left (more (id_text cid.0)) (list_any (is_row_of cid (held.priority, held.value)) new) (up (id_text cid.0) gone)
-      | inr there ↦ or_right (more (id_text cid.0)) (list_any (is_row_of cid (held.priority, held.value)) new) (on (is_row_of cid (held.priority, held.value)) there)
-    ]
+more_stands : (hidden more : List ℕ → Bool) (rows new : List ElementRow) (row : ElementRow) → ((id : List ℕ) → hidden id ≡ true → more id ≡ true)
+    → ((test : ElementRow → Bool) → list_any test rows ≡ true → list_any test new ≡ true) → stands_in hidden rows (Some row) ≡ true → stands_in more new (Some row) ≡ true
+more_stands hidden more rows new row up on e = elim (or_cases (hidden (id_text row.cid.0)) (list_any (is_row_of row.cid (ranked_of row)) rows) e) [
+  | inl gone ↦ or_left (more (id_text row.cid.0)) (list_any (is_row_of row.cid (ranked_of row)) new) (up (id_text row.cid.0) gone)
+  | inr there ↦ or_right (more (id_text row.cid.0)) (list_any (is_row_of row.cid (ranked_of row)) new) (on (is_row_of row.cid (ranked_of row)) there)
+]
 
-pub backed_put : {Y Z S T : Type 0} (hidden more : List ℕ → List ℕ → Bool) (nodes new_nodes : List Node) (lasts new_lasts : HashMap (String Y) ℕ S) (rows : HashMap (String Z) Held T) (new : List ElementRow) (tombs : List TombRow)
+more_backed : (hidden more : List ℕ → Bool) (rows new : List ElementRow) (at now : ℕ → Option ElementRow) (value : Option ℕ) → ((id : List ℕ) → hidden id ≡ true → more id ≡ true)
+    → ((test : ElementRow → Bool) → list_any test rows ≡ true → list_any test new ≡ true) → ((place : ℕ) (row : ElementRow) → at place ≡ Some row → now place ≡ Some row)
+    → is_backed hidden rows at value ≡ true → is_backed more new now value ≡ true
+more_backed hidden more rows new at now None up on stays e = refl
+more_backed hidden more rows new at now (Some place) up on stays e = by (at place) refl e
+  where
+    by : (row : Option ElementRow) → at place ≡ row → stands_in hidden rows row ≡ true → stands_in more new (now place) ≡ true
+    by None is f = absurd (let g : false ≡ true = f in cc)
+    by (Some row) is f = ap (stands_in more new) (stays place row is) ∙ more_stands hidden more rows new row up on f
+
+pub backed_put : (hidden more : List ℕ → List ℕ → Bool) (nodes new_nodes : List Node) (lasts new_lasts values : List ℕ → Option ℕ) (new : List ElementRow) (tombs : List TombRow)
     → ((key : List ℕ) → rows_in new_nodes new_lasts key ≡ fold (with_element key) (rows_in nodes lasts key) new) → ((key id : List ℕ) → more key id ≡ fold (with_tomb key id) (hidden key id) tombs)
-    → AreBacked hidden nodes lasts rows → AreBacked more new_nodes new_lasts rows
-backed_put hidden more nodes new_nodes lasts new_lasts rows new tombs put buried backed = record {
-  each = λ key. more_stands (hidden key) (more key) (rows_in nodes lasts key) (rows_in new_nodes new_lasts key) (get_by_text rows key)
+    → KeepsRows nodes new_nodes → AreBacked hidden nodes lasts values → AreBacked more new_nodes new_lasts values
+backed_put hidden more nodes new_nodes lasts new_lasts values new tombs put buried stays backed = record {
+  each = λ key. more_backed (hidden key) (more key) (rows_in nodes lasts key) (rows_in new_nodes new_lasts key) (row_at nodes key) (row_at new_nodes key) (values key)
       (λ id e. buried key id ∙ tombs_put key id (hidden key id) tombs ∙ or_left (hidden key id) (has_tomb_row tombs key id) e)
       (λ test e. ap (list_any test) (put key) ∙ elements_put test key (rows_in nodes lasts key) new ∙ or_left (list_any test (rows_in nodes lasts key)) (list_any (λ (row : ElementRow). bytes_eq row.key key && test row) new) e)
-      (backed.each key);
+      (stays key) (backed.each key);
 }
 
 -- a key's value is set, or goes
-pub backed_set : {Y Z S T : Type 0} (hidden : List ℕ → List ℕ → Bool) (nodes : List Node) (lasts : HashMap (String Y) ℕ S) (old new : HashMap (String Z) Held T) (key : List ℕ) (held : Option Held)
-    → ((other : List ℕ) → get_by_text new other ≡ cond (bytes_eq key other) held (get_by_text old other)) → is_backed (hidden key) (rows_in nodes lasts key) held ≡ true → AreBacked hidden nodes lasts old
+pub backed_set : (hidden : List ℕ → List ℕ → Bool) (nodes : List Node) (lasts old new : List ℕ → Option ℕ) (key : List ℕ) (value : Option ℕ)
+    → ((other : List ℕ) → new other ≡ cond (bytes_eq key other) value (old other)) → is_backed (hidden key) (rows_in nodes lasts key) (row_at nodes key) value ≡ true → AreBacked hidden nodes lasts old
     → AreBacked hidden nodes lasts new
-backed_set hidden nodes lasts old new key held set own backed = record { each = λ other. ap (is_backed (hidden other) (rows_in nodes lasts other)) (set other) ∙ by other (bytes_eq key other) refl }
+backed_set hidden nodes lasts old new key value set own backed = record { each = λ other. ap (is_backed (hidden other) (rows_in nodes lasts other) (row_at nodes other)) (set other) ∙ by other (bytes_eq key other) refl }
   where
-    by : (other : List ℕ) (b : Bool) → bytes_eq key other ≡ b → is_backed (hidden other) (rows_in nodes lasts other) (cond b held (get_by_text old other)) ≡ true
-    by other true e = ap (λ (z : List ℕ). is_backed (hidden z) (rows_in nodes lasts z) held) (sym ((bytes_eq-Decides key other).0 e)) ∙ own
+    by : (other : List ℕ) (b : Bool) → bytes_eq key other ≡ b → is_backed (hidden other) (rows_in nodes lasts other) (row_at nodes other) (cond b value (old other)) ≡ true
+    by other true e = ap (λ (z : List ℕ). is_backed (hidden z) (rows_in nodes lasts z) (row_at nodes z) value) (sym ((bytes_eq-Decides key other).0 e)) ∙ own
     by other false e = backed.each other
 
 -- the same rows, values and hidden blocks
-pub backed_same : {Y Z S T : Type 0} (hidden still : List ℕ → List ℕ → Bool) (nodes new_nodes : List Node) (lasts new_lasts : HashMap (String Y) ℕ S) (old new : HashMap (String Z) Held T)
-    → ((key id : List ℕ) → still key id ≡ hidden key id) → ((key : List ℕ) → rows_in new_nodes new_lasts key ≡ rows_in nodes lasts key) → ((key : List ℕ) → get_by_text new key ≡ get_by_text old key)
-    → AreBacked hidden nodes lasts old → AreBacked still new_nodes new_lasts new
-backed_same hidden still nodes new_nodes lasts new_lasts old new alike same values backed = record {
-  each = λ key. ap (is_backed (still key) (rows_in new_nodes new_lasts key)) (values key)
-      ∙ more_stands (hidden key) (still key) (rows_in nodes lasts key) (rows_in new_nodes new_lasts key) (get_by_text old key)
-      (λ id e. alike key id ∙ e) (λ test e. ap (list_any test) (same key) ∙ e) (backed.each key);
+pub backed_same : (hidden still : List ℕ → List ℕ → Bool) (nodes new_nodes : List Node) (lasts new_lasts old new : List ℕ → Option ℕ) → ((key id : List ℕ) → still key id ≡ hidden key id)
+    → new_nodes ≡ nodes → ((key : List ℕ) → rows_in new_nodes new_lasts key ≡ rows_in nodes lasts key) → ((key : List ℕ) → new key ≡ old key) → AreBacked hidden nodes lasts old → AreBacked still new_nodes new_lasts new
+backed_same hidden still nodes new_nodes lasts new_lasts old new alike kept same values backed = record {
+  each = λ key. ap (is_backed (still key) (rows_in new_nodes new_lasts key) (row_at new_nodes key)) (values key)
+      ∙ more_backed (hidden key) (still key) (rows_in nodes lasts key) (rows_in new_nodes new_lasts key) (row_at nodes key) (row_at new_nodes key) (old key)
+      (λ id e. alike key id ∙ e) (λ test e. ap (list_any test) (same key) ∙ e) (λ place row e. ap (λ (z : List Node). row_at z key place) kept ∙ e) (backed.each key);
 }
 
 -- rows that are hidden may be passed over
-pub backed_pruned : {Y Z S T : Type 0} (hidden : List ℕ → List ℕ → Bool) (nodes new : List Node) (lasts : HashMap (String Y) ℕ S) (rows : HashMap (String Z) Held T) → Pruned hidden nodes new lasts
-    → AreBacked hidden nodes lasts rows → AreBacked hidden new lasts rows
-backed_pruned hidden nodes new lasts rows pruned backed = record { each = λ key. one key (get_by_text rows key) (backed.each key) }
+pub backed_pruned : (hidden : List ℕ → List ℕ → Bool) (nodes new : List Node) (lasts values : List ℕ → Option ℕ) → Pruned hidden nodes new lasts → AreBacked hidden nodes lasts values → AreBacked hidden new lasts values
+backed_pruned hidden nodes new lasts values pruned backed = record { each = λ key. one key (values key) (backed.each key) }
   where
-    one : (key : List ℕ) (held : Option Held) → is_backed (hidden key) (rows_in nodes lasts key) held ≡ true → is_backed (hidden key) (rows_in new lasts key) held ≡ true
-    one key None e = refl
-    one key (Some held) e = by held.holder e
+    by : (key : List ℕ) (row : Option ElementRow) → stands_in (hidden key) (rows_in nodes lasts key) row ≡ true → stands_in (hidden key) (rows_in new lasts key) row ≡ true
+    by key None e = e
+    by key (Some row) e = free (hidden key (id_text row.cid.0)) refl e
       where
-        by : (holder : Option Cid) → stands_for (hidden key) (rows_in nodes lasts key) (held.priority, held.value) holder ≡ true → stands_for (hidden key) (rows_in new lasts key) (held.priority, held.value) holder ≡ true
-        by None e = refl
-        by (Some cid) e = free (hidden key (id_text cid.0)) refl e
-          where
-            free : (b : Bool) → hidden key (id_text cid.0) ≡ b → (hidden key (id_text cid.0) || list_any (is_row_of cid (held.priority, held.value)) (rows_in nodes lasts key)) ≡ true
-                → (hidden key (id_text cid.0) || list_any (is_row_of cid (held.priority, held.value)) (rows_in new lasts key)) ≡ true
-            free true h e = or_left (hidden key (id_text cid.0)) (list_any (is_row_of cid (held.priority, held.value)) (rows_in new lasts key)) h
-            free false h e = or_right (hidden key (id_text cid.0)) (list_any (is_row_of cid (held.priority, held.value)) (rows_in new lasts key))
-                (sym (of_live_block (hidden key) cid (held.priority, held.value) (rows_in new lasts key) h) ∙ ap (list_any (is_row_of cid (held.priority, held.value))) (pruned.live key)
-                ∙ of_live_block (hidden key) cid (held.priority, held.value) (rows_in nodes lasts key) h
-                ∙ ap (λ b. b || list_any (is_row_of cid (held.priority, held.value)) (rows_in nodes lasts key)) (sym h) ∙ e)
+        free : (b : Bool) → hidden key (id_text row.cid.0) ≡ b → (hidden key (id_text row.cid.0) || list_any (is_row_of row.cid (ranked_of row)) (rows_in nodes lasts key)) ≡ true
+            → (hidden key (id_text row.cid.0) || list_any (is_row_of row.cid (ranked_of row)) (rows_in new lasts key)) ≡ true
+        free true h e = or_left (hidden key (id_text row.cid.0)) (list_any (is_row_of row.cid (ranked_of row)) (rows_in new lasts key)) h
+        free false h e = or_right (hidden key (id_text row.cid.0)) (list_any (is_row_of row.cid (ranked_of row)) (rows_in new lasts key))
+            (sym (of_live_block (hidden key) row.cid (ranked_of row) (rows_in new lasts key) h) ∙ ap (list_any (is_row_of row.cid (ranked_of row))) (pruned.live key)
+            ∙ of_live_block (hidden key) row.cid (ranked_of row) (rows_in nodes lasts key) h
+            ∙ ap (λ b. b || list_any (is_row_of row.cid (ranked_of row)) (rows_in nodes lasts key)) (sym h) ∙ e)
+
+    one : (key : List ℕ) (value : Option ℕ) → is_backed (hidden key) (rows_in nodes lasts key) (row_at nodes key) value ≡ true → is_backed (hidden key) (rows_in new lasts key) (row_at new key) value ≡ true
+    one key None e = refl
+    one key (Some place) e = ap (stands_in (hidden key) (rows_in new lasts key)) (pruned.same key place) ∙ by key (row_at nodes key place) e
+
+-- there is a row at each place of a value
+pub are_there : {hidden : List ℕ → List ℕ → Bool} {nodes : List Node} {lasts values : List ℕ → Option ℕ} → AreBacked hidden nodes lasts values → AreThere nodes values
+are_there {hidden = hidden} {nodes = nodes} {lasts = lasts} {values = values} backed = record { each = λ key. by key (values key) (backed.each key) }
+  where
+    some : (key : List ℕ) (row : Option ElementRow) → stands_in (hidden key) (rows_in nodes lasts key) row ≡ true → is_some row ≡ true
+    some key None e = e
+    some key (Some row) e = refl
+
+    by : (key : List ℕ) (value : Option ℕ) → is_backed (hidden key) (rows_in nodes lasts key) (row_at nodes key) value ≡ true → is_some (option_and_then (row_at nodes key) value) ≡ is_some value
+    by key None e = refl
+    by key (Some place) e = some key (row_at nodes key place) e
+
+-- the row of a value is one of its key, unless it is hidden
+pub value_stands : {hidden : List ℕ → List ℕ → Bool} {nodes : List Node} {lasts values : List ℕ → Option ℕ} → AreBacked hidden nodes lasts values → (key : List ℕ) (row : ElementRow)
+    → Some row ≡ option_and_then (row_at nodes key) (values key) → stands_in (hidden key) (rows_in nodes lasts key) (Some row) ≡ true
+value_stands {hidden = hidden} {nodes = nodes} {lasts = lasts} {values = values} backed key row is = by (values key) (backed.each key) is
+  where
+    by : (value : Option ℕ) → is_backed (hidden key) (rows_in nodes lasts key) (row_at nodes key) value ≡ true → Some row ≡ option_and_then (row_at nodes key) value → stands_in (hidden key) (rows_in nodes lasts key) (Some row) ≡ true
+    by None e f = absurd (let g : Some row ≡ None = f in cc)
+    by (Some place) e f = ap (stands_in (hidden key) (rows_in nodes lasts key)) f ∙ e

@@ -20,3 +20,6 @@ pub mod Reserves
 pub mod Empty
 pub mod DeskCounts
 pub mod HolderFacts
+pub mod BroughtFacts
+pub mod PlaceFacts
+pub mod OrderFacts

@@ -5,8 +5,7 @@ use Rattle.std.specs.List.{list_any}
 use Rattle.std.specs.Str.{bytes_eq}
 use Rattle.std.specs.Ordering.{is_lt, is_le, is_gt, is_eq, nat_cmp, ordering_reverse}
 use Rattle.std.specs.Cmp.Lexicographic.{slice_cmp}
-use Rattle.std.specs.HashMap.{HashMap, get_by_text}
-use Rattle.std.specs.Option.{option_copied}
+use Rattle.std.specs.Option.{option_copied, option_map, option_and_then}
 use Rattle.std.specs.BTreeMap.Range.{IsInRange, IsLeBy}
 use Rattle.std.specs.BTreeSet.{BTreeSet, contains, contains_text, IsKeyRangeOf}
 use Rattle.std.specs.declared.cmp.Ordering.{Ordering}
@@ -20,9 +19,10 @@ use Rattle.std.proofs.lemmas.Map.Text.{is_eq-slice_cmp}
 use Rattle.mc_base.proofs.Orders.{less_is}
 use lib.Pointwise.{bytes_decides}
 use Rattle.mc_keep.specs.Next.{is_past}
-use Rattle.mc_keep_mem.specs.declared.values.Held.{Held}
+use Rattle.mc_keep_mem.specs.declared.elements.Node.{Node}
+use Rattle.mc_keep_mem.specs.Chains.{row_at, row_of_node}
 use Rattle.mc_keep_mem.specs.InOrder.{IsFirst, IsFirstText}
-use Rattle.mc_keep_mem.specs.Values.{ranked_held, row_in, has_text, IsCovered}
+use Rattle.mc_keep_mem.specs.Values.{has_text, AreThere, IsCovered}
 use denote.Ref.{Bor}
 
 le_not_gt : (o : Ordering) → is_le o ≡ true → is_gt o ≡ false
@@ -93,21 +93,26 @@ module _ {Y : Type 0} (ordered : BTreeSet (String Y)) (from : String Y) (range :
   none_after is e = none_of ordered (Excluded from) (string_bytes from) false (λ k p. (less_is (string_cmp from k) p, tt)) (λ k i. ap is_lt i.0) range is e
 
 -- a key without a value needs not be in order
-pub covered_without : {Y S : Type 0} (rows : HashMap (String Y) Held S) (ordered new : BTreeSet (String Y)) (pending : List (String Y)) (key : List ℕ) → row_in rows key ≡ None
+pub covered_without : {Y : Type 0} (values : List ℕ → Option ℕ) (ordered new : BTreeSet (String Y)) (pending : List (String Y)) (key : List ℕ) → values key ≡ None
     → ((other : List ℕ) → contains_text new other ≡ cond (bytes_eq key other) false (contains_text ordered other))
-    → IsCovered rows ordered pending → IsCovered rows new pending
-covered_without rows ordered new pending key gone without covered = record { each = λ other has. by other (bytes_eq key other) refl has }
+    → IsCovered values ordered pending → IsCovered values new pending
+covered_without values ordered new pending key gone without covered = record { each = λ other has. by other (bytes_eq key other) refl has }
   where
-    by : (other : List ℕ) (b : Bool) → bytes_eq key other ≡ b → is_some (row_in rows other) ≡ true → (contains_text new other || has_text pending other) ≡ true
-    by other true e has = absurd (let f : false ≡ true = sym (ap is_some (ap (row_in rows) (sym ((bytes_decides key other).0 e)) ∙ gone)) ∙ has in cc)
+    by : (other : List ℕ) (b : Bool) → bytes_eq key other ≡ b → is_some (values other) ≡ true → (contains_text new other || has_text pending other) ≡ true
+    by other true e has = absurd (let f : false ≡ true = sym (ap is_some (ap values (sym ((bytes_decides key other).0 e)) ∙ gone)) ∙ has in cc)
     by other false e has =
         ap (λ t. t || has_text pending other) (without other ∙ ap (λ t. cond t false (contains_text ordered other)) e) ∙ covered.each other has
 
--- where a look-up by the bytes of a key gives nothing, the key has no value
-pub no_value : {Y S : Type 0} (rows : HashMap (String Y) Held S) (text key : List ℕ) (held : Option (Bor Held)) → text ≡ key → option_copied held ≡ get_by_text rows text → ((x : Bor Held) → held ≡ Some x → ⊥) → row_in rows key ≡ None
-no_value rows text key held same value never =
-    ap (row_in rows) (sym same) ∙ ap ranked_held (sym value ∙ ap option_copied (nothing held never))
+-- where a look-up by the bytes of a key gives no node, the key has no value
+pub no_value : (nodes : List Node) (values : List ℕ → Option ℕ) (text key : List ℕ) (node : Option (Bor Node)) → AreThere nodes values → text ≡ key
+    → option_map (row_of_node text) (option_copied node) ≡ option_and_then (row_at nodes text) (values text) → ((x : Bor Node) → node ≡ Some x → ⊥) → values key ≡ None
+no_value nodes values text key node there same got never =
+    nothing (values key) (sym (there.each key) ∙ ap (λ (z : List ℕ). is_some (option_and_then (row_at nodes z) (values z))) (sym same) ∙ ap is_some (sym got) ∙ none node never)
   where
-    nothing : (held : Option (Bor Held)) → ((x : Bor Held) → held ≡ Some x → ⊥) → held ≡ None
-    nothing None never = refl
-    nothing (Some x) never = absurd (never x refl)
+    none : (node : Option (Bor Node)) → ((x : Bor Node) → node ≡ Some x → ⊥) → is_some (option_map (row_of_node text) (option_copied node)) ≡ false
+    none None never = refl
+    none (Some x) never = absurd (never x refl)
+
+    nothing : (value : Option ℕ) → is_some value ≡ false → value ≡ None
+    nothing None e = refl
+    nothing (Some place) e = absurd (let f : true ≡ false = e in cc)

@@ -1,14 +1,13 @@
 -- What is left of the ways where a node leads past the next one.
-use Rattle.std.proofs.Common.{◌≡◌, ℕ, zero, suc, ◌+◌, ◌<◌, ◌≤◌, ◌||◌, ◌⊎◌, inl, inr, arith, Bool, true, false, cond, List, [], ◌∷◌, map, length, set, Option, Some, None, sym, refl, ap, ◌∙◌, subst}
+use Rattle.std.proofs.Common.{◌≡◌, ℕ, zero, suc, ◌+◌, ◌<◌, ◌≤◌, ◌||◌, inl, inr, arith, Bool, true, false, cond, List, [], ◌∷◌, map, length, set, Option, Some, None, sym, refl, ap, ◌∙◌, subst}
 use Rattle.std.specs.Prelude.{slice_get, nat_eq, filter}
-use Rattle.std.specs.HashMap.{HashMap, get_by_text}
-use Rattle.std.specs.declared.string.String.{String}
+use Rattle.std.specs.Option.{option_map}
 use Rattle.std.proofs.lemmas.Bool.Decides.{nat_tests}
 use Rattle.std.proofs.lemmas.Bool.{cases_lt, and_from, and_parts, or_cases, or_left, or_right, or_parts}
-use Rattle.std.proofs.lemmas.Option.{slice_get_within, slice_get-get_or}
+use Rattle.std.proofs.lemmas.Option.{slice_get_within}
 use Rattle.mc_keep.specs.declared.rows.ElementRow.{ElementRow}
 use Rattle.mc_keep_mem.specs.declared.elements.Node.{Node}
-use Rattle.mc_keep_mem.specs.Chains.{before_at, chain, is_before, is_live, is_on, lead_back, led_to, live_from, row_of_node, rows_in, AreChains, IsOf, Pruned}
+use Rattle.mc_keep_mem.specs.Chains.{before_at, chain, is_before, is_live, is_on, lead_back, led_to, live_from, row_at, row_of_node, AreChains, IsOf, Pruned}
 use Rattle.mc_keep_mem.proofs.ChainFacts.{before_later, is_below, node_leads, on_more, chain_step, fewer_steps, steps_left}
 
 get_led_here : (nodes : List Node) (place : ℕ) (before : Option ℕ) (node : Node) → slice_get nodes place ≡ Some node → slice_get (led_to nodes place before) place ≡ Some (record node { before = before })
@@ -91,7 +90,7 @@ abbrev onto : (List ℕ → Bool) → List ℕ → Node → List ElementRow → 
 onto hidden key node rest = cond (is_live hidden (row_of_node key node)) (row_of_node key node ∷ rest) rest
 
 -- after one row of the key, which is hidden, was passed over at the node at this place
-pub record IsPassed {Y S : Type 0} (hidden : List ℕ → List ℕ → Bool) (key : List ℕ) (nodes new : List Node) (lasts : HashMap (String Y) ℕ S) (place : ℕ) : Type 0 where
+pub record IsPassed (hidden : List ℕ → List ℕ → Bool) (key : List ℕ) (nodes new : List Node) (lasts : List ℕ → Option ℕ) (place : ℕ) : Type 0 where
   pub pruned : Pruned hidden nodes new lasts
   pub on : IsOf new lasts key place
   pub rest : live_from (hidden key) new key (before_at new place) ≡ live_from (hidden key) nodes key (before_at nodes place)
@@ -245,32 +244,32 @@ module _ (nodes : List Node) (back : lead_back 0 nodes ≡ true) (place after : 
           subst (λ (z : ℕ). is_on nodes (suc most) (Some z) after ≡ true) is (at_place (subst (λ (z : ℕ). is_before (suc most) (Some z) ≡ true) (sym is) e))
       by false differ go = let far = is_below (suc most) at e in elsewhere (other_places place at differ) (slice_get nodes at) refl (omega (arith, far)) on go
 
-  module _ {Y S : Type 0} (lasts : HashMap (String Y) ℕ S) (chains : AreChains nodes lasts) where
+  module _ (lasts : List ℕ → Option ℕ) (chains : AreChains nodes lasts) where
     pub leads_to_own : (key : List ℕ) → IsOf nodes lasts key place → IsOf nodes lasts key after
-    leads_to_own key on = on_leads (length nodes) (get_by_text lasts key) (chains.there key) on
+    leads_to_own key on = on_leads (length nodes) (lasts key) (chains.there key) on
 
     fewer : (key : List ℕ) (asked : ℕ) → IsOf new lasts key asked → IsOf nodes lasts key asked
     fewer key asked on =
-        on_fewer (length nodes) (get_by_text lasts key) asked (chains.there key) (ap (λ (z : ℕ). is_on new z (get_by_text lasts key) asked) (sym (led_length nodes place passed.before)) ∙ on)
+        on_fewer (length nodes) (lasts key) asked (chains.there key) (ap (λ (z : ℕ). is_on new z (lasts key) asked) (sym (led_length nodes place passed.before)) ∙ on)
 
     pub passed_chains : AreChains new lasts
     passed_chains = record {
       back = led_back 0 place nodes passed.before back (let near = below in before_later after (0 + place) passed.before (omega (arith, near)) before_passed);
-      there = λ key. ap (λ (z : ℕ). is_before z (get_by_text lasts key)) (led_length nodes place passed.before) ∙ chains.there key;
+      there = λ key. ap (λ (z : ℕ). is_before z (lasts key)) (led_length nodes place passed.before) ∙ chains.there key;
       apart = λ a b asked x y. chains.apart a b asked (fewer a asked x) (fewer b asked y);
     }
 
     -- where the row that is passed over is a hidden one of the key
     module _ (hidden : List ℕ → List ℕ → Bool) (key : List ℕ) (on : IsOf nodes lasts key place) (gone : is_live (hidden key) (row_of_node key passed) ≡ false) where
-      lives_kept : (other : List ℕ) → lives (hidden other) other (chain new (length nodes) (get_by_text lasts other)) ≡ lives (hidden other) other (chain nodes (length nodes) (get_by_text lasts other))
-      lives_kept other = by (is_on nodes (length nodes) (get_by_text lasts other) place) refl
+      lives_kept : (other : List ℕ) → lives (hidden other) other (chain new (length nodes) (lasts other)) ≡ lives (hidden other) other (chain nodes (length nodes) (lasts other))
+      lives_kept other = by (is_on nodes (length nodes) (lasts other) place) refl
         where
-          by : (b : Bool) → is_on nodes (length nodes) (get_by_text lasts other) place ≡ b
-              → lives (hidden other) other (chain new (length nodes) (get_by_text lasts other)) ≡ lives (hidden other) other (chain nodes (length nodes) (get_by_text lasts other))
+          by : (b : Bool) → is_on nodes (length nodes) (lasts other) place ≡ b
+              → lives (hidden other) other (chain new (length nodes) (lasts other)) ≡ lives (hidden other) other (chain nodes (length nodes) (lasts other))
           by true there =
-              subst (λ (z : List ℕ). lives (hidden z) z (chain new (length nodes) (get_by_text lasts z)) ≡ lives (hidden z) z (chain nodes (length nodes) (get_by_text lasts z)))
-              (chains.apart key other place on there) (live_kept (hidden key) key gone (length nodes) (get_by_text lasts key) (chains.there key))
-          by false off = ap (lives (hidden other) other) (chain_kept (length nodes) (get_by_text lasts other) off)
+              subst (λ (z : List ℕ). lives (hidden z) z (chain new (length nodes) (lasts z)) ≡ lives (hidden z) z (chain nodes (length nodes) (lasts z)))
+              (chains.apart key other place on there) (live_kept (hidden key) key gone (length nodes) (lasts key) (chains.there key))
+          by false off = ap (lives (hidden other) other) (chain_kept (length nodes) (lasts other) off)
 
       in_nodes : is_before (length nodes) (Some after) ≡ true
       in_nodes = let near = below in let far = slice_get_within nodes place node got in grind (arith, nat_tests, near, far)
@@ -290,13 +289,22 @@ module _ (nodes : List Node) (back : lead_back 0 nodes ≡ true) (place after : 
           ∙ ap (lives (hidden key) key) (sym (chain_step nodes back (length nodes) after passed in_nodes got_passed).0)
           ∙ ap (live_from (hidden key) nodes key) (sym old_before)
 
+      -- what stands at each place
+      rows_stay : (other : List ℕ) (at : ℕ) → row_at new other at ≡ row_at nodes other at
+      rows_stay other at = by (nat_eq place at) refl
+        where
+          by : (b : Bool) → nat_eq place at ≡ b → row_at new other at ≡ row_at nodes other at
+          by true same = subst (λ (z : ℕ). row_at new other z ≡ row_at nodes other z) (equal_places place at same) (ap (option_map (row_of_node other)) here ∙ ap (option_map (row_of_node other)) (sym got))
+          by false differ = ap (option_map (row_of_node other)) (get_led_other nodes place at passed.before (other_places place at differ))
+
       pub is_passed : IsPassed hidden key nodes new lasts place
       is_passed = record {
         pruned = record {
           len = led_length nodes place passed.before;
-          live = λ other. ap (λ (z : ℕ). lives (hidden other) other (chain new z (get_by_text lasts other))) (led_length nodes place passed.before) ∙ lives_kept other;
+          same = rows_stay;
+          live = λ other. ap (λ (z : ℕ). lives (hidden other) other (chain new z (lasts other))) (led_length nodes place passed.before) ∙ lives_kept other;
         };
-        on = ap (λ (z : ℕ). is_on new z (get_by_text lasts key) place) (led_length nodes place passed.before) ∙ on_stays (length nodes) (get_by_text lasts key) on;
+        on = ap (λ (z : ℕ). is_on new z (lasts key) place) (led_length nodes place passed.before) ∙ on_stays (length nodes) (lasts key) on;
         rest = rest_kept;
         fewer = subst (λ z. steps_left z < steps_left (before_at nodes place)) (sym new_before) (subst (λ z. steps_left passed.before < steps_left z) (sym old_before) (fewer_steps after passed.before before_passed));
       }

@@ -1,16 +1,13 @@
 -- A walk along the ways of a key that passes over its hidden rows.
-use Rattle.std.proofs.Common.{◌≡◌, ℕ, ◌<◌, ◌≤◌, arith, Bool, true, false, cond, List, [], ◌∷◌, ◌++◌, map, length, get_or, ltb, Option, Some, None, sym, refl, ap, ◌∙◌, subst, append_assoc}
+use Rattle.std.proofs.Common.{◌≡◌, ℕ, arith, Bool, true, false, cond, List, [], ◌∷◌, ◌++◌, map, length, get_or, ltb, Option, Some, None, sym, refl, ap, ◌∙◌, subst, append_assoc}
 use Rattle.std.specs.Prelude.{slice_get, filter}
-use Rattle.std.specs.HashMap.{HashMap, get_by_text}
-use Rattle.std.specs.declared.string.String.{String}
-use Rattle.std.proofs.lemmas.List.{append-nil}
 use Rattle.std.proofs.lemmas.Bool.Decides.{nat_tests}
 use Rattle.std.proofs.lemmas.Option.{slice_get_within, slice_get-get_or}
 use Rattle.mc_keep.specs.declared.rows.ElementRow.{ElementRow}
 use Rattle.mc_keep_mem.specs.declared.elements.Node.{Node}
-use Rattle.mc_keep_mem.specs.Chains.{before_at, chain, is_before, is_live, is_on, lead_back, led_to, live_from, row_of_node, rows_in, AreChains, IsLiveAt, IsOf, Pruned}
-use Rattle.mc_keep_mem.proofs.ChainFacts.{chain_done, chain_step, got_at, is_below, node_leads, steps_left}
-use Rattle.mc_keep_mem.proofs.PassFacts.{is_passed, leads_to_own, led_length, on_first, passed_chains, IsPassed}
+use Rattle.mc_keep_mem.specs.Chains.{before_at, is_before, is_live, is_on, lead_back, led_to, live_from, row_of_node, rows_in, AreChains, IsLiveAt, IsOf, Pruned}
+use Rattle.mc_keep_mem.proofs.ChainFacts.{chain_done, chain_step, got_at, is_below, node_leads}
+use Rattle.mc_keep_mem.proofs.PassFacts.{is_passed, leads_to_own, on_first, passed_chains, IsPassed}
 
 -- the node that leads to a place
 record Leading (nodes : List Node) (place after : ℕ) : Type 0 where
@@ -32,13 +29,13 @@ before_got nodes place node got = ap (λ (found : Option Node). elim found as (�
 pub got_in : (nodes seen : List Node) (place : ℕ) (node : Node) → seen ≡ nodes → true ≡ ltb place (length seen) → node ≡ get_or seen place node → slice_get nodes place ≡ Some node
 got_in nodes seen place node same within found = subst (λ (slice : List Node). slice_get slice place ≡ Some node) same (got_at seen place node within found)
 
-pub leads_before : {Y S : Type 0} (nodes : List Node) (lasts : HashMap (String Y) ℕ S) (place after : ℕ) → AreChains nodes lasts → before_at nodes place ≡ Some after → is_before place (Some after) ≡ true
+pub leads_before : (nodes : List Node) (lasts : List ℕ → Option ℕ) (place after : ℕ) → AreChains nodes lasts → before_at nodes place ≡ Some after → is_before place (Some after) ≡ true
 leads_before nodes lasts place after chains leads =
     let lead = leading nodes place after leads in
     subst (λ z. is_before place z ≡ true) lead.leads (node_leads nodes chains.back place lead.node lead.got)
 
 -- the ways stay ways
-pub chains_passed : {Y S : Type 0} (nodes new : List Node) (lasts : HashMap (String Y) ℕ S) (place after : ℕ) → AreChains nodes lasts → before_at nodes place ≡ Some after
+pub chains_passed : (nodes new : List Node) (lasts : List ℕ → Option ℕ) (place after : ℕ) → AreChains nodes lasts → before_at nodes place ≡ Some after
     → new ≡ led_to nodes place (before_at nodes after) → AreChains new lasts
 chains_passed nodes new lasts place after chains leads is =
     let lead = leading nodes place after leads in
@@ -49,7 +46,7 @@ chains_passed nodes new lasts place after chains leads is =
     subst (λ z. AreChains z lasts) (sym (is ∙ ap (led_to nodes place) (before_got nodes after passed got)))
     (passed_chains nodes chains.back place after lead.node passed lead.got lead.leads got lasts chains)
 
-pub one_passed : {Y S : Type 0} (hidden : List ℕ → List ℕ → Bool) (key : List ℕ) (nodes new : List Node) (lasts : HashMap (String Y) ℕ S) (place after : ℕ) (passed : Node) → AreChains nodes lasts
+pub one_passed : (hidden : List ℕ → List ℕ → Bool) (key : List ℕ) (nodes new : List Node) (lasts : List ℕ → Option ℕ) (place after : ℕ) (passed : Node) → AreChains nodes lasts
     → IsOf nodes lasts key place → before_at nodes place ≡ Some after → slice_get nodes after ≡ Some passed → is_live (hidden key) (row_of_node key passed) ≡ false
     → new ≡ led_to nodes place (before_at nodes after) → IsPassed hidden key nodes new lasts place
 one_passed hidden key nodes new lasts place after passed chains on leads got gone is =
@@ -58,21 +55,21 @@ one_passed hidden key nodes new lasts place after passed chains on leads got gon
     (is_passed nodes chains.back place after lead.node passed lead.got lead.leads got lasts chains hidden key on gone)
 
 -- what a walk from a node to the next live one leaves
-pub record IsPruning {Y S : Type 0} (hidden : List ℕ → List ℕ → Bool) (key : List ℕ) (first nodes : List Node) (lasts : HashMap (String Y) ℕ S) (place : ℕ) : Type 0 where
+pub record IsPruning (hidden : List ℕ → List ℕ → Bool) (key : List ℕ) (first nodes : List Node) (lasts : List ℕ → Option ℕ) (place : ℕ) : Type 0 where
   pub pruned : Pruned hidden first nodes lasts
   pub on : IsOf nodes lasts key place
   pub rest : live_from (hidden key) nodes key (before_at nodes place) ≡ live_from (hidden key) first key (before_at first place)
 
-pub pruned_none : {Y S : Type 0} (hidden : List ℕ → List ℕ → Bool) (nodes : List Node) (lasts : HashMap (String Y) ℕ S) → Pruned hidden nodes nodes lasts
-pruned_none hidden nodes lasts = record { len = refl; live = λ key. refl }
+pub pruned_none : (hidden : List ℕ → List ℕ → Bool) (nodes : List Node) (lasts : List ℕ → Option ℕ) → Pruned hidden nodes nodes lasts
+pruned_none hidden nodes lasts = record { len = refl; same = λ key place. refl; live = λ key. refl }
 
-pub pruned_then : {Y S : Type 0} {hidden : List ℕ → List ℕ → Bool} {first nodes new : List Node} {lasts : HashMap (String Y) ℕ S} → Pruned hidden first nodes lasts → Pruned hidden nodes new lasts → Pruned hidden first new lasts
-pruned_then a b = record { len = b.len ∙ a.len; live = λ key. b.live key ∙ a.live key }
+pub pruned_then : {hidden : List ℕ → List ℕ → Bool} {first nodes new : List Node} {lasts : List ℕ → Option ℕ} → Pruned hidden first nodes lasts → Pruned hidden nodes new lasts → Pruned hidden first new lasts
+pruned_then a b = record { len = b.len ∙ a.len; same = λ key place. b.same key place ∙ a.same key place; live = λ key. b.live key ∙ a.live key }
 
-pub pruning_begins : {Y S : Type 0} (hidden : List ℕ → List ℕ → Bool) (key : List ℕ) (nodes : List Node) (lasts : HashMap (String Y) ℕ S) (place : ℕ) → IsOf nodes lasts key place → IsPruning hidden key nodes nodes lasts place
+pub pruning_begins : (hidden : List ℕ → List ℕ → Bool) (key : List ℕ) (nodes : List Node) (lasts : List ℕ → Option ℕ) (place : ℕ) → IsOf nodes lasts key place → IsPruning hidden key nodes nodes lasts place
 pruning_begins hidden key nodes lasts place on = record { pruned = pruned_none hidden nodes lasts; on = on; rest = refl }
 
-pub pruning_goes : {Y S : Type 0} {hidden : List ℕ → List ℕ → Bool} {key : List ℕ} {first nodes new : List Node} {lasts : HashMap (String Y) ℕ S} {place : ℕ} → IsPruning hidden key first nodes lasts place
+pub pruning_goes : {hidden : List ℕ → List ℕ → Bool} {key : List ℕ} {first nodes new : List Node} {lasts : List ℕ → Option ℕ} {place : ℕ} → IsPruning hidden key first nodes lasts place
     → IsPassed hidden key nodes new lasts place → IsPruning hidden key first new lasts place
 pruning_goes before passed = record { pruned = pruned_then before.pruned passed.pruned; on = passed.on; rest = passed.rest ∙ before.rest }
 
@@ -81,18 +78,18 @@ live_found : (hidden : List ℕ → Bool) (key : List ℕ) (nodes : List Node) (
 live_found hidden key nodes place node got live = ap (λ (found : Option Node). elim found as (λ _. Bool) [ None ↦ false | Some n ↦ is_live hidden (row_of_node key n) ]) got ∙ live
 
 -- the next live one
-pub next_is_live : {Y S : Type 0} (hidden : List ℕ → Bool) (key : List ℕ) (nodes : List Node) (lasts : HashMap (String Y) ℕ S) (place after : ℕ) (node : Node) → AreChains nodes lasts → IsOf nodes lasts key place
+pub next_is_live : (hidden : List ℕ → Bool) (key : List ℕ) (nodes : List Node) (lasts : List ℕ → Option ℕ) (place after : ℕ) (node : Node) → AreChains nodes lasts → IsOf nodes lasts key place
     → before_at nodes place ≡ Some after → slice_get nodes after ≡ Some node → is_live hidden (row_of_node key node) ≡ true → IsLiveAt hidden nodes lasts key (Some after)
 next_is_live hidden key nodes lasts place after node chains on leads got live =
     let lead = leading nodes place after leads in
     (leads_to_own nodes chains.back place after lead.node node lead.got lead.leads got lasts chains key on, live_found hidden key nodes after node got live)
 
 -- the last node of the key
-pub last_is_on : {Y S : Type 0} (key : List ℕ) (nodes : List Node) (lasts : HashMap (String Y) ℕ S) (place : ℕ) (node : Node) → AreChains nodes lasts → get_by_text lasts key ≡ Some place → slice_get nodes place ≡ Some node → IsOf nodes lasts key place
+pub last_is_on : (key : List ℕ) (nodes : List Node) (lasts : List ℕ → Option ℕ) (place : ℕ) (node : Node) → AreChains nodes lasts → lasts key ≡ Some place → slice_get nodes place ≡ Some node → IsOf nodes lasts key place
 last_is_on key nodes lasts place node chains last got =
     ap (λ z. is_on nodes (length nodes) z place) last ∙ on_first (length nodes) nodes place node (subst (λ z. is_before (length nodes) z ≡ true) last (chains.there key)) got
 
-pub last_is_live : {Y S : Type 0} (hidden : List ℕ → Bool) (key : List ℕ) (nodes : List Node) (lasts : HashMap (String Y) ℕ S) (place : ℕ) (node : Node) → AreChains nodes lasts → get_by_text lasts key ≡ Some place → slice_get nodes place ≡ Some node
+pub last_is_live : (hidden : List ℕ → Bool) (key : List ℕ) (nodes : List Node) (lasts : List ℕ → Option ℕ) (place : ℕ) (node : Node) → AreChains nodes lasts → lasts key ≡ Some place → slice_get nodes place ≡ Some node
     → is_live hidden (row_of_node key node) ≡ true → IsLiveAt hidden nodes lasts key (Some place)
 last_is_live hidden key nodes lasts place node chains last got live = (last_is_on key nodes lasts place node chains last got, live_found hidden key nodes place node got live)
 
@@ -108,7 +105,7 @@ pub live_ends : (hidden : List ℕ → Bool) (key : List ℕ) (nodes : List Node
 live_ends hidden key nodes = ap (λ rest. filter (is_live hidden) (map (row_of_node key) rest)) (chain_done nodes (length nodes))
 
 -- what a hidden last row leaves to the next ones
-pub last_is_gone : {Y S : Type 0} (hidden : List ℕ → Bool) (key : List ℕ) (nodes : List Node) (lasts : HashMap (String Y) ℕ S) (place : ℕ) (node : Node) → AreChains nodes lasts → get_by_text lasts key ≡ Some place → slice_get nodes place ≡ Some node
+pub last_is_gone : (hidden : List ℕ → Bool) (key : List ℕ) (nodes : List Node) (lasts : List ℕ → Option ℕ) (place : ℕ) (node : Node) → AreChains nodes lasts → lasts key ≡ Some place → slice_get nodes place ≡ Some node
     → is_live hidden (row_of_node key node) ≡ false → live_from hidden nodes key (before_at nodes place) ≡ filter (is_live hidden) (rows_in nodes lasts key)
 last_is_gone hidden key nodes lasts place node chains last got gone =
     ap (live_from hidden nodes key) (before_got nodes place node got)
@@ -116,7 +113,7 @@ last_is_gone hidden key nodes lasts place node chains last got gone =
     ∙ ap (live_from hidden nodes key) (sym last)
 
 -- the rows that were listed, and those from a place on, are the live rows of the key
-pub record IsListing {Y S : Type 0} (hidden : List ℕ → List ℕ → Bool) (key : List ℕ) (first nodes : List Node) (lasts : HashMap (String Y) ℕ S) (rows : List ElementRow) (at : Option ℕ) : Type 0 where
+pub record IsListing (hidden : List ℕ → List ℕ → Bool) (key : List ℕ) (first nodes : List Node) (lasts : List ℕ → Option ℕ) (rows : List ElementRow) (at : Option ℕ) : Type 0 where
   pub pruned : Pruned hidden first nodes lasts
   pub rows_are : rows ++ live_from (hidden key) nodes key at ≡ filter (is_live (hidden key)) (rows_in first lasts key)
   pub live : IsLiveAt (hidden key) nodes lasts key at
@@ -126,7 +123,7 @@ live_there : (hidden : List ℕ → Bool) (key : List ℕ) (nodes : List Node) (
     → elim (slice_get nodes place) as (λ _. Bool) [ None ↦ false | Some n ↦ is_live hidden (row_of_node key n) ] ≡ true → is_live hidden (row_of_node key node) ≡ true
 live_there hidden key nodes place node got live = ap (λ (found : Option Node). elim found as (λ _. Bool) [ None ↦ false | Some n ↦ is_live hidden (row_of_node key n) ]) (sym got) ∙ live
 
-pub listing_goes : {Y S : Type 0} {hidden : List ℕ → List ℕ → Bool} {key : List ℕ} {first nodes new : List Node} {lasts : HashMap (String Y) ℕ S} {rows more : List ElementRow} {place : ℕ} {node : Node} {next : Option ℕ}
+pub listing_goes : {hidden : List ℕ → List ℕ → Bool} {key : List ℕ} {first nodes new : List Node} {lasts : List ℕ → Option ℕ} {rows more : List ElementRow} {place : ℕ} {node : Node} {next : Option ℕ}
     → AreChains nodes lasts → IsListing hidden key first nodes lasts rows (Some place) → slice_get nodes place ≡ Some node → more ≡ rows ++ row_of_node key node ∷ []
     → Pruned hidden nodes new lasts → IsLiveAt (hidden key) new lasts key next → live_from (hidden key) new key next ≡ live_from (hidden key) nodes key (before_at nodes place)
     → IsListing hidden key first new lasts more next

@@ -1,8 +1,10 @@
 -- What more room leaves fits.
-use Rattle.std.proofs.Common.{◌≡◌, ℕ, ◌+◌, ◌≤◌, arith, not, ◌&&◌, List, sym, ap, ◌∙◌, subst}
-use Rattle.std.specs.Prelude.{filter, vec_len, vec_capacity}
+use Rattle.std.proofs.Common.{◌≡◌, ℕ, ◌+◌, ◌≤◌, arith, not, ◌&&◌, ◌||◌, List, Option, Some, None, refl, sym, ap, ◌∙◌, subst}
+use Rattle.std.specs.BTreeSet.{contains_text}
+use Rattle.std.specs.Prelude.{filter, is_some, vec_len, vec_capacity}
 use Rattle.std.specs.List.{list_any}
 use Rattle.std.specs.Map.{lookup}
+use Rattle.std.specs.Option.{option_map, option_and_then}
 use Rattle.std.specs.HashMap.{spare as map_spare}
 use Rattle.std.specs.declared.hash.BuildHasher as build
 use Rattle.std.specs.declared.hash.Hasher as hash
@@ -14,12 +16,14 @@ use Rattle.mc_model.specs.Live.{has_tomb, value_row}
 use Rattle.mc_model.proofs.Members.{any_agree, list_any-filter}
 use Rattle.mc_model.specs.Kept.{Kept, IsKept, processed}
 use Rattle.mc_keep.specs.declared.rows.ElementRow.{ElementRow}
-use Rattle.mc_keep.specs.Live.{live_element_rows}
+use Rattle.mc_keep.specs.Live.{live_element_rows, ranked_of}
+use Rattle.mc_keep_mem.specs.Places.{last_in, value_in}
 use Rattle.mc_keep_mem.specs.declared.elements.Elements.{Elements}
 use Rattle.mc_keep_mem.specs.declared.tables.Tables.{Tables}
-use Rattle.mc_keep_mem.specs.Chains.{is_live, rows_in, Pruned}
+use Rattle.mc_keep_mem.specs.Chains.{is_live, row_at, rows_in, Pruned}
 use Rattle.mc_keep_mem.specs.Fits.{kept_in, tomb_in, Fits, RoomFor, Reserved}
 use Rattle.mc_keep_mem.specs.Holder.{AreBacked}
+use Rattle.mc_keep_mem.specs.Values.{has_text, IsCovered}
 use Rattle.mc_keep_mem.proofs.HolderFacts.{backed_same, backed_pruned}
 
 module _ {S X : Type 0} {g : build.Ghosts S X} {h : hash.Ghosts X} (old new : Tables S X g h) (reserved : Reserved old new) where
@@ -31,17 +35,25 @@ module _ {S X : Type 0} {g : build.Ghosts S X} {h : hash.Ghosts X} (old new : Ta
     kept = subst IsKept (sym told_same) fits.kept;
     elements = λ key. record {
       same = λ test.
-          list_any-filter test (is_live (tomb_in new key)) (rows_in new.elements.nodes.items new.elements.lasts key)
+          list_any-filter test (is_live (tomb_in new key)) (rows_in new.elements.nodes.items (last_in new.elements.keys) key)
           ∙ ap (list_any (λ (row : ElementRow). is_live (tomb_in new key) row && test row)) (reserved.elements key)
-          ∙ any_agree (λ (row : ElementRow). is_live (tomb_in new key) row && test row) (λ (row : ElementRow). is_live (tomb_in old key) row && test row) (λ (row : ElementRow). ap (λ t. not t && test row) (reserved.tombs key (id_text row.cid.0))) (rows_in old.elements.nodes.items old.elements.lasts key)
-          ∙ sym (list_any-filter test (is_live (tomb_in old key)) (rows_in old.elements.nodes.items old.elements.lasts key))
+          ∙ any_agree (λ (row : ElementRow). is_live (tomb_in new key) row && test row) (λ (row : ElementRow). is_live (tomb_in old key) row && test row) (λ (row : ElementRow). ap (λ t. not t && test row) (reserved.tombs key (id_text row.cid.0))) (rows_in old.elements.nodes.items (last_in old.elements.keys) key)
+          ∙ sym (list_any-filter test (is_live (tomb_in old key)) (rows_in old.elements.nodes.items (last_in old.elements.keys) key))
           ∙ (fits.elements key).same test ∙ ap (λ (z : Kept). list_any test (live_element_rows (processed z) key)) (sym told_same);
     };
     tombs = λ key id. reserved.tombs key id ∙ fits.tombs key id ∙ ap (λ (z : Kept). has_tomb (processed z) key id) (sym told_same);
-    values = λ key. reserved.values key ∙ fits.values key ∙ ap (λ (z : Kept). value_row (processed z) key) (sym told_same);
-    covered = reserved.covered;
-    backed = backed_same (tomb_in old) (tomb_in new) old.elements.nodes.items new.elements.nodes.items old.elements.lasts new.elements.lasts old.values.rows new.values.rows
-        reserved.tombs reserved.elements reserved.held fits.backed;
+    values = λ key.
+        ap (λ z. option_map ranked_of (option_and_then (row_at z key) (value_in new.elements.keys key))) reserved.nodes
+        ∙ ap (λ z. option_map ranked_of (option_and_then (row_at old.elements.nodes.items key) z)) (reserved.values key)
+        ∙ fits.values key ∙ ap (λ (z : Kept). value_row (processed z) key) (sym told_same);
+    covered = record {
+      each = λ key has.
+          ap (λ z. contains_text z key || has_text new.values.pending.items key) reserved.ordered
+          ∙ ap (λ z. contains_text old.values.ordered key || has_text z key) reserved.pending
+          ∙ fits.covered.each key (sym (ap is_some (reserved.values key)) ∙ has);
+    };
+    backed = backed_same (tomb_in old) (tomb_in new) old.elements.nodes.items new.elements.nodes.items (last_in old.elements.keys) (last_in new.elements.keys) (value_in old.elements.keys) (value_in new.elements.keys)
+        reserved.tombs reserved.nodes reserved.elements reserved.values fits.backed;
     gaps = λ cid. ap (λ (z : List Cid). is_among z cid) reserved.gaps ∙ fits.gaps cid ∙ ap (λ (z : Kept). is_gap (processed z) cid) (sym told_same);
     heads = λ cid. ap (λ (z : List (Cid × ℕ)). lookup (same_cid cid) z) reserved.heads ∙ fits.heads cid ∙ ap (λ (z : Kept). head_at (processed z) cid) (sym told_same);
   }
@@ -49,15 +61,14 @@ module _ {S X : Type 0} {g : build.Ghosts S X} {h : hash.Ghosts X} (old new : Ta
   pub room_reserved : (rows : ℕ) → RoomFor old rows → RoomFor new rows
   room_reserved rows room = record {
     blocks = le_trans room.blocks reserved.blocks_room;
-    order = le_trans room.order reserved.order_room;
+    order = fewer rows (vec_len new.graph.order) (vec_len old.graph.order) (vec_capacity old.graph.order) (vec_capacity new.graph.order) (let same = reserved.order_len in omega (arith, same)) room.order reserved.order_room;
     gaps = le_trans room.gaps reserved.gaps_room;
     heads = le_trans room.heads reserved.heads_room;
     nodes = le_trans (subst (λ (z : ℕ). z + rows ≤ vec_capacity old.elements.nodes) (sym reserved.nodes_len) room.nodes) reserved.nodes_room;
-    lasts = le_trans room.lasts reserved.lasts_room;
+    places = le_trans room.places reserved.places_room;
     keys = le_trans room.keys reserved.keys_room;
     ids = le_trans room.ids reserved.ids_room;
     pairs = le_trans room.pairs reserved.pairs_room;
-    values = le_trans room.values reserved.values_room;
     pending = fewer rows (vec_len new.values.pending) (vec_len old.values.pending) (vec_capacity old.values.pending) (vec_capacity new.values.pending) reserved.pending_len room.pending reserved.pending_room;
   }
     where
@@ -65,36 +76,42 @@ module _ {S X : Type 0} {g : build.Ghosts S X} {h : hash.Ghosts X} (old new : Ta
       fewer rows len before room more less fit larger = grind (arith, less, fit, larger)
 
 -- rows that are hidden may be passed over
-pub fits_pruned : {S X : Type 0} {g : build.Ghosts S X} {h : hash.Ghosts X} (old : Tables S X g h) (elements : Elements S X g h) → Pruned (tomb_in old) old.elements.nodes.items elements.nodes.items old.elements.lasts
-    → elements.lasts ≡ old.elements.lasts → Fits old → Fits (record old { elements = elements })
-fits_pruned old elements pruned lasts fits = record {
+pub fits_pruned : {S X : Type 0} {g : build.Ghosts S X} {h : hash.Ghosts X} (old : Tables S X g h) (elements : Elements S X g h) → Pruned (tomb_in old) old.elements.nodes.items elements.nodes.items (last_in old.elements.keys)
+    → elements.keys ≡ old.elements.keys → Fits old → Fits (record old { elements = elements })
+fits_pruned old elements pruned keys fits = record {
   kept = fits.kept;
   elements = λ key. record {
     same = λ test.
-        ap (λ z. list_any test (filter (is_live (tomb_in old key)) (rows_in elements.nodes.items z key))) lasts
+        ap (λ z. list_any test (filter (is_live (tomb_in old key)) (rows_in elements.nodes.items (last_in z) key))) keys
         ∙ ap (list_any test) (pruned.live key) ∙ (fits.elements key).same test;
   };
   tombs = fits.tombs;
-  values = fits.values;
-  covered = fits.covered;
-  backed = subst (λ z. AreBacked (tomb_in old) elements.nodes.items z old.values.rows) (sym lasts)
-      (backed_pruned (tomb_in old) old.elements.nodes.items elements.nodes.items old.elements.lasts old.values.rows pruned fits.backed);
+  values = λ key.
+      ap (λ z. option_map ranked_of (option_and_then (row_at elements.nodes.items key) (value_in z key))) keys
+      ∙ pruned_value key (value_in old.elements.keys key) ∙ fits.values key;
+  covered = subst (λ z. IsCovered (value_in z) old.values.ordered old.values.pending.items) (sym keys) fits.covered;
+  backed = subst (λ z. AreBacked (tomb_in old) elements.nodes.items (last_in z) (value_in z)) (sym keys)
+      (backed_pruned (tomb_in old) old.elements.nodes.items elements.nodes.items (last_in old.elements.keys) (value_in old.elements.keys) pruned fits.backed);
   gaps = fits.gaps;
   heads = fits.heads;
 }
+  where
+    pruned_value : (key : List ℕ) (value : Option ℕ)
+        → option_map ranked_of (option_and_then (row_at elements.nodes.items key) value) ≡ option_map ranked_of (option_and_then (row_at old.elements.nodes.items key) value)
+    pruned_value key None = refl
+    pruned_value key (Some place) = ap (option_map ranked_of) (pruned.same key place)
 
-pub room_pruned : {S X : Type 0} {g : build.Ghosts S X} {h : hash.Ghosts X} (old : Tables S X g h) (elements : Elements S X g h) (rows : ℕ) → elements.lasts ≡ old.elements.lasts
+pub room_pruned : {S X : Type 0} {g : build.Ghosts S X} {h : hash.Ghosts X} (old : Tables S X g h) (elements : Elements S X g h) (rows : ℕ) → elements.keys ≡ old.elements.keys
     → vec_len elements.nodes ≡ vec_len old.elements.nodes → vec_capacity elements.nodes ≡ vec_capacity old.elements.nodes → RoomFor old rows → RoomFor (record old { elements = elements }) rows
-room_pruned old elements rows lasts len capacity room = record {
+room_pruned old elements rows keys len capacity room = record {
   blocks = room.blocks;
   order = room.order;
   gaps = room.gaps;
   heads = room.heads;
   nodes = subst (λ z. z + rows ≤ vec_capacity elements.nodes) (sym len) (subst (λ z. vec_len old.elements.nodes + rows ≤ z) (sym capacity) room.nodes);
-  lasts = subst (λ z. rows ≤ map_spare z) (sym lasts) room.lasts;
+  places = subst (λ z. rows ≤ map_spare z) (sym keys) room.places;
   keys = room.keys;
   ids = room.ids;
   pairs = room.pairs;
-  values = room.values;
   pending = room.pending;
 }

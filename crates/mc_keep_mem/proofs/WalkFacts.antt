@@ -2,12 +2,10 @@
 use Rattle.std.proofs.Common.{◌≡◌, ℕ, ◌<◌, Bool, true, false, cond, List, [], ◌∷◌, map, length, Option, Some, sym, ap, ◌∙◌, subst, get_or, ltb}
 use Rattle.std.specs.Prelude.{slice_get, find}
 use Rattle.std.specs.Option.{option_map}
-use Rattle.std.specs.HashMap.{HashMap, get_by_text}
-use Rattle.std.specs.declared.string.String.{String}
 use Rattle.mc_base.specs.declared.cid.Cid.{Cid}
 use Rattle.mc_keep.specs.declared.rows.ElementRow.{ElementRow}
 use Rattle.mc_keep_mem.specs.declared.elements.Node.{Node}
-use Rattle.mc_keep_mem.specs.Chains.{AreChains, chain, row_of_node, rows_in, rows_from, is_before, lead_back}
+use Rattle.mc_keep_mem.specs.Chains.{AreChains, row_at, row_of_node, rows_in, rows_from, is_before, lead_back}
 use Rattle.mc_keep_mem.proofs.ChainFacts.{steps_left, chain_step, chain_done, got_at, is_none}
 
 -- the block of the first row that passes
@@ -26,7 +24,7 @@ pub record IsAtNode {A : Type 0} (nodes : List Node) (key : List ℕ) (wanted : 
   pub fewer : steps_left node.before < steps_left at
 
 module _ {A : Type 0} {nodes : List Node} {key : List ℕ} where
-  pub walk_begins : (made : List ElementRow → A) {Y S : Type 0} {lasts : HashMap (String Y) ℕ S} {at : Option ℕ} → AreChains nodes lasts → at ≡ get_by_text lasts key
+  pub walk_begins : (made : List ElementRow → A) {lasts : List ℕ → Option ℕ} {at : Option ℕ} → AreChains nodes lasts → at ≡ lasts key
       → IsWalking nodes key (made (rows_in nodes lasts key)) made at
   walk_begins made {lasts = lasts} chains last = record {
     rows = ap (λ (place : Option ℕ). made (rows_from nodes key place)) (sym last);
@@ -60,3 +58,16 @@ module _ {nodes : List Node} {key : List ℕ} {wanted : Option Cid} {at : Option
 
   pub found_here : test (row_of_node key node) ≡ true → Some node.cid ≡ wanted
   found_here passes = sym (step.rows ∙ ap (λ (b : Bool). option_map (λ (row : ElementRow). row.cid) (cond b (Some (row_of_node key node)) (find test (rows_from nodes key node.before)))) passes)
+
+-- the same where the row is wanted
+module _ {nodes : List Node} {key : List ℕ} {wanted : Option ElementRow} {at : Option ℕ} {node : Node} (test : ElementRow → Bool) (step : IsAtNode nodes key wanted (find test) at node) where
+  pub row_passed : test (row_of_node key node) ≡ false → IsWalking nodes key wanted (find test) node.before
+  row_passed fails = record {
+    rows = step.rows ∙ ap (λ (b : Bool). cond b (Some (row_of_node key node)) (find test (rows_from nodes key node.before))) fails;
+    there = step.there;
+  }
+
+  pub row_here : (place : ℕ) → slice_get nodes place ≡ Some node → test (row_of_node key node) ≡ true → row_at nodes key place ≡ wanted
+  row_here place got passes =
+      ap (option_map (row_of_node key)) got
+      ∙ sym (step.rows ∙ ap (λ (b : Bool). cond b (Some (row_of_node key node)) (find test (rows_from nodes key node.before))) passes)

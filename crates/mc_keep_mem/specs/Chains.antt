@@ -2,8 +2,7 @@
 use Rattle.std.specs.Prelude.{◌≡◌, ⊤, ℕ, zero, suc, ◌+◌, Bool, true, false, not, ◌&&◌, ◌||◌, nat_eq, nat_lt, List, [], ◌∷◌, length, map, filter, slice_get, Option, Some, None}
 use Rattle.std.specs.Prelude.{cond}
 use Rattle.std.specs.Str.{bytes_eq}
-use Rattle.std.specs.HashMap.{HashMap, get_by_text}
-use Rattle.std.specs.declared.string.String.{String}
+use Rattle.std.specs.Option.{option_map}
 use Rattle.mc_model.specs.Id.{id_text}
 use Rattle.mc_keep.specs.declared.rows.ElementRow.{ElementRow}
 use Rattle.mc_keep_mem.specs.declared.elements.Node.{Node}
@@ -44,9 +43,17 @@ led_to (node ∷ nodes) (suc place) before = node ∷ led_to nodes place before
 abbrev pub row_of_node : List ℕ → Node → ElementRow
 row_of_node key node = record { key = key; cid = node.cid; priority = node.priority; value = node.value }
 
--- the rows of a key
-abbrev pub rows_in : {Y S : Type 0} → List Node → HashMap (String Y) ℕ S → List ℕ → List ElementRow
-rows_in nodes lasts key = map (row_of_node key) (chain nodes (length nodes) (get_by_text lasts key))
+-- the row of the node at a place, where the node is of this key
+abbrev pub row_at : List Node → List ℕ → ℕ → Option ElementRow
+row_at nodes key place = option_map (row_of_node key) (slice_get nodes place)
+
+-- what stood at a place still stands there
+abbrev pub KeepsRows : List Node → List Node → Type 0
+KeepsRows old new = (key : List ℕ) (place : ℕ) (row : ElementRow) → row_at old key place ≡ Some row → row_at new key place ≡ Some row
+
+-- the rows of a key, where these are the places of the last ones
+abbrev pub rows_in : List Node → (List ℕ → Option ℕ) → List ℕ → List ElementRow
+rows_in nodes lasts key = map (row_of_node key) (chain nodes (length nodes) (lasts key))
 
 -- whether a row is of a block whose id is none of the hidden ones
 abbrev pub is_live : (List ℕ → Bool) → ElementRow → Bool
@@ -60,24 +67,25 @@ abbrev pub live_from : (List ℕ → Bool) → List Node → List ℕ → Option
 live_from hidden nodes key at = filter (is_live hidden) (rows_from nodes key at)
 
 -- each node leads to one before it, each key's last node is there, and no node is of two keys
-pub record AreChains {Y S : Type 0} (nodes : List Node) (lasts : HashMap (String Y) ℕ S) : Type 0 where
+pub record AreChains (nodes : List Node) (lasts : List ℕ → Option ℕ) : Type 0 where
   pub back : lead_back 0 nodes ≡ true
-  pub there : (key : List ℕ) → is_before (length nodes) (get_by_text lasts key) ≡ true
-  pub apart : (key other : List ℕ) (place : ℕ) → is_on nodes (length nodes) (get_by_text lasts key) place ≡ true → is_on nodes (length nodes) (get_by_text lasts other) place ≡ true → key ≡ other
+  pub there : (key : List ℕ) → is_before (length nodes) (lasts key) ≡ true
+  pub apart : (key other : List ℕ) (place : ℕ) → is_on nodes (length nodes) (lasts key) place ≡ true → is_on nodes (length nodes) (lasts other) place ≡ true → key ≡ other
 
 -- the node at the place is on the way of the key
-abbrev pub IsOf : {Y S : Type 0} → List Node → HashMap (String Y) ℕ S → List ℕ → ℕ → Type 0
-IsOf nodes lasts key place = is_on nodes (length nodes) (get_by_text lasts key) place ≡ true
+abbrev pub IsOf : List Node → (List ℕ → Option ℕ) → List ℕ → ℕ → Type 0
+IsOf nodes lasts key place = is_on nodes (length nodes) (lasts key) place ≡ true
 
 -- where there is a node, it is on the way of the key, and its row is live
-abbrev pub IsLiveAt : {Y S : Type 0} → (List ℕ → Bool) → List Node → HashMap (String Y) ℕ S → List ℕ → Option ℕ → Type 0
+abbrev pub IsLiveAt : (List ℕ → Bool) → List Node → (List ℕ → Option ℕ) → List ℕ → Option ℕ → Type 0
 IsLiveAt hidden nodes lasts key None = ⊤
 IsLiveAt hidden nodes lasts key (Some place) =
     IsOf nodes lasts key place × (elim (slice_get nodes place) [ None ↦ false | Some node ↦ is_live hidden (row_of_node key node) ] ≡ true)
 
 -- nodes whose rows are hidden may have been passed over, and nothing else
-pub record Pruned {Y S : Type 0} (hidden : List ℕ → List ℕ → Bool) (old new : List Node) (lasts : HashMap (String Y) ℕ S) : Type 0 where
+pub record Pruned (hidden : List ℕ → List ℕ → Bool) (old new : List Node) (lasts : List ℕ → Option ℕ) : Type 0 where
   pub len : length new ≡ length old
+  pub same : (key : List ℕ) (place : ℕ) → row_at new key place ≡ row_at old key place
   pub live : (key : List ℕ) → filter (is_live (hidden key)) (rows_in new lasts key) ≡ filter (is_live (hidden key)) (rows_in old lasts key)
 
 -- the rows of a key with one more row

@@ -1,18 +1,33 @@
--- What the table of stored blocks says.
-use Rattle.std.specs.Prelude.{ℕ, List, map}
-use Rattle.std.specs.HashMap.{HashMap}
-use Rattle.indexmap.specs.IndexMap.{insert_entry}
-use Rattle.mc_model.specs.Front.{same_cid}
+-- What the table of stored blocks says, and the order of the processed ones.
+use Rattle.std.specs.Prelude.{◌≡◌, ℕ, true, List, [], length, map, nat_lt, slice_get, unwrap_or, Option}
+use Rattle.std.specs.HashMap.{HashMap, get, keys}
+use Rattle.std.specs.List.{list_all, position}
+use Rattle.std.specs.Option.{option_and_then}
 use Rattle.mc_base.specs.declared.cid.Cid.{Cid}
+use Rattle.mc_model.specs.Front.{same_cid}
 use Rattle.mc_model.specs.declared.block.Stored.{Stored}
+use Rattle.mc_keep_mem.specs.declared.graph.BlockRow.{BlockRow}
 
-abbrev pub stored_of : Cid × List ℕ → Stored
-stored_of entry = record { cid = entry.0; bytes = entry.1 }
+abbrev pub stored_of : Cid × BlockRow → Stored
+stored_of entry = record { cid = entry.0; bytes = entry.1.bytes }
 
 -- the stored blocks, in the order in which they came
-abbrev pub graph_of : {S : Type 0} → HashMap Cid (List ℕ) S → List Stored
+abbrev pub graph_of : {S : Type 0} → HashMap Cid BlockRow S → List Stored
 graph_of blocks = map stored_of blocks.entries
 
--- the entries with a block put under its identifier
-abbrev pub insert_stored : List (Cid × List ℕ) → Stored → List (Cid × List ℕ)
-insert_stored entries stored = insert_entry same_cid entries stored.cid stored.bytes
+-- the identifier at a place
+abbrev pub cid_in : List Cid → ℕ → Cid
+cid_in cids place = unwrap_or (slice_get cids place) (record { 0 = [] })
+
+-- the processed blocks, whose places among the stored ones these are
+abbrev pub order_of : {S : Type 0} → HashMap Cid BlockRow S → List ℕ → List Cid
+order_of blocks order = map (cid_in (keys blocks)) order
+
+-- the position that is noted for a block
+abbrev pub position_in : {S : Type 0} → HashMap Cid BlockRow S → Cid → Option ℕ
+position_in blocks cid = option_and_then (λ (row : BlockRow). row.position) (get same_cid blocks cid)
+
+-- each processed block is stored, and for each block its position is noted
+pub record IsOrdered {S : Type 0} (blocks : HashMap Cid BlockRow S) (order : List ℕ) : Type 0 where
+  pub within : list_all (λ place. nat_lt place (length (keys blocks))) order ≡ true
+  pub positions : (cid : Cid) → position_in blocks cid ≡ position (same_cid cid) (order_of blocks order)

@@ -9,3 +9,4 @@ pub mod Values
 pub mod Faults
 pub mod Desks
 pub mod Holder
+pub mod Places

@@ -1,40 +1,17 @@
-// Sets of identifiers with room for the next commits: one that keeps their order, and one that does not.
-ghost use Rattle.std.specs.Prelude.{◌≡◌, ◌≤◌, ◌<◌, ◌+◌, [], ◌∷◌, ◌++◌, false, OnOk, length, slice_get};
-ghost use Rattle.std.specs.List.{position};
-ghost use Rattle.indexmap.specs.IndexSet.{spare, insert_key};
+// A set of identifiers with room for the next commits.
+ghost use Rattle.std.specs.Prelude.{◌≡◌, ◌≤◌, ◌<◌, ◌+◌, ◌||◌, ◌&&◌, not, OnOk};
+ghost use Rattle.indexmap.specs.IndexSet.{spare};
 ghost use Rattle.mc_base.specs.declared.cid.Cid.{Cid};
-ghost use Rattle.std.specs.Prelude.{not, ◌||◌, ◌&&◌};
 ghost use Rattle.mc_model.specs.Front.{same_cid, is_among};
 
 use indexmap::IndexSet;
-use mc_base::{Cid, List};
+use mc_base::Cid;
 use std::alloc::AllocError;
-
-// Adds an identifier at the end, unless it is there.
-pub(crate) fn push_cid(cids: &mut IndexSet<Cid>, cid: Cid)
-    requires room { 0 < spare cids.old }
-    ensures keys { cids.new.keys ≡ insert_key same_cid cids.old.keys cid }
-    ensures spare { spare cids.old ≤ spare cids.new + 1 }
-{
-    let _added = cids.insert(cid);
-}
 
 pub(crate) fn has_cid(cids: &IndexSet<Cid>, cid: &Cid) -> bool
     ensures { result ≡ is_among cids.now.keys cid.now }
 {
     cids.contains(cid)
-}
-
-pub(crate) fn position_of(cids: &IndexSet<Cid>, cid: &Cid) -> Option<usize>
-    ensures { result ≡ position (same_cid cid.now) cids.now.keys }
-{
-    cids.get_index_of(cid)
-}
-
-pub(crate) fn cid_at(cids: &IndexSet<Cid>, index: usize) -> Option<Cid>
-    ensures { result ≡ slice_get cids.now.keys index }
-{
-    cids.get_index(index).copied()
 }
 
 pub(crate) fn reserve_cids(cids: &mut IndexSet<Cid>, rows: usize) -> Result<(), AllocError>

@@ -1,10 +1,12 @@
 // The table of element rows, with room for the next commits: the rows of a key are a chain from its last row to its first.
-ghost use Rattle.std.specs.Prelude.{◌≡◌, ℕ, ◌<◌, ◌≤◌, ◌+◌, ◌++◌, ◌∷◌, [], length, fold, vec_len, vec_capacity, IfOk, OnOk, cond, true, Option, Some, None};
+ghost use Rattle.std.specs.Prelude.{◌≡◌, ℕ, ◌<◌, ◌≤◌, ◌+◌, ◌∷◌, length, fold, vec_len, vec_capacity, IfOk, OnOk, cond};
 ghost use Rattle.std.specs.Prelude as prelude;
-ghost use Rattle.std.specs.HashMap.{spare, get_by_text};
+ghost use Rattle.std.specs.HashMap.{spare};
 ghost use Rattle.std.specs.Str.{bytes_eq};
-ghost use Rattle.mc_keep_mem.specs.Chains.{AreChains, rows_in, row_of_node, with_element};
+ghost use Rattle.mc_keep_mem.specs.Chains.{AreChains, KeepsRows, rows_in, row_of_node, with_element};
+ghost use Rattle.mc_keep_mem.specs.Places.{last_in, value_in};
 
+use crate::places::{Places, reserve_keys, set_last};
 use mc_base::{Bytes, Cid, Text};
 use mc_keep::ElementRow;
 use std::alloc::{AllocError, Global};
@@ -20,23 +22,26 @@ pub(crate) struct Node {
     pub(crate) before: Option<usize>,
 }
 
-/// The element rows.
+/// The element rows, and where those of each key are.
 #[derive(Drop)]
 pub(crate) struct Elements<S: BuildHasher + Drop> {
     pub(crate) nodes: Vec<Node>,
-    pub(crate) lasts: HashMap<String, usize, S>,
-    ghost chains: { AreChains nodes.items lasts },
+    pub(crate) keys: HashMap<String, Places, S>,
+    ghost chains: { AreChains nodes.items (last_in keys) },
 }
 
 /// Puts a row in. It takes no memory.
 pub(crate) fn put_element<S: BuildHasher + Drop>(elements: &mut Elements<S>, row: ElementRow)
     requires nodes_room { vec_len elements.old.nodes < vec_capacity elements.old.nodes }
-    requires lasts_room { 0 < spare elements.old.lasts }
-    ensures rows { (key : prelude.List ℕ) → rows_in elements.new.nodes.items elements.new.lasts key
-        ≡ cond (bytes_eq row.key key) (row ∷ rows_in elements.old.nodes.items elements.old.lasts key) (rows_in elements.old.nodes.items elements.old.lasts key) }
+    requires keys_room { 0 < spare elements.old.keys }
+    ensures rows { (key : prelude.List ℕ) → rows_in elements.new.nodes.items (last_in elements.new.keys) key
+        ≡ cond (bytes_eq row.key key) (row ∷ rows_in elements.old.nodes.items (last_in elements.old.keys) key)
+        (rows_in elements.old.nodes.items (last_in elements.old.keys) key) }
+    ensures values { (key : prelude.List ℕ) → value_in elements.new.keys key ≡ value_in elements.old.keys key }
+    ensures stays { KeepsRows elements.old.nodes.items elements.new.nodes.items }
     ensures nodes_spare { vec_len elements.new.nodes ≡ vec_len elements.old.nodes + 1 }
     ensures nodes_capacity { vec_capacity elements.old.nodes ≤ vec_capacity elements.new.nodes }
-    ensures lasts_spare { spare elements.old.lasts ≤ spare elements.new.lasts + 1 }
+    ensures keys_spare { spare elements.old.keys ≤ spare elements.new.keys + 1 }
 {
     let ElementRow {
         key,
@@ -45,7 +50,7 @@ pub(crate) fn put_element<S: BuildHasher + Drop>(elements: &mut Elements<S>, row
         value,
     } = row;
     let place = count_of(&elements.nodes);
-    let before = set_last(&mut elements.lasts, key, place);
+    let before = set_last(&mut elements.keys, key, place);
     elements.nodes.push_reserved(Node {
         cid,
         priority,
@@ -58,23 +63,6 @@ fn count_of(nodes: &Vec<Node>) -> usize
     ensures { result ≡ length nodes.now.items }
 {
     nodes.as_slice().len()
-}
-
-// Makes a place the last of a key, and gives the one that was.
-fn set_last<S: BuildHasher>(
-    lasts: &mut HashMap<String, usize, S>,
-    key: Text,
-    place: usize,
-) -> Option<usize>
-    requires room { 0 < spare lasts.old }
-    ensures before { result ≡ get_by_text lasts.old key }
-    ensures lasts { (other : prelude.List ℕ) → get_by_text lasts.new other ≡ cond (bytes_eq key other) (Some place) (get_by_text lasts.old other) }
-    ensures spare { spare lasts.old ≤ spare lasts.new + 1 }
-{
-    match lasts.insert(key.into_string(), place) {
-        Ok(before) => before,
-        Err(_) => unreachable!(),
-    }
 }
 
 /// The row of a node of this key.
@@ -94,36 +82,31 @@ pub(crate) fn reserve_elements<S: BuildHasher + Drop>(
     elements: &mut Elements<S>,
     rows: usize,
 ) -> Result<(), AllocError>
-    ensures ok { OnOk result ((vec_len elements.new.nodes + rows ≤ vec_capacity elements.new.nodes) × (rows ≤ spare elements.new.lasts)) }
-    ensures rows { (key : prelude.List ℕ) → rows_in elements.new.nodes.items elements.new.lasts key ≡ rows_in elements.old.nodes.items elements.old.lasts key }
+    ensures ok { OnOk result ((vec_len elements.new.nodes + rows ≤ vec_capacity elements.new.nodes)
+        × (rows ≤ spare elements.new.keys)) }
+    ensures rows { (key : prelude.List ℕ) → rows_in elements.new.nodes.items (last_in elements.new.keys) key
+        ≡ rows_in elements.old.nodes.items (last_in elements.old.keys) key }
+    ensures values { (key : prelude.List ℕ) → value_in elements.new.keys key ≡ value_in elements.old.keys key }
+    ensures nodes { elements.new.nodes.items ≡ elements.old.nodes.items }
     ensures nodes_len { vec_len elements.new.nodes ≡ vec_len elements.old.nodes }
     ensures nodes_capacity { vec_capacity elements.old.nodes ≤ vec_capacity elements.new.nodes }
-    ensures lasts_spare { spare elements.old.lasts ≤ spare elements.new.lasts }
+    ensures keys_spare { spare elements.old.keys ≤ spare elements.new.keys }
 {
     elements.nodes.reserve(rows)?;
-    reserve_lasts(&mut elements.lasts, rows)
-}
-
-fn reserve_lasts<S: BuildHasher>(
-    lasts: &mut HashMap<String, usize, S>,
-    rows: usize,
-) -> Result<(), AllocError>
-    ensures ok { OnOk result (rows ≤ spare lasts.new) }
-    ensures lasts { (key : prelude.List ℕ) → get_by_text lasts.new key ≡ get_by_text lasts.old key }
-    ensures spare { spare lasts.old ≤ spare lasts.new }
-{
-    lasts.reserve(rows)
+    reserve_keys(&mut elements.keys, rows)
 }
 
 /// Puts rows in. It takes no memory.
 pub(crate) fn put_elements<S: BuildHasher + Drop>(elements: &mut Elements<S>, rows: Vec<ElementRow>)
     requires nodes_room { vec_len elements.old.nodes + length rows.items ≤ vec_capacity elements.old.nodes }
-    requires lasts_room { length rows.items ≤ spare elements.old.lasts }
-    ensures rows { (key : prelude.List ℕ) → rows_in elements.new.nodes.items elements.new.lasts key
-        ≡ fold (with_element key) (rows_in elements.old.nodes.items elements.old.lasts key) rows.items }
+    requires keys_room { length rows.items ≤ spare elements.old.keys }
+    ensures rows { (key : prelude.List ℕ) → rows_in elements.new.nodes.items (last_in elements.new.keys) key
+        ≡ fold (with_element key) (rows_in elements.old.nodes.items (last_in elements.old.keys) key) rows.items }
+    ensures values { (key : prelude.List ℕ) → value_in elements.new.keys key ≡ value_in elements.old.keys key }
+    ensures stays { KeepsRows elements.old.nodes.items elements.new.nodes.items }
     ensures nodes_spare { vec_len elements.new.nodes ≤ vec_len elements.old.nodes + length rows.items }
     ensures nodes_capacity { vec_capacity elements.old.nodes ≤ vec_capacity elements.new.nodes }
-    ensures lasts_spare { spare elements.old.lasts ≤ spare elements.new.lasts + length rows.items }
+    ensures keys_spare { spare elements.old.keys ≤ spare elements.new.keys + length rows.items }
 {
     for row in rows {
         put_element(elements, row);

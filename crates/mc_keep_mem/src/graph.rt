@@ -1,75 +1,182 @@
-// The table of stored blocks, in the order in which they came, with room for the next commits.
-ghost use Rattle.std.specs.Prelude.{◌≡◌, ◌≤◌, ◌<◌, ◌+◌, [], ◌∷◌, ◌++◌, false, IfOk, OnOk, length};
-ghost use Rattle.indexmap.specs.IndexMap.{spare};
-ghost use Rattle.std.specs.Prelude.{true, fold};
-ghost use Rattle.std.specs.List.{list_any};
+// The stored blocks, in the order in which they came, and the order of the processed ones, with room for the next
+// commits.
+ghost use Rattle.std.specs.Prelude.{◌≡◌, ◌≤◌, ◌<◌, ◌+◌, [], ◌∷◌, ◌++◌, true, false, length, slice_get};
+ghost use Rattle.std.specs.Prelude.{IfOk, OnOk, Some, cond, fold, vec_len, vec_capacity};
+ghost use Rattle.std.specs.List.{list_all, list_any, position};
+ghost use Rattle.indexmap.specs.IndexMap.{keys, spare};
+ghost use Rattle.indexmap.specs.IndexSet.{insert_key};
+ghost use Rattle.mc_base.specs.declared.cid.Cid.{Cid};
 ghost use Rattle.mc_model.specs.Ascending.{is_once};
-ghost use Rattle.mc_model.specs.Front.{same_cid};
+ghost use Rattle.mc_model.specs.Front.{same_cid, is_among};
 ghost use Rattle.mc_model.specs.Kept.{bytes_at, is_stored, cids_of};
-ghost use Rattle.mc_keep_mem.specs.Graph.{graph_of, insert_stored};
+ghost use Rattle.mc_keep_mem.specs.Graph.{graph_of, order_of, position_in, IsOrdered};
 
 use indexmap::IndexMap;
 use mc_base::{Bytes, Cid};
 use mc_keep::Stored;
 use std::alloc::{AllocError, Global};
 
-/// Adds blocks that are not stored. It takes no memory.
-pub(crate) fn put_blocks(blocks: &mut IndexMap<Cid, Bytes>, store: Vec<Stored>)
-    requires room { length store.items ≤ spare blocks.old }
-    requires new { list_any (λ stored. is_stored (graph_of blocks.old) stored.cid) store.items ≡ false }
-    requires once { is_once same_cid (cids_of store.items) ≡ true }
-    ensures graph { graph_of blocks.new ≡ graph_of blocks.old ++ store.items }
-    ensures spare { spare blocks.old ≤ spare blocks.new + length store.items }
-{
-    push_blocks(blocks, store);
+/// A stored block without its identifier: its bytes, and its position in the order of the processed ones, if it is one.
+#[derive(Debug, Drop)]
+pub(crate) struct BlockRow {
+    pub(crate) bytes: Bytes,
+    pub(crate) position: Option<usize>,
 }
 
-fn push_blocks(blocks: &mut IndexMap<Cid, Bytes>, store: Vec<Stored>)
-    requires room { length store.items ≤ spare blocks.old }
-    ensures entries { blocks.new.entries ≡ fold insert_stored blocks.old.entries store.items }
-    ensures spare { spare blocks.old ≤ spare blocks.new + length store.items }
+/// The stored blocks, and the places of the processed ones among them, in their order.
+#[derive(Drop)]
+pub(crate) struct Graph {
+    pub(crate) blocks: IndexMap<Cid, BlockRow>,
+    pub(crate) order: Vec<usize>,
+    ghost ordered: { IsOrdered blocks order.items },
+}
+
+/// Adds blocks that are not stored. It takes no memory.
+pub(crate) fn put_blocks(graph: &mut Graph, store: Vec<Stored>)
+    requires room { length store.items ≤ spare graph.old.blocks }
+    requires new { list_any (λ stored. is_stored (graph_of graph.old.blocks) stored.cid) store.items ≡ false }
+    requires once { is_once same_cid (cids_of store.items) ≡ true }
+    ensures graph { graph_of graph.new.blocks ≡ graph_of graph.old.blocks ++ store.items }
+    ensures order { order_of graph.new.blocks graph.new.order.items
+        ≡ order_of graph.old.blocks graph.old.order.items }
+    ensures places { graph.new.order ≡ graph.old.order }
+    ensures spare { spare graph.old.blocks ≤ spare graph.new.blocks + length store.items }
 {
     for stored in store {
-        push_block(blocks, stored);
+        put_block(graph, stored);
     }
 }
 
-// Puts a block under its identifier.
-fn push_block(blocks: &mut IndexMap<Cid, Bytes>, stored: Stored)
-    requires room { 0 < spare blocks.old }
-    ensures entries { blocks.new.entries ≡ insert_stored blocks.old.entries stored }
-    ensures spare { spare blocks.old ≤ spare blocks.new + 1 }
+// Adds a block that is not stored.
+fn put_block(graph: &mut Graph, stored: Stored)
+    requires room { 0 < spare graph.old.blocks }
+    requires new { is_stored (graph_of graph.old.blocks) stored.cid ≡ false }
+    ensures graph { graph_of graph.new.blocks ≡ graph_of graph.old.blocks ++ stored ∷ [] }
+    ensures order { order_of graph.new.blocks graph.new.order.items
+        ≡ order_of graph.old.blocks graph.old.order.items }
+    ensures places { graph.new.order ≡ graph.old.order }
+    ensures spare { spare graph.old.blocks ≤ spare graph.new.blocks + 1 }
 {
     let Stored { cid, bytes } = stored;
-    let _old = blocks.insert(cid, bytes);
+    let row = BlockRow {
+        bytes,
+        position: None,
+    };
+    let _none = graph.blocks.insert(cid, row);
 }
 
-pub(crate) fn has_block(blocks: &IndexMap<Cid, Bytes>, cid: &Cid) -> bool
-    ensures { result ≡ is_stored (graph_of blocks.now) cid.now }
+/// Adds stored blocks to the order of the processed ones, but for those that are there. It takes no memory.
+pub(crate) fn process_all(graph: &mut Graph, cids: &[Cid])
+    requires room { vec_len graph.old.order + length cids.now ≤ vec_capacity graph.old.order }
+    requires stored { list_all (is_stored (graph_of graph.old.blocks)) cids.now ≡ true }
+    ensures graph { graph_of graph.new.blocks ≡ graph_of graph.old.blocks }
+    ensures order { order_of graph.new.blocks graph.new.order.items
+        ≡ fold (insert_key same_cid) (order_of graph.old.blocks graph.old.order.items) cids.now }
+    ensures blocks_spare { spare graph.old.blocks ≤ spare graph.new.blocks }
+    ensures order_len { vec_len graph.new.order ≤ vec_len graph.old.order + length cids.now }
+    ensures order_capacity { vec_capacity graph.old.order ≤ vec_capacity graph.new.order }
 {
-    blocks.contains_key(cid)
+    for cid in cids {
+        process(graph, cid);
+    }
+}
+
+// Adds a stored block to the order, unless it is there.
+fn process(graph: &mut Graph, cid: &Cid)
+    requires room { vec_len graph.old.order < vec_capacity graph.old.order }
+    requires stored { is_stored (graph_of graph.old.blocks) cid.now ≡ true }
+    ensures graph { graph_of graph.new.blocks ≡ graph_of graph.old.blocks }
+    ensures order { order_of graph.new.blocks graph.new.order.items
+        ≡ insert_key same_cid (order_of graph.old.blocks graph.old.order.items) cid.now }
+    ensures blocks_spare { spare graph.old.blocks ≤ spare graph.new.blocks }
+    ensures order_len { vec_len graph.new.order ≤ vec_len graph.old.order + 1 }
+    ensures order_capacity { vec_capacity graph.old.order ≤ vec_capacity graph.new.order }
+{
+    let Some((place, _, row)) = graph.blocks.get_full(cid) else {
+        unreachable!();
+    };
+    if row.position.is_some() {
+        return;
+    }
+    let position = count_of(&graph.order);
+    set_position(&mut graph.blocks, place, position);
+    graph.order.push_reserved(place);
+}
+
+fn count_of(order: &Vec<usize>) -> usize
+    ensures { result ≡ length order.now.items }
+{
+    order.as_slice().len()
+}
+
+// Gives the block at a place its position in the order.
+fn set_position(blocks: &mut IndexMap<Cid, BlockRow>, place: usize, position: usize)
+    ensures graph { graph_of blocks.new ≡ graph_of blocks.old }
+    ensures keys { keys blocks.new ≡ keys blocks.old }
+    ensures positions { (cid : Cid) (row : BlockRow) → slice_get blocks.old.entries place ≡ Some (cid, row) →
+        (other : Cid) → position_in blocks.new other
+        ≡ cond (same_cid other cid) (Some position) (position_in blocks.old other) }
+    ensures spare { spare blocks.old ≤ spare blocks.new }
+{
+    if let Some(row) = blocks.get_index_mut(place) {
+        row.position = Some(position);
+    }
+}
+
+pub(crate) fn has_block(graph: &Graph, cid: &Cid) -> bool
+    ensures { result ≡ is_stored (graph_of graph.now.blocks) cid.now }
+{
+    graph.blocks.contains_key(cid)
 }
 
 pub(crate) fn block_bytes(
     alloc: Global,
-    blocks: &IndexMap<Cid, Bytes>,
+    graph: &Graph,
     cid: &Cid,
 ) -> Result<Option<Bytes>, AllocError>
-    ensures { IfOk result (λ bytes. bytes ≡ bytes_at (graph_of blocks.now) cid.now) }
+    ensures { IfOk result (λ bytes. bytes ≡ bytes_at (graph_of graph.now.blocks) cid.now) }
 {
-    match blocks.get(cid) {
-        Some(bytes) => Ok(Some(bytes.try_clone(alloc)?)),
+    match graph.blocks.get(cid) {
+        Some(row) => Ok(Some(row.bytes.try_clone(alloc)?)),
         None => Ok(None),
     }
 }
 
-pub(crate) fn reserve_blocks(
-    blocks: &mut IndexMap<Cid, Bytes>,
-    rows: usize,
-) -> Result<(), AllocError>
-    ensures ok { OnOk result (rows ≤ spare blocks.new) }
-    ensures graph { graph_of blocks.new ≡ graph_of blocks.old }
-    ensures spare { spare blocks.old ≤ spare blocks.new }
+pub(crate) fn is_processed(graph: &Graph, cid: &Cid) -> bool
+    ensures { result ≡ is_among (order_of graph.now.blocks graph.now.order.items) cid.now }
 {
-    blocks.reserve(rows)
+    position_of(graph, cid).is_some()
+}
+
+pub(crate) fn position_of(graph: &Graph, cid: &Cid) -> Option<usize>
+    ensures { result ≡ position (same_cid cid.now) (order_of graph.now.blocks graph.now.order.items) }
+{
+    match graph.blocks.get(cid) {
+        Some(row) => row.position,
+        None => None,
+    }
+}
+
+/// The block at an index of the order, or none past its end.
+pub(crate) fn cid_at(graph: &Graph, index: usize) -> Option<Cid>
+    ensures { result ≡ slice_get (order_of graph.now.blocks graph.now.order.items) index }
+{
+    let place = *graph.order.get(index)?;
+    let (cid, _) = graph.blocks.get_index(place)?;
+    Some(*cid)
+}
+
+/// Makes room for so many blocks, also in the order.
+pub(crate) fn reserve_blocks(graph: &mut Graph, rows: usize) -> Result<(), AllocError>
+    ensures blocks_room { OnOk result (rows ≤ spare graph.new.blocks) }
+    ensures order_room { OnOk result (vec_len graph.new.order + rows ≤ vec_capacity graph.new.order) }
+    ensures graph { graph_of graph.new.blocks ≡ graph_of graph.old.blocks }
+    ensures order { order_of graph.new.blocks graph.new.order.items
+        ≡ order_of graph.old.blocks graph.old.order.items }
+    ensures blocks_spare { spare graph.old.blocks ≤ spare graph.new.blocks }
+    ensures order_len { vec_len graph.new.order ≡ vec_len graph.old.order }
+    ensures order_capacity { vec_capacity graph.old.order ≤ vec_capacity graph.new.order }
+{
+    graph.order.reserve(rows)?;
+    graph.blocks.reserve(rows)
 }

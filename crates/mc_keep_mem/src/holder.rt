@@ -1,29 +1,35 @@
 // The block of a value is looked for along the rows of its key, from the one that came last.
 ghost use Rattle.std.specs.Prelude.{◌≡◌, IfOk};
+ghost use Rattle.std.specs.Option.{option_and_then};
 ghost use Rattle.mc_model.specs.Rank.{same_ranked};
-ghost use Rattle.mc_keep_mem.specs.Chains.{rows_in, row_of_node};
-ghost use Rattle.mc_keep_mem.specs.Holder.{block_among, is_held, holder_among};
+ghost use Rattle.mc_keep_mem.specs.Chains.{row_at, rows_in, row_of_node};
+ghost use Rattle.mc_keep_mem.specs.Holder.{is_held, holder_among, row_with};
+ghost use Rattle.mc_keep_mem.specs.Places.{last_in};
 ghost use Rattle.mc_keep_mem.specs.Tombs.{has_tomb_in};
 
 use crate::elements::{Elements, Node};
-use crate::tombs::{Tombs, has_tomb};
-use crate::values::Held;
+use crate::live::is_hidden;
+use crate::places::last_of;
+use crate::tombs::Tombs;
 use mc_base::Cid;
-use mc_model::id_of;
 use std::alloc::{AllocError, Global};
 use std::hash::BuildHasher;
 
-/// The block of the last row of the key that has this value with its priority and is not hidden, or none where no row is.
+/// The block of the last row of the key that has the value of `held` with its priority and is not hidden, or none where
+/// no row is.
 pub(crate) fn holder_of<S: BuildHasher + Drop>(
     alloc: Global,
     elements: &Elements<S>,
     tombs: &Tombs<S>,
     key: &str,
-    held: &Held,
+    held: &Node,
 ) -> Result<Option<Cid>, AllocError>
-    ensures { IfOk result (λ cid. cid ≡ holder_among (has_tomb_in tombs.now.keys.keys tombs.now.ids.keys tombs.now.pairs.keys key.now) (held.now.priority, held.now.value) (rows_in elements.now.nodes.items elements.now.lasts key.now)) }
+    ensures { IfOk result (λ cid. cid ≡ holder_among
+        (has_tomb_in tombs.now.keys.keys tombs.now.ids.keys tombs.now.pairs.keys key.now)
+        (held.now.priority, held.now.value)
+        (rows_in elements.now.nodes.items (last_in elements.now.keys) key.now)) }
 {
-    let mut at = elements.lasts.get(key).copied();
+    let mut at = last_of(&elements.keys, key);
     while let Some(place) = at {
         let Some(node) = elements.nodes.get(place) else {
             return Ok(None);
@@ -36,22 +42,24 @@ pub(crate) fn holder_of<S: BuildHasher + Drop>(
     Ok(None)
 }
 
-/// The block of the last row of the key that has this value with this priority, or none where no row has. It takes no memory.
-pub(crate) fn block_with<S: BuildHasher + Drop>(
+/// The place of the last row of the key that has this value with this priority, or none where no row has. It takes no
+/// memory.
+pub(crate) fn place_with<S: BuildHasher + Drop>(
     elements: &Elements<S>,
     key: &str,
     priority: u64,
     value: &[u8],
-) -> Option<Cid>
-    ensures { result ≡ block_among (priority, value.now) (rows_in elements.now.nodes.items elements.now.lasts key.now) }
+) -> Option<usize>
+    ensures { option_and_then (row_at elements.now.nodes.items key.now) result
+        ≡ row_with (priority, value.now) (rows_in elements.now.nodes.items (last_in elements.now.keys) key.now) }
 {
-    let mut at = elements.lasts.get(key).copied();
+    let mut at = last_of(&elements.keys, key);
     while let Some(place) = at {
         let Some(node) = elements.nodes.get(place) else {
             return None;
         };
         if has_value(node, priority, value) {
-            return Some(node.cid);
+            return Some(place);
         }
         at = node.before;
     }
@@ -63,7 +71,7 @@ fn holds<S: BuildHasher + Drop>(
     alloc: Global,
     tombs: &Tombs<S>,
     key: &str,
-    held: &Held,
+    held: &Node,
     node: &Node,
 ) -> Result<bool, AllocError>
     ensures { IfOk result (λ found. found ≡ is_held (has_tomb_in tombs.now.keys.keys tombs.now.ids.keys tombs.now.pairs.keys key.now) (held.now.priority, held.now.value) (row_of_node key.now node.now)) }
@@ -71,8 +79,7 @@ fn holds<S: BuildHasher + Drop>(
     if !has_value(node, held.priority, held.value.as_slice()) {
         return Ok(false);
     }
-    let id = id_of(alloc, &node.cid)?;
-    Ok(!has_tomb(tombs, key, id.as_str()))
+    Ok(!is_hidden(alloc, tombs, key, node)?)
 }
 
 fn has_value(node: &Node, priority: u64, value: &[u8]) -> bool

@@ -11,6 +11,7 @@ mod keeper;
 mod keepers;
 mod live;
 mod next;
+mod places;
 mod plan;
 mod store;
 mod tables;

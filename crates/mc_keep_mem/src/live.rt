@@ -1,13 +1,14 @@
 // The live rows of a key. A hidden row that is met is passed over from then on, but for the last one of the key.
 ghost use Rattle.std.specs.Prelude.{◌≡◌, vec_len, vec_capacity, filter, true, IfOk, Some};
-ghost use Rattle.std.specs.HashMap.{get_by_text};
 ghost use Rattle.mc_model.specs.Ascending.{Ascends};
 ghost use Rattle.mc_model.specs.Id.{id_text};
 ghost use Rattle.mc_keep.specs.ElementOrder.{element_cmp};
 ghost use Rattle.mc_keep_mem.specs.Chains.{before_at, is_before, is_live, led_to, live_from, rows_in, IsLiveAt, IsOf, Pruned};
+ghost use Rattle.mc_keep_mem.specs.Places.{last_in};
 ghost use Rattle.mc_keep_mem.specs.Tombs.{has_tomb_in};
 
 use crate::elements::{Elements, Node, row_of};
+use crate::places::last_of;
 use crate::tombs::{Tombs, has_key, has_tomb};
 use mc_base::List;
 use mc_keep::{ElementRow, ties_are_equal};
@@ -24,10 +25,10 @@ pub(crate) fn live_elements_of<S: BuildHasher + Drop>(
 ) -> Result<List<ElementRow>, AllocError>
     ensures rows { IfOk result (λ rows. Ascends element_cmp rows (filter
         (is_live (has_tomb_in tombs.now.keys.keys tombs.now.ids.keys tombs.now.pairs.keys key.now))
-        (rows_in elements.old.nodes.items elements.old.lasts key.now))) }
+        (rows_in elements.old.nodes.items (last_in elements.old.keys) key.now))) }
     ensures pruned { Pruned (has_tomb_in tombs.now.keys.keys tombs.now.ids.keys tombs.now.pairs.keys)
-        elements.old.nodes.items elements.new.nodes.items elements.old.lasts }
-    ensures lasts { elements.new.lasts ≡ elements.old.lasts }
+        elements.old.nodes.items elements.new.nodes.items (last_in elements.old.keys) }
+    ensures keys { elements.new.keys ≡ elements.old.keys }
     ensures len { vec_len elements.new.nodes ≡ vec_len elements.old.nodes }
     ensures capacity { vec_capacity elements.new.nodes ≡ vec_capacity elements.old.nodes }
 {
@@ -47,10 +48,10 @@ fn live_rows<S: BuildHasher + Drop>(
 ) -> Result<Vec<ElementRow>, AllocError>
     ensures rows { IfOk result (λ rows. rows.items ≡ filter
         (is_live (has_tomb_in tombs.now.keys.keys tombs.now.ids.keys tombs.now.pairs.keys key.now))
-        (rows_in elements.old.nodes.items elements.old.lasts key.now)) }
+        (rows_in elements.old.nodes.items (last_in elements.old.keys) key.now)) }
     ensures pruned { Pruned (has_tomb_in tombs.now.keys.keys tombs.now.ids.keys tombs.now.pairs.keys)
-        elements.old.nodes.items elements.new.nodes.items elements.old.lasts }
-    ensures lasts { elements.new.lasts ≡ elements.old.lasts }
+        elements.old.nodes.items elements.new.nodes.items (last_in elements.old.keys) }
+    ensures keys { elements.new.keys ≡ elements.old.keys }
     ensures len { vec_len elements.new.nodes ≡ vec_len elements.old.nodes }
     ensures capacity { vec_capacity elements.new.nodes ≡ vec_capacity elements.old.nodes }
 {
@@ -75,19 +76,19 @@ fn first_live<S: BuildHasher + Drop>(
 ) -> Result<Option<usize>, AllocError>
     ensures live { IfOk result (λ at. IsLiveAt
         (has_tomb_in tombs.now.keys.keys tombs.now.ids.keys tombs.now.pairs.keys key.now)
-        elements.new.nodes.items elements.old.lasts key.now at) }
+        elements.new.nodes.items (last_in elements.old.keys) key.now at) }
     ensures rest { IfOk result (λ at. live_from
         (has_tomb_in tombs.now.keys.keys tombs.now.ids.keys tombs.now.pairs.keys key.now)
         elements.new.nodes.items key.now at ≡ filter
         (is_live (has_tomb_in tombs.now.keys.keys tombs.now.ids.keys tombs.now.pairs.keys key.now))
-        (rows_in elements.old.nodes.items elements.old.lasts key.now)) }
+        (rows_in elements.old.nodes.items (last_in elements.old.keys) key.now)) }
     ensures pruned { Pruned (has_tomb_in tombs.now.keys.keys tombs.now.ids.keys tombs.now.pairs.keys)
-        elements.old.nodes.items elements.new.nodes.items elements.old.lasts }
-    ensures lasts { elements.new.lasts ≡ elements.old.lasts }
+        elements.old.nodes.items elements.new.nodes.items (last_in elements.old.keys) }
+    ensures keys { elements.new.keys ≡ elements.old.keys }
     ensures len { vec_len elements.new.nodes ≡ vec_len elements.old.nodes }
     ensures capacity { vec_capacity elements.new.nodes ≡ vec_capacity elements.old.nodes }
 {
-    let Some(last) = elements.lasts.get(key).copied() else {
+    let Some(last) = last_of(&elements.keys, key) else {
         return Ok(None);
     };
     let Some(node) = elements.nodes.get(last) else {
@@ -107,10 +108,10 @@ fn next_live<S: BuildHasher + Drop>(
     key: &str,
     place: usize,
 ) -> Result<Option<usize>, AllocError>
-    requires own { IsOf elements.old.nodes.items elements.old.lasts key.now place }
+    requires own { IsOf elements.old.nodes.items (last_in elements.old.keys) key.now place }
     ensures live { IfOk result (λ at. IsLiveAt
         (has_tomb_in tombs.now.keys.keys tombs.now.ids.keys tombs.now.pairs.keys key.now)
-        elements.new.nodes.items elements.old.lasts key.now at) }
+        elements.new.nodes.items (last_in elements.old.keys) key.now at) }
     ensures rest { IfOk result (λ at. live_from
         (has_tomb_in tombs.now.keys.keys tombs.now.ids.keys tombs.now.pairs.keys key.now)
         elements.new.nodes.items key.now at ≡ live_from
@@ -118,8 +119,8 @@ fn next_live<S: BuildHasher + Drop>(
         elements.old.nodes.items key.now (before_at elements.old.nodes.items place)) }
     ensures back { IfOk result (λ at. is_before place at ≡ true) }
     ensures pruned { Pruned (has_tomb_in tombs.now.keys.keys tombs.now.ids.keys tombs.now.pairs.keys)
-        elements.old.nodes.items elements.new.nodes.items elements.old.lasts }
-    ensures lasts { elements.new.lasts ≡ elements.old.lasts }
+        elements.old.nodes.items elements.new.nodes.items (last_in elements.old.keys) }
+    ensures keys { elements.new.keys ≡ elements.old.keys }
     ensures len { vec_len elements.new.nodes ≡ vec_len elements.old.nodes }
     ensures capacity { vec_capacity elements.new.nodes ≡ vec_capacity elements.old.nodes }
 {
@@ -135,8 +136,8 @@ fn next_live<S: BuildHasher + Drop>(
     Ok(None)
 }
 
-// Whether a tombstone hides the row of a key. No id is made where the key has no tombstone.
-fn is_hidden<S: BuildHasher + Drop>(
+/// Whether a tombstone hides the row of a key. No id is made where the key has no tombstone.
+pub(crate) fn is_hidden<S: BuildHasher + Drop>(
     alloc: Global,
     tombs: &Tombs<S>,
     key: &str,
@@ -157,7 +158,7 @@ fn pass_over<S: BuildHasher + Drop>(elements: &mut Elements<S>, place: usize, ne
     requires leads { before_at elements.old.nodes.items place ≡ Some next }
     ensures nodes { elements.new.nodes.items
         ≡ led_to elements.old.nodes.items place (before_at elements.old.nodes.items next) }
-    ensures lasts { elements.new.lasts ≡ elements.old.lasts }
+    ensures keys { elements.new.keys ≡ elements.old.keys }
     ensures len { vec_len elements.new.nodes ≡ vec_len elements.old.nodes }
     ensures capacity { vec_capacity elements.new.nodes ≡ vec_capacity elements.old.nodes }
 {

@@ -6,9 +6,11 @@ ghost use Rattle.std.specs.String.{string_bytes};
 ghost use Rattle.std.specs.BTreeSet.{contains_text, btree_set_len};
 ghost use Rattle.mc_keep.specs.Next.{IsNextOf};
 ghost use Rattle.mc_keep_mem.specs.InOrder.{IsFirst};
-ghost use Rattle.mc_keep_mem.specs.Values.{row_in, IsCovered};
+ghost use Rattle.mc_keep_mem.specs.Places.{value_in};
+ghost use Rattle.mc_keep_mem.specs.Values.{row_in, AreThere, IsCovered};
 
-use crate::values::{Values, row_of_key};
+use crate::elements::Elements;
+use crate::values::{Values, node_of, row_of_key};
 use mc_base::Text;
 use mc_keep::ValueRow;
 use std::alloc::{AllocError, Global};
@@ -17,10 +19,10 @@ use std::hash::BuildHasher;
 use std::ops::Bound;
 
 /// Puts the keys that wait into order. After want of memory some have been, and the others still wait.
-pub(crate) fn settle<S: BuildHasher + Drop>(values: &mut Values<S>) -> Result<(), AllocError>
-    requires { IsCovered values.old.rows values.old.ordered values.old.pending.items }
-    ensures rows { values.new.rows ≡ values.old.rows }
-    ensures covered { IsCovered values.new.rows values.new.ordered values.new.pending.items }
+pub(crate) fn settle(values: &mut Values) -> Result<(), AllocError>
+    ensures covered { (places : prelude.List ℕ → prelude.Option ℕ) →
+        IsCovered places values.old.ordered values.old.pending.items →
+        IsCovered places values.new.ordered values.new.pending.items }
     ensures settled { OnOk result (values.new.pending.items ≡ []) }
     ensures len { vec_len values.new.pending ≤ vec_len values.old.pending }
     ensures capacity { vec_capacity values.old.pending ≤ vec_capacity values.new.pending }
@@ -50,39 +52,43 @@ fn put_in_order(ordered: &mut BTreeSet<String>, key: String) -> Result<(), Strin
 /// are met on the way are kept in order no longer.
 pub(crate) fn next_row<S: BuildHasher + Drop>(
     alloc: Global,
-    values: &mut Values<S>,
+    values: &mut Values,
+    elements: &Elements<S>,
     bound: &str,
     inclusive: bool,
 ) -> Result<Option<ValueRow>, AllocError>
-    requires { IsCovered values.old.rows values.old.ordered values.old.pending.items }
-    ensures ok { IfOk result (λ row. IsNextOf (row_in values.old.rows) bound.now inclusive row) }
-    ensures rows { values.new.rows ≡ values.old.rows }
-    ensures covered { IsCovered values.new.rows values.new.ordered values.new.pending.items }
+    requires covered { IsCovered (value_in elements.now.keys) values.old.ordered values.old.pending.items }
+    requires there { AreThere elements.now.nodes.items (value_in elements.now.keys) }
+    ensures ok { IfOk result (λ row. IsNextOf
+        (row_in elements.now.nodes.items (value_in elements.now.keys)) bound.now inclusive row) }
+    ensures covered { IsCovered (value_in elements.now.keys) values.new.ordered values.new.pending.items }
     ensures len { vec_len values.new.pending ≤ vec_len values.old.pending }
     ensures capacity { vec_capacity values.old.pending ≤ vec_capacity values.new.pending }
 {
     settle(values)?;
     let from = String::from_str(alloc, bound)?;
-    next_in_order(alloc, values, &from, inclusive)
+    next_in_order(alloc, values, elements, &from, inclusive)
 }
 
 // The same where no key waits.
 fn next_in_order<S: BuildHasher + Drop>(
     alloc: Global,
-    values: &mut Values<S>,
+    values: &mut Values,
+    elements: &Elements<S>,
     from: &String,
     inclusive: bool,
 ) -> Result<Option<ValueRow>, AllocError>
-    requires covered { IsCovered values.old.rows values.old.ordered values.old.pending.items }
+    requires covered { IsCovered (value_in elements.now.keys) values.old.ordered values.old.pending.items }
     requires settled { values.old.pending.items ≡ [] }
-    ensures ok { IfOk result (λ row. IsNextOf (row_in values.old.rows) (string_bytes from.now) inclusive row) }
-    ensures rows { values.new.rows ≡ values.old.rows }
+    requires there { AreThere elements.now.nodes.items (value_in elements.now.keys) }
+    ensures ok { IfOk result (λ row. IsNextOf
+        (row_in elements.now.nodes.items (value_in elements.now.keys)) (string_bytes from.now) inclusive row) }
     ensures pending { values.new.pending ≡ values.old.pending }
-    ensures covered { IsCovered values.new.rows values.new.ordered values.new.pending.items }
+    ensures covered { IsCovered (value_in elements.now.keys) values.new.ordered values.new.pending.items }
 {
     while let Some(key) = first_key(alloc, &values.ordered, from, inclusive)? {
-        if let Some(held) = values.rows.get(key.as_str()) {
-            return Ok(Some(row_of_key(alloc, key, held)?));
+        if let Some(node) = node_of(elements, key.as_str()) {
+            return Ok(Some(row_of_key(alloc, key, node)?));
         }
         drop_key(&mut values.ordered, key.as_str());
     }

@@ -12,20 +12,20 @@ ghost use Rattle.mc_keep.specs.ElementOrder.{element_cmp};
 ghost use Rattle.mc_keep.specs.Tables.{ChangesFit, IsSummary, IsSmall, IsValueRow};
 ghost use Rattle.mc_keep_mem.specs.Fits.{Fits, RoomFor, kept_in};
 
-use crate::cids::{cid_at, has_cid, position_of};
+use crate::cids::has_cid;
 use crate::elements::Elements;
-use crate::graph::{block_bytes, has_block};
+use crate::graph::{Graph, block_bytes, cid_at, has_block, is_processed, position_of};
 use crate::heads::{has_head, head_rows};
 use crate::holder::holder_of;
-use crate::live::live_elements_of;
+use crate::live::{is_hidden, live_elements_of};
 use crate::next::next_row;
 use crate::tables::{Tables, commit_tables, reserve_tables};
 use crate::tombs::{Tombs, has_tomb as has_tomb_row};
-use crate::values::{Values, has_value, value_of};
+use crate::values::{Values, has_value, node_of, value_of};
 use indexmap::{IndexMap, IndexSet};
 use mc_base::{Bytes, Cid, List};
 use mc_keep::{Changes, ElementRow, HeadRow, Summary, ValueRow, changes_fit, commits_are_events};
-use mc_model::{gaps_are_counted, id_of};
+use mc_model::gaps_are_counted;
 use std::alloc::{AllocError, Global};
 use std::collections::{BTreeSet, HashMap, HashSet};
 use std::hash::BuildHasher;
@@ -47,14 +47,16 @@ impl<S: BuildHasher + Copy + Drop> Store<S> {
     {
         Store {
             tables: Tables {
-                blocks: IndexMap::new(alloc),
-                order: IndexSet::new(alloc),
+                graph: Graph {
+                    blocks: IndexMap::new(alloc),
+                    order: Vec::new(alloc),
+                },
                 mark: false,
                 gaps: IndexSet::new(alloc),
                 heads: IndexMap::new(alloc),
                 elements: Elements {
                     nodes: Vec::new(alloc),
-                    lasts: HashMap::with_hasher(alloc, hasher),
+                    keys: HashMap::with_hasher(alloc, hasher),
                 },
                 tombs: Tombs {
                     keys: IndexSet::with_hasher(alloc, hasher),
@@ -62,7 +64,6 @@ impl<S: BuildHasher + Copy + Drop> Store<S> {
                     pairs: HashSet::new(alloc),
                 },
                 values: Values {
-                    rows: HashMap::with_hasher(alloc, hasher),
                     ordered: BTreeSet::new(alloc),
                     pending: Vec::new(alloc),
                 },
@@ -87,19 +88,19 @@ impl<S: BuildHasher + Drop> Store<S> {
     pub(crate) fn block(&self, alloc: Global, cid: &Cid) -> Result<Option<Bytes>, AllocError>
         ensures { IfOk result (λ bytes. bytes ≡ bytes_at (kept_in self.now.tables).graph cid.now) }
     {
-        block_bytes(alloc, &self.tables.blocks, cid)
+        block_bytes(alloc, &self.tables.graph, cid)
     }
 
     pub(crate) fn stored(&self, cid: &Cid) -> bool
         ensures { result ≡ is_stored (kept_in self.now.tables).graph cid.now }
     {
-        has_block(&self.tables.blocks, cid)
+        has_block(&self.tables.graph, cid)
     }
 
     pub(crate) fn position(&self, cid: &Cid) -> Option<u64>
         ensures { result ≡ position (same_cid cid.now) (kept_in self.now.tables).order }
     {
-        match position_of(&self.tables.order, cid) {
+        match position_of(&self.tables.graph, cid) {
             Some(place) => Some(place as u64),
             None => None,
         }
@@ -108,14 +109,14 @@ impl<S: BuildHasher + Drop> Store<S> {
     pub(crate) fn at(&self, position: u64) -> Option<Cid>
         ensures { result ≡ slice_get (kept_in self.now.tables).order position }
     {
-        cid_at(&self.tables.order, position as usize)
+        cid_at(&self.tables.graph, position as usize)
     }
 
     // A processed block is linked unless it is a head, and another one where it is a gap.
     pub(crate) fn linked(&self, cid: &Cid) -> bool
         ensures { result ≡ is_linked (processed (kept_in self.now.tables)) cid.now }
     {
-        if has_cid(&self.tables.order, cid) {
+        if is_processed(&self.tables.graph, cid) {
             return !has_head(&self.tables.heads, cid);
         }
         has_cid(&self.tables.gaps, cid)
@@ -153,8 +154,8 @@ impl<S: BuildHasher + Drop> Store<S> {
     {
         gaps_are_counted();
         Summary {
-            processed: self.tables.order.as_slice().len() as u64,
-            stored: self.tables.blocks.keys().as_slice().len() as u64,
+            processed: self.tables.graph.order.as_slice().len() as u64,
+            stored: self.tables.graph.blocks.keys().as_slice().len() as u64,
             gaps: self.tables.gaps.as_slice().len() as u64,
             mark: self.tables.mark,
         }
@@ -163,28 +164,25 @@ impl<S: BuildHasher + Drop> Store<S> {
     pub(crate) fn value(&self, alloc: Global, key: &str) -> Result<Option<ValueRow>, AllocError>
         ensures { IfOk result (λ row. IsValueRow (processed (kept_in self.now.tables)) key.now row) }
     {
-        value_of(alloc, &self.tables.values.rows, key)
+        value_of(alloc, &self.tables.elements, key)
     }
 
     pub(crate) fn holder(&self, alloc: Global, key: &str) -> Result<Option<Cid>, AllocError>
         ensures { IfOk result (λ cid. IsHolder (processed (kept_in self.now.tables)) key.now cid) }
     {
-        let Some(held) = self.tables.values.rows.get(key) else {
+        let Some(node) = node_of(&self.tables.elements, key) else {
             return Ok(None);
         };
-        if let Some(cid) = held.holder {
-            let id = id_of(alloc, &cid)?;
-            if !self.hidden(key, id.as_str()) {
-                return Ok(Some(cid));
-            }
+        if !is_hidden(alloc, &self.tables.tombs, key, node)? {
+            return Ok(Some(node.cid));
         }
-        holder_of(alloc, &self.tables.elements, &self.tables.tombs, key, held)
+        holder_of(alloc, &self.tables.elements, &self.tables.tombs, key, node)
     }
 
     pub(crate) fn has(&self, key: &str) -> bool
         ensures { result ≡ is_some (value_row (processed (kept_in self.now.tables)) key.now) }
     {
-        has_value(&self.tables.values.rows, key)
+        has_value(&self.tables.elements, key)
     }
 
     // Puts the keys that wait into order, so the tables change, and nothing that they tell.
@@ -198,7 +196,13 @@ impl<S: BuildHasher + Drop> Store<S> {
         ensures kept { kept_in self.new.tables ≡ kept_in self.old.tables }
         ensures room { self.new.room ≡ self.old.room }
     {
-        next_row(alloc, &mut self.tables.values, bound, inclusive)
+        next_row(
+            alloc,
+            &mut self.tables.values,
+            &self.tables.elements,
+            bound,
+            inclusive,
+        )
     }
 
     // Makes room for so many rows.

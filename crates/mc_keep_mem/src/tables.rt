@@ -1,18 +1,17 @@
 // All tables of a keeper, and a commit on them that takes no memory.
 ghost use Rattle.std.specs.Prelude.{◌≡◌, ◌≤◌, ◌+◌, ◌-◌, IfSome, OnOk};
 ghost use Rattle.mc_keep.specs.Changes.{row_count};
-ghost use Rattle.mc_keep_mem.specs.Values.{IsCovered};
 ghost use Rattle.mc_keep_mem.specs.Fits.{RoomFor, Applied, ChangesMeet, Reserved};
 
 use crate::cids::reserve_cids;
 use crate::elements::{Elements, put_elements, reserve_elements};
 use crate::front::{put_gaps, put_marks};
-use crate::graph::{put_blocks, reserve_blocks};
+use crate::graph::{Graph, put_blocks, reserve_blocks};
 use crate::heads::{drop_heads, put_heads, reserve_heads};
 use crate::tombs::{Tombs, put_tombs, reserve_tombs};
 use crate::values::{Values, put_values, reserve_values};
 use indexmap::{IndexMap, IndexSet};
-use mc_base::{Bytes, Cid};
+use mc_base::Cid;
 use mc_keep::Changes;
 use std::alloc::AllocError;
 use std::hash::BuildHasher;
@@ -20,14 +19,13 @@ use std::hash::BuildHasher;
 /// The tables: the stored blocks, the order of the processed ones, their gaps and heads, and the rows that they make.
 #[derive(Drop)]
 pub(crate) struct Tables<S: BuildHasher + Drop> {
-    pub(crate) blocks: IndexMap<Cid, Bytes>,
-    pub(crate) order: IndexSet<Cid>,
+    pub(crate) graph: Graph,
     pub(crate) mark: bool,
     pub(crate) gaps: IndexSet<Cid>,
     pub(crate) heads: IndexMap<Cid, u64>,
     pub(crate) elements: Elements<S>,
     pub(crate) tombs: Tombs<S>,
-    pub(crate) values: Values<S>,
+    pub(crate) values: Values,
 }
 
 /// Makes the changes, for which there is room, and gives the room that is left. It takes no memory.
@@ -66,14 +64,14 @@ fn apply<S: BuildHasher + Drop>(tables: &mut Tables<S>, changes: Changes, room: 
         heads_out,
         mark,
     } = changes;
-    put_blocks(&mut tables.blocks, store.into_vec());
-    put_marks(&mut tables.order, &mut tables.gaps, marks.as_slice());
-    put_gaps(&mut tables.gaps, &tables.order, links.as_slice());
+    put_blocks(&mut tables.graph, store.into_vec());
+    put_marks(&mut tables.graph, &mut tables.gaps, marks.as_slice());
+    put_gaps(&mut tables.gaps, &tables.graph, links.as_slice());
     drop_heads(&mut tables.heads, heads_out.as_slice());
     put_heads(&mut tables.heads, heads_in.as_slice());
     put_elements(&mut tables.elements, elements.into_vec());
     put_tombs(&mut tables.tombs, tombs.into_vec());
-    put_values(&mut tables.values, &tables.elements, values.into_vec());
+    put_values(&mut tables.values, &mut tables.elements, values.into_vec());
     if let Some(mark) = mark {
         tables.mark = mark;
     }
@@ -84,12 +82,10 @@ pub(crate) fn reserve_tables<S: BuildHasher + Drop>(
     tables: &mut Tables<S>,
     rows: usize,
 ) -> Result<(), AllocError>
-    requires covered { IsCovered tables.old.values.rows tables.old.values.ordered tables.old.values.pending.items }
     ensures ok { OnOk result (RoomFor tables.new rows) }
     ensures reserved { Reserved tables.old tables.new }
 {
-    reserve_blocks(&mut tables.blocks, rows)?;
-    reserve_cids(&mut tables.order, rows)?;
+    reserve_blocks(&mut tables.graph, rows)?;
     reserve_cids(&mut tables.gaps, rows)?;
     reserve_heads(&mut tables.heads, rows)?;
     reserve_elements(&mut tables.elements, rows)?;

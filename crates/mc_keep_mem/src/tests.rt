@@ -25,7 +25,7 @@ fn text(alloc: Global, text: &str) -> Result<Text, Fail> {
 fn rows_of(alloc: Global, rows: &[(&str, u8)]) -> Result<Elements<FoldState>, Fail> {
     let mut elements = Elements {
         nodes: Vec::new(alloc),
-        lasts: HashMap::new(alloc),
+        keys: HashMap::new(alloc),
     };
     put_rows(alloc, &mut elements, rows)?;
     Ok(elements)

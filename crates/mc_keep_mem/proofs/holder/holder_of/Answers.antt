@@ -7,7 +7,7 @@ use Rattle.mc_keep_mem.proofs.holder.holder_of.Goals as goal
 pub loop-at-init : goal.loop-at-init
 loop-at-init g c =
     walk_begins (first_that (is_held (has_tomb_in c.args.tombs.now.keys.keys c.args.tombs.now.ids.keys c.args.tombs.now.pairs.keys c.args.key.now) (c.args.held.now.priority, c.args.held.now.value)))
-    c.args.elements.now.chains (c.copied-at.ensures ∙ c.get.ensures.value)
+    c.args.elements.now.chains c.last_of-at.ensures
 
 pub loop-at-smaller : goal.loop-at-smaller
 loop-at-smaller g c = (walk_steps c.args.elements.now.chains.back c.loop-at.invariant c.in-Some.is c.deref.ensures.value c.in-Some-get.ensures.lookup.0 c.in-Some-get.ensures.lookup.1).fewer

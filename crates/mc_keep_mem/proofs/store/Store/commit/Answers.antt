@@ -1,4 +1,6 @@
+use Rattle.std.proofs.Common.{rules}
 use Rattle.mc_keep_mem.specs.Fits.{kept_in}
+use Rattle.mc_keep_mem.proofs.BroughtFacts.{are_brought}
 use Rattle.mc_keep_mem.proofs.FitAfter.{fits_after}
 use Rattle.mc_keep_mem.proofs.store.Store.commit.Goals as goal
 
@@ -12,3 +14,13 @@ invariant_of-self g c =
           (c.changes_fit.ensures.processed kept c.args.changes c.args.self.now.fits.kept);
       roomy = c.commit_tables-self.ensures.room;
     }
+
+pub commit_tables-self-requires-clause-meet : goal.commit_tables-self-requires-clause-meet
+commit_tables-self-requires-clause-meet g c = record {
+  new = c.requires.fit.store.new;
+  once = c.requires.fit.store.once;
+  stored = c.requires.fit.marks.stored;
+  fresh = search rules;
+  covered = c.args.self.now.fits.covered;
+  brought = are_brought c.args.self.now.tables c.args.changes c.args.self.now.fits c.requires.fit;
+}

@@ -3,10 +3,10 @@ use Rattle.mc_keep_mem.specs.Fits.{kept_in}
 use Rattle.mc_keep_mem.proofs.LinkFacts.{linked_at_gap, linked_at_head}
 use Rattle.mc_keep_mem.proofs.store.Store.linked.Goals as goal
 
-pub returns-then-has_cid : goal.returns-then-has_cid
-returns-then-has_cid g c =
+pub returns-then-is_processed : goal.returns-then-is_processed
+returns-then-is_processed g c =
     ap not c.has_head.ensures
-    ∙ linked_at_head (kept_in c.args.self.now.tables) c.args.cid.now _ (c.args.self.now.fits.heads c.args.cid.now) (sym c.has_cid.ensures ∙ c.if-has_cid.true)
+    ∙ linked_at_head (kept_in c.args.self.now.tables) c.args.cid.now _ (c.args.self.now.fits.heads c.args.cid.now) (sym c.is_processed.ensures ∙ c.if-is_processed.true)
 
 pub returns : goal.returns
-returns g c = linked_at_gap (kept_in c.args.self.now.tables) c.args.cid.now _ (c.has_cid-2.ensures ∙ c.args.self.now.fits.gaps c.args.cid.now) (sym c.has_cid.ensures ∙ c.if-has_cid.false)
+returns g c = linked_at_gap (kept_in c.args.self.now.tables) c.args.cid.now _ (c.has_cid.ensures ∙ c.args.self.now.fits.gaps c.args.cid.now) (sym c.is_processed.ensures ∙ c.if-is_processed.false)

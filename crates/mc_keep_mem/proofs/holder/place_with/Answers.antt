@@ -1,30 +1,34 @@
 use Rattle.std.proofs.Common.{◌∙◌, sym, Bool, List, ℕ}
+use Rattle.std.specs.Prelude.{find}
 use Rattle.mc_model.specs.Rank.{same_ranked}
 use Rattle.mc_keep.specs.declared.rows.ElementRow.{ElementRow}
 use Rattle.mc_keep.specs.Live.{ranked_of}
-use Rattle.mc_keep_mem.proofs.WalkFacts.{first_that, walk_begins, walk_steps, walk_ends, passed_by, found_here}
-use Rattle.mc_keep_mem.proofs.holder.block_with.Goals as goal
+use Rattle.mc_keep_mem.proofs.PruneFacts.{got_in}
+use Rattle.mc_keep_mem.proofs.WalkFacts.{walk_begins, walk_steps, walk_ends, row_passed, row_here}
+use Rattle.mc_keep_mem.proofs.holder.place_with.Goals as goal
 
 -- whether a row has the value with the priority
 abbrev has : ℕ → List ℕ → ElementRow → Bool
 has priority value row = same_ranked (priority, value) (ranked_of row)
 
 pub loop-at-init : goal.loop-at-init
-loop-at-init g c = walk_begins (first_that (has c.args.priority c.args.value.now)) c.args.elements.now.chains (c.copied-at.ensures ∙ c.get.ensures.value)
+loop-at-init g c = walk_begins (find (has c.args.priority c.args.value.now)) c.args.elements.now.chains c.last_of-at.ensures
 
 pub loop-at-smaller : goal.loop-at-smaller
 loop-at-smaller g c = (walk_steps c.args.elements.now.chains.back c.loop-at.invariant c.in-Some.is c.deref.ensures.value c.in-Some-get.ensures.lookup.0 c.in-Some-get.ensures.lookup.1).fewer
 
 pub loop-at-preserved : goal.loop-at-preserved
 loop-at-preserved g c =
-    passed_by (has c.args.priority c.args.value.now)
+    row_passed (has c.args.priority c.args.value.now)
     (walk_steps c.args.elements.now.chains.back c.loop-at.invariant c.in-Some.is c.deref.ensures.value c.in-Some-get.ensures.lookup.0 c.in-Some-get.ensures.lookup.1)
     (sym c.has_value.ensures ∙ c.if-has_value.false)
 
 pub returns-then-has_value : goal.returns-then-has_value
 returns-then-has_value g c =
-    found_here (has c.args.priority c.args.value.now)
+    row_here (has c.args.priority c.args.value.now)
     (walk_steps c.args.elements.now.chains.back c.loop-at.invariant c.in-Some.is c.deref.ensures.value c.in-Some-get.ensures.lookup.0 c.in-Some-get.ensures.lookup.1)
+    c.in-Some.place
+    (got_in c.args.elements.now.nodes.items c.deref.result.now c.in-Some.place c.in-Some-get.node.now c.deref.ensures.value c.in-Some-get.ensures.lookup.0 c.in-Some-get.ensures.lookup.1)
     (sym c.has_value.ensures ∙ c.if-has_value.true)
 
 pub returns : goal.returns

@@ -1,0 +1,13 @@
+use Rattle.mc_keep_mem.specs.Places.{last_in}
+use Rattle.mc_keep_mem.specs.Chains.{rows_in}
+use Rattle.mc_keep_mem.specs.Holder.{row_with}
+use Rattle.mc_keep_mem.proofs.ChainFacts.{steps_left}
+use Rattle.mc_keep_mem.proofs.WalkFacts.{IsWalking}
+use Rattle.mc_keep_mem.proofs.holder.place_with.Given as goal
+
+-- no row of those before has the value
+abbrev pub invariant-loop-at : goal.invariant-loop-at
+invariant-loop-at g l = IsWalking l.elements.nodes.items l.key (row_with (l.priority, l.value) (rows_in l.elements.nodes.items (last_in l.elements.keys) l.key)) (row_with (l.priority, l.value)) l.at
+
+abbrev pub decreases-loop-at : goal.decreases-loop-at
+decreases-loop-at g l = steps_left l.at
