@@ -1,4 +1,5 @@
 //! One replica over its keeper: what it does is a list of events, also where the keeper fails.
+//! docs/GLOSSARY.md explains the words of its contracts.
 #![tactic(auto)]
 
 mod arming;

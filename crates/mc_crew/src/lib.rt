@@ -1,4 +1,5 @@
 //! Workers beside one another on one replica: a round of them, and then the caller alone.
+//! docs/GLOSSARY.md explains the words of its contracts.
 #![tactic(auto)]
 
 mod finishing;

@@ -1,4 +1,5 @@
 //! Drains of a replica's wanted blocks, on the caller's thread.
+//! docs/GLOSSARY.md explains the words of its contracts.
 #![tactic(auto)]
 
 mod draining;

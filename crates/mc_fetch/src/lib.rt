@@ -1,5 +1,6 @@
 //! Where the blocks that a replica misses are fetched from: the places that offer bytes for them, the first offer that
 //! decides, and the jobs that ask for them.
+//! docs/GLOSSARY.md explains the words of its contracts.
 #![tactic(auto)]
 
 mod error;

@@ -1,4 +1,5 @@
 //! Keepers: where the blocks of a replica and the rows made of them are kept.
+//! docs/GLOSSARY.md explains the words of its contracts.
 #![tactic(auto)]
 
 mod changes;

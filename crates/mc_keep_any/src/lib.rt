@@ -1,4 +1,5 @@
 //! A keeper of one of two kinds, and who makes the keepers of the program: in memory, or in SQLite files.
+//! docs/GLOSSARY.md explains the words of its contracts.
 #![tactic(auto)]
 
 mod any;

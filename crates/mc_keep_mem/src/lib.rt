@@ -1,4 +1,5 @@
 //! A keeper in memory, with the faults that are planned for it, and who makes such keepers.
+//! docs/GLOSSARY.md explains the words of its contracts.
 #![tactic(auto)]
 
 mod cids;

@@ -1,4 +1,5 @@
 //! The keeper whose tables stand in a SQLite file. It does not tell what they hold.
+//! docs/GLOSSARY.md explains the words of its contracts.
 #![tactic(auto)]
 
 mod cells;

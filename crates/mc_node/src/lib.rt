@@ -1,4 +1,5 @@
 //! One replica that threads share, beside a log of what was done with it.
+//! docs/GLOSSARY.md explains the words of its contracts.
 #![tactic(auto)]
 
 #[cfg(test)]

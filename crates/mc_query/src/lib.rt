@@ -1,4 +1,5 @@
 //! Reads of a replica over the rows of its keeper: the value of a key, whether it has one, and the keys under a prefix.
+//! docs/GLOSSARY.md explains the words of its contracts.
 #![tactic(auto)]
 
 mod lookup;

@@ -1,4 +1,5 @@
 //! The wanted set: the blocks that a replica has heard of and not processed, in four lists.
+//! docs/GLOSSARY.md explains the words of its contracts.
 #![tactic(auto)]
 
 mod marks;

@@ -1,4 +1,5 @@
 //! The element, tombstone and value rows by which a keeper takes up further blocks.
+//! docs/GLOSSARY.md explains the words of its contracts.
 #![tactic(auto, using(mc_keep::proofs::Frames::reads_none))]
 
 mod best;

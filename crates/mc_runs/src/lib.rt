@@ -1,4 +1,5 @@
 //! What the lines of a script do, one after another, and what is promised of all runs.
+//! docs/GLOSSARY.md explains the words of its contracts.
 #![tactic(auto)]
 
 mod laws;

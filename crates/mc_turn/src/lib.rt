@@ -1,4 +1,5 @@
 //! A turn lock whose seats know the history: what a seat has seen begins the list of each later value.
+//! docs/GLOSSARY.md explains the words of its contracts.
 #![tactic(auto)]
 
 mod rule;

@@ -1,4 +1,5 @@
 //! Workers: each one takes jobs from a shop, looks their blocks up, and delivers what was found.
+//! docs/GLOSSARY.md explains the words of its contracts.
 #![tactic(auto)]
 
 mod ends;

@@ -1,4 +1,5 @@
 //! A world of replicas: commands are done in it one after another, and each leaves an entry of the record.
+//! docs/GLOSSARY.md explains the words of its contracts.
 #![tactic(auto)]
 
 mod acting;
