@@ -1,5 +1,5 @@
--- The next key with a value.
-use Rattle.std.specs.Prelude.{◌≡◌, ℕ, Bool, true, false, List, Option, Some, None}
+-- The next keys with a value.
+use Rattle.std.specs.Prelude.{◌≡◌, ℕ, ◌-◌, ◌<◌, Bool, true, false, List, [], ◌∷◌, Option, Some, None}
 use Rattle.std.specs.Ordering.{is_lt, is_le, nat_cmp}
 use Rattle.std.specs.Cmp.Lexicographic.{slice_cmp}
 use Rattle.mc_model.specs.declared.block.Block.{Block}
@@ -26,3 +26,13 @@ IsNextOf value bound inclusive (Some row) = IsNextRow value bound inclusive row
 -- the next row over the processed blocks
 abbrev pub IsNext : List Block → List ℕ → Bool → Option ValueRow → Type 0
 IsNext blocks bound inclusive row = IsNextOf (value_row blocks) bound inclusive row
+
+-- the rows of the next keys, in their order: so many, or fewer where no more keys past the bound have a value
+abbrev pub AreNextOf : (List ℕ → Option Ranked) → List ℕ → Bool → ℕ → List ValueRow → Type 0
+AreNextOf value bound inclusive most [] = 0 < most → IsNextOf value bound inclusive None
+AreNextOf value bound inclusive most (row ∷ rows) =
+    (0 < most) × IsNextRow value bound inclusive row × AreNextOf value row.key false (most - 1) rows
+
+-- the next rows over the processed blocks
+abbrev pub AreNext : List Block → List ℕ → Bool → ℕ → List ValueRow → Type 0
+AreNext blocks bound inclusive most rows = AreNextOf (value_row blocks) bound inclusive most rows

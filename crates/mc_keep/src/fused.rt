@@ -191,13 +191,14 @@ impl<K: Keeper> Keeper for Fused<K> {
         self.keeper.has(key)
     }
 
-    fn value_from(
+    fn values_from(
         &mut self,
         alloc: Global,
         bound: &str,
         inclusive: bool,
-    ) -> Result<Option<ValueRow>, KeepError> {
-        self.keeper.value_from(alloc, bound, inclusive)
+        most: u64,
+    ) -> Result<List<ValueRow>, KeepError> {
+        self.keeper.values_from(alloc, bound, inclusive, most)
     }
 
     fn reserve(&mut self, rows: u64) -> Result<(), AllocError> {

@@ -13,7 +13,7 @@ ghost use Rattle.mc_model.specs.Kept.{Kept, IsKept, processed, bytes_at, is_stor
 ghost use Rattle.mc_keep.specs.Causes.{IfTold, CountGoes, fires, CommitFails};
 ghost use Rattle.mc_keep.specs.Frame.{ReadsAt, ReservesAt, CommitsAt};
 ghost use Rattle.mc_keep.specs.Changes.{row_count, changed, heads_in_rows};
-ghost use Rattle.mc_keep.specs.Next.{IsNext};
+ghost use Rattle.mc_keep.specs.Next.{AreNext};
 ghost use Rattle.mc_keep.specs.ElementOrder.{element_cmp};
 ghost use Rattle.mc_keep.specs.Live.{IsHolder, live_element_rows};
 ghost use Rattle.mc_keep.specs.Plan.{
@@ -173,14 +173,17 @@ pub trait Keeper: Counted {
         ensures reads { ReadsAt told fuse spare own Self.faults quiet schedule (is_err result) self.old self.new }
         ensures planned { ReadsAsPlanned (schedule self.old) (schedule self.new) (is_err result) };
 
-    /// The value row of the least key above the bound, or at it where `inclusive`, or none where there is no such key.
-    fn value_from(
+    /// The value rows of the next keys with a value above the bound, or from it on where `inclusive`, in the order of the
+    /// keys: `most` of them, or fewer where there are no more.
+    fn values_from(
         &mut self,
         alloc: Global,
         bound: &str,
         inclusive: bool,
-    ) -> Result<Option<ValueRow>, KeepError>
-        ensures row { IfTold (told self.old) result (λ kept row. IsNext (processed kept) bound.now inclusive row) }
+        most: u64,
+    ) -> Result<List<ValueRow>, KeepError>
+        ensures rows { IfTold (told self.old) result (λ kept rows.
+            AreNext (processed kept) bound.now inclusive most rows) }
         ensures reads { ReadsAt told fuse spare own Self.faults quiet schedule (is_fault result) self.old self.new }
         ensures planned { ReadsAsPlanned (schedule self.old) (schedule self.new) (is_fault result) };
 

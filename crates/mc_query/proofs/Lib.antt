@@ -1,3 +1,4 @@
+pub mod AheadFacts
 pub mod AnswerFacts
 pub mod KeyOrder
 pub mod Leaving

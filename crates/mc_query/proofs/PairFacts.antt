@@ -1,5 +1,5 @@
 -- Pairs that were taken, and the place after them.
-use Rattle.std.proofs.Common.{◌≡◌, ℕ, zero, suc, ◌+◌, ◌≤◌, Bool, true, false, List, [], ◌∷◌, ◌++◌, length, take, drop, map, refl, sym, ap, ◌∙◌, arith, Option, Some, None}
+use Rattle.std.proofs.Common.{◌≡◌, ℕ, zero, suc, ◌+◌, ◌≤◌, Bool, true, false, List, [], ◌∷◌, ◌++◌, length, take, drop, map, refl, sym, ap, ◌∙◌, subst, arith, Option, Some, None}
 use Rattle.std.specs.Prelude.{filter, unwrap_or}
 use Rattle.std.proofs.Math.ListN.{drop_of_length-le}
 use Rattle.std.proofs.lemmas.List.{take_all, length-drop, map-append}
@@ -10,6 +10,7 @@ use Rattle.mc_model.specs.Answers.{with_value, valued_keys}
 use Rattle.mc_model.specs.Live.{value}
 use Rattle.mc_key.specs.Prefix.{is_under}
 use Rattle.mc_keep.specs.declared.rows.ValueRow.{ValueRow}
+use Rattle.mc_query.specs.Ahead.{AreAhead}
 use Rattle.mc_query.specs.Places.{pair_of, pair_of_row, past_pair, place_after, left_of, start_of, IsNextUnder, IsPassed}
 use Rattle.mc_query.specs.declared.pair.Pair.{Pair}
 use Rattle.mc_query.specs.declared.place.Place.{Place}
@@ -104,3 +105,9 @@ taken_ended blocks prefix place pairs index count bound inclusive found same way
 pub past_after : (place : Place) (pairs new : List Pair) (row : ValueRow) (start : List ℕ) → new ≡ pairs ++ pair_of_row row ∷ [] → is_past start true row.key ≡ true → is_past start true (place_after place new).bound ≡ true
 past_after place pairs new row start pushed past =
     ap (λ (after : Place). is_past start true after.bound) (ap (place_after place) pushed ∙ after_more place pairs (pair_of_row row)) ∙ past
+
+-- where the rows ahead come after the last pair's key
+pub ahead_after : (blocks : List Block) (place : Place) (pairs new : List Pair) (row : ValueRow) (rows : List ValueRow) → new ≡ pairs ++ pair_of_row row ∷ [] → AreAhead blocks row.key false rows →
+    AreAhead blocks (place_after place new).bound (place_after place new).inclusive rows
+ahead_after blocks place pairs new row rows pushed ahead =
+    subst (λ (after : Place). AreAhead blocks after.bound after.inclusive rows) (sym (ap (place_after place) pushed ∙ after_more place pairs (pair_of_row row))) ahead

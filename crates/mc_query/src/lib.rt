@@ -2,6 +2,7 @@
 //! docs/GLOSSARY.md explains the words of its contracts.
 #![tactic(auto)]
 
+mod ahead;
 mod lookup;
 mod pair;
 mod place;

@@ -1,5 +1,5 @@
 // The keys under a prefix.
-ghost use Rattle.std.specs.Prelude.{◌≡◌, ◌+◌, [], true, map, take, IfOk, IfSome, OnOk, ◌++◌, ◌∷◌};
+ghost use Rattle.std.specs.Prelude.{◌≡◌, ◌+◌, [], true, false, map, take, IfOk, IfSome, OnOk, ◌++◌, ◌∷◌};
 ghost use Rattle.mc_key.specs.Prefix.{is_under};
 ghost use Rattle.mc_model.specs.Answers as answers;
 ghost use Rattle.mc_model.specs.Answers.{with_value};
@@ -7,13 +7,15 @@ ghost use Rattle.mc_model.specs.Kept.{processed};
 ghost use Rattle.mc_keep.specs.Calls.{Reads};
 ghost use Rattle.mc_keep.specs.Causes.{IfTold};
 ghost use Rattle.mc_keep.specs.Next.{is_past};
-ghost use Rattle.mc_keep.specs.Plan.{ReadsAsPlanned, is_fault};
+ghost use Rattle.mc_keep.specs.Plan.{is_fault};
+ghost use Rattle.mc_query.specs.Ahead.{AreAhead};
 ghost use Rattle.mc_query.specs.Answers.{AreAnswers};
 ghost use Rattle.mc_query.specs.Reads.{ReadsWithin};
 ghost use Rattle.mc_query.specs.Places as places;
 ghost use Rattle.mc_query.specs.Places.{start_of, left_of, pair_of, pair_of_row, IsNextUnder, IsPassed};
 
 use crate::Pair;
+use crate::ahead::{Ahead, next_row};
 use crate::place::{Place, is_past, place_after, start_of};
 use mc_base::{List, Text};
 use mc_keep::{KeepError, Keeper, ValueRow};
@@ -24,7 +26,8 @@ use std::alloc::{AllocError, AllocFailed, Global};
 /// The keys with a value that a prefix selects, ascending by their bytes, each with its value: those after the first
 /// `skip` of them, and at most `count`. The slashes at the prefix's end don't count; a prefix of slashes alone, or of
 /// nothing, selects every key, and any other those that begin with it and a slash. It asks for at most `skip` and
-/// `count` rows together and ends at the first key that isn't selected. `Failed` comes only where the keeper failed.
+/// `count` rows together, some at a time, and ends at the first key that isn't selected. `Failed` comes only where the
+/// keeper failed.
 ///
 /// A row whose key isn't past that of the row before ends the query too, so that over every keeper the keys ascend
 /// strictly, are selected, and are at most `count`.
@@ -45,8 +48,9 @@ pub fn query<K: Keeper>(
         return Ok(List::new(alloc));
     }
     let start = start_of(alloc, prefix)?;
-    match pass_over(keeper, alloc, prefix, start, skip)? {
-        Some(place) => take_rows(keeper, alloc, prefix, &place, count),
+    let mut ahead = Ahead::new(alloc, skip.saturating_add(count));
+    match pass_over(keeper, alloc, &mut ahead, prefix, start, skip)? {
+        Some(place) => take_rows(keeper, alloc, &mut ahead, prefix, &place, count),
         None => Ok(List::new(alloc)),
     }
 }
@@ -55,14 +59,18 @@ pub fn query<K: Keeper>(
 fn pass_over<K: Keeper>(
     keeper: &mut K,
     alloc: Global,
+    ahead: &mut Ahead,
     prefix: &str,
     start: Text,
     skip: u64,
 ) -> Result<Option<Place>, KeepError>
-    requires { start ≡ start_of prefix.now }
+    requires start { start ≡ start_of prefix.now }
+    requires ahead { ahead.old.rows.items ≡ [] }
     ensures place { IfTold (K.told keeper.old) result (λ kept place. IsPassed (processed kept) prefix.now skip place) }
     ensures past { IfOk result (λ place. IfSome place (λ place.
         is_past (start_of prefix.now) true place.bound ≡ true)) }
+    ensures ahead { IfTold (K.told keeper.old) result (λ kept place. IfSome place (λ place.
+        AreAhead (processed kept) place.bound place.inclusive ahead.new.rows.items)) }
     ensures reads { Reads K.Keeper (is_fault result) keeper.old keeper.new }
     ensures planned { ReadsWithin skip (K.schedule keeper.old) (K.schedule keeper.new) (is_fault result) }
 {
@@ -71,7 +79,14 @@ fn pass_over<K: Keeper>(
         inclusive: true,
     };
     for _ in 0..skip {
-        match next_under(keeper, alloc, prefix, place.bound.as_str(), place.inclusive)? {
+        match next_under(
+            keeper,
+            alloc,
+            ahead,
+            prefix,
+            place.bound.as_str(),
+            place.inclusive,
+        )? {
             Some(row) => {
                 place = Place {
                     bound: row.key,
@@ -88,11 +103,14 @@ fn pass_over<K: Keeper>(
 fn take_rows<K: Keeper>(
     keeper: &mut K,
     alloc: Global,
+    ahead: &mut Ahead,
     prefix: &str,
     place: &Place,
     count: u64,
 ) -> Result<List<Pair>, KeepError>
-    requires { is_past (start_of prefix.now) true place.now.bound ≡ true }
+    requires past { is_past (start_of prefix.now) true place.now.bound ≡ true }
+    requires ahead { IfSome (K.told keeper.old) (λ kept.
+        AreAhead (processed kept) place.now.bound place.now.inclusive ahead.old.rows.items) }
     ensures rows { IfTold (K.told keeper.old) result (λ kept pairs.
         map pair_of pairs ≡ map (with_value (processed kept))
         (take count (left_of (processed kept) prefix.now place.now.bound place.now.inclusive))) }
@@ -104,7 +122,7 @@ fn take_rows<K: Keeper>(
     let mut pairs = List::new(alloc);
     for _ in 0..count {
         let (bound, inclusive) = place_after(place, pairs.as_slice());
-        match next_under(keeper, alloc, prefix, bound, inclusive)? {
+        match next_under(keeper, alloc, ahead, prefix, bound, inclusive)? {
             Some(row) => push_row(&mut pairs, row)?,
             None => return Ok(pairs),
         }
@@ -127,21 +145,26 @@ fn push_row(pairs: &mut List<Pair>, row: ValueRow) -> Result<(), AllocError>
 fn next_under<K: Keeper>(
     keeper: &mut K,
     alloc: Global,
+    ahead: &mut Ahead,
     prefix: &str,
     bound: &str,
     inclusive: bool,
 ) -> Result<Option<ValueRow>, KeepError>
-    requires { is_past (start_of prefix.now) true bound.now ≡ true }
+    requires past { is_past (start_of prefix.now) true bound.now ≡ true }
+    requires ahead { IfSome (K.told keeper.old) (λ kept.
+        AreAhead (processed kept) bound.now inclusive ahead.old.rows.items) }
     ensures row { IfTold (K.told keeper.old) result (λ kept row.
         IsNextUnder (processed kept) prefix.now bound.now inclusive row) }
     ensures past { IfOk result (λ row. IfSome row (λ row. is_past (start_of prefix.now) true row.key ≡ true)) }
     ensures next { IfOk result (λ row. IfSome row (λ row. is_past bound.now inclusive row.key ≡ true)) }
     ensures under { IfOk result (λ row. IfSome row (λ row. is_under prefix.now row.key ≡ true)) }
+    ensures ahead { IfTold (K.told keeper.old) result (λ kept row. IfSome row (λ row.
+        AreAhead (processed kept) row.key false ahead.new.rows.items)) }
     ensures reads { Reads K.Keeper (is_fault result) keeper.old keeper.new }
-    ensures planned { ReadsAsPlanned (K.schedule keeper.old) (K.schedule keeper.new) (is_fault result) }
+    ensures planned { ReadsWithin 1 (K.schedule keeper.old) (K.schedule keeper.new) (is_fault result) }
 {
     valued_keys_are_exact();
-    let next = keeper.value_from(alloc, bound, inclusive)?;
+    let next = next_row(keeper, alloc, ahead, bound, inclusive)?;
     Ok(selected(prefix, row_past(bound, inclusive, next)))
 }
 

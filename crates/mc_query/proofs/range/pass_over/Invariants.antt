@@ -3,6 +3,7 @@ use Rattle.std.specs.Prelude.{IfSome}
 use Rattle.mc_model.specs.Kept.{processed}
 use Rattle.mc_keep.specs.Calls.{HasRead}
 use Rattle.mc_keep.specs.Next.{is_past}
+use Rattle.mc_query.specs.Ahead.{AreAhead}
 use Rattle.mc_query.specs.Places.{start_of}
 use Rattle.mc_query.specs.Reads.{ReadsWithin}
 use Rattle.mc_query.proofs.PairFacts.{IsPassing}
@@ -13,5 +14,6 @@ invariant-loop g l = record {
   reads : HasRead g.K.Keeper g.K.Counted l.fn.keeper l.keeper;
   planned : ReadsWithin l.counter (g.K.Keeper.schedule l.fn.keeper) (g.K.Keeper.schedule l.keeper) false;
   past : is_past (start_of l.prefix) true l.place.bound ≡ true;
+  ahead : IfSome (g.K.Keeper.told l.fn.keeper) (λ kept. AreAhead (processed kept) l.place.bound l.place.inclusive l.ahead.rows.items);
   done : IfSome (g.K.Keeper.told l.fn.keeper) (λ kept. IsPassing (processed kept) l.prefix l.place l.counter);
 }
