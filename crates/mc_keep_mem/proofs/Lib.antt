@@ -16,6 +16,7 @@ pub mod FrontMembers
 pub mod LinkFacts
 pub mod IfOk
 pub mod NextFacts
+pub mod ListedFacts
 pub mod Reserves
 pub mod Empty
 pub mod DeskCounts

@@ -3,6 +3,7 @@ pub mod Fits
 pub mod Front
 pub mod Graph
 pub mod InOrder
+pub mod Listed
 pub mod Plan
 pub mod Tombs
 pub mod Values

@@ -186,16 +186,17 @@ impl<S: BuildHasher + Drop> Keeper for MemKeeper<S> {
         Ok(self.store.has(key))
     }
 
-    fn value_from(
+    fn values_from(
         &mut self,
         alloc: Global,
         bound: &str,
         inclusive: bool,
-    ) -> Result<Option<ValueRow>, KeepError> {
+        most: u64,
+    ) -> Result<List<ValueRow>, KeepError> {
         if self.faults.read_fails() {
             return Err(KeepError::Failed);
         }
-        Ok(self.store.value_from(alloc, bound, inclusive)?)
+        Ok(self.store.values_from(alloc, bound, inclusive, most)?)
     }
 
     fn reserve(&mut self, rows: u64) -> Result<(), AllocError> {

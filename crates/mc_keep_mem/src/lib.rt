@@ -14,6 +14,7 @@ mod live;
 mod next;
 mod places;
 mod plan;
+mod range;
 mod store;
 mod tables;
 mod tombs;

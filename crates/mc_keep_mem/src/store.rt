@@ -7,7 +7,7 @@ ghost use Rattle.mc_model.specs.Live.{has_tomb, value_row};
 ghost use Rattle.mc_model.specs.Kept.{processed, bytes_at, is_stored, nothing_kept};
 ghost use Rattle.mc_keep.specs.Changes.{row_count, changed, heads_in_rows};
 ghost use Rattle.mc_keep.specs.Live.{IsHolder, live_element_rows};
-ghost use Rattle.mc_keep.specs.Next.{IsNext};
+ghost use Rattle.mc_keep.specs.Next.{AreNext};
 ghost use Rattle.mc_keep.specs.ElementOrder.{element_cmp};
 ghost use Rattle.mc_keep.specs.Tables.{ChangesFit, IsSummary, IsSmall, IsValueRow};
 ghost use Rattle.mc_keep_mem.specs.Fits.{Fits, RoomFor, kept_in};
@@ -18,7 +18,8 @@ use crate::graph::{Graph, block_bytes, cid_at, has_block, is_processed, position
 use crate::heads::{has_head, head_rows};
 use crate::holder::holder_of;
 use crate::live::{is_hidden, live_elements_of};
-use crate::next::next_row;
+use crate::next::settle;
+use crate::range::rows_from;
 use crate::tables::{Tables, commit_tables, reserve_tables};
 use crate::tombs::{Tombs, has_tomb as has_tomb_row};
 use crate::values::{Values, has_value, node_of, value_of};
@@ -186,22 +187,25 @@ impl<S: BuildHasher + Drop> Store<S> {
     }
 
     // Puts the keys that wait into order, so the tables change, and nothing that they tell.
-    pub(crate) fn value_from(
+    pub(crate) fn values_from(
         &mut self,
         alloc: Global,
         bound: &str,
         inclusive: bool,
-    ) -> Result<Option<ValueRow>, AllocError>
-        ensures row { IfOk result (λ row. IsNext (processed (kept_in self.old.tables)) bound.now inclusive row) }
+        most: u64,
+    ) -> Result<List<ValueRow>, AllocError>
+        ensures rows { IfOk result (λ rows. AreNext (processed (kept_in self.old.tables)) bound.now inclusive most rows) }
         ensures kept { kept_in self.new.tables ≡ kept_in self.old.tables }
         ensures room { self.new.room ≡ self.old.room }
     {
-        next_row(
+        settle(&mut self.tables.values)?;
+        rows_from(
             alloc,
-            &mut self.tables.values,
+            &self.tables.values.ordered,
             &self.tables.elements,
             bound,
             inclusive,
+            most,
         )
     }
 
