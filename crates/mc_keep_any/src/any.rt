@@ -175,15 +175,16 @@ impl<A: Keeper, B: Keeper> Keeper for AnyKeeper<A, B> {
         }
     }
 
-    fn value_from(
+    fn values_from(
         &mut self,
         alloc: Global,
         bound: &str,
         inclusive: bool,
-    ) -> Result<Option<ValueRow>, KeepError> {
+        most: u64,
+    ) -> Result<List<ValueRow>, KeepError> {
         match self {
-            AnyKeeper::Memory(keeper) => keeper.value_from(alloc, bound, inclusive),
-            AnyKeeper::File(keeper) => keeper.value_from(alloc, bound, inclusive),
+            AnyKeeper::Memory(keeper) => keeper.values_from(alloc, bound, inclusive, most),
+            AnyKeeper::File(keeper) => keeper.values_from(alloc, bound, inclusive, most),
         }
     }
 

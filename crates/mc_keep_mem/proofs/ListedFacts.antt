@@ -175,10 +175,10 @@ module _ {Y : Type 0} (ordered : BTreeSet (String Y)) (lo : Bound (String Y)) (b
   between_past [] = tt
   between_past (k ∷ keys) =
       (elim (range_contains string_cmp lo Unbounded k) as (λ b. range_contains string_cmp lo Unbounded k ≡ b →
-          ArePast bound inclusive (cond b (k ∷ filter (range_contains string_cmp lo Unbounded) keys) (filter (range_contains string_cmp lo Unbounded) keys))) [
-            | true ↦ λ e. (past k e, between_past keys)
-            | false ↦ λ e. between_past keys
-          ]) refl
+      ArePast bound inclusive (cond b (k ∷ filter (range_contains string_cmp lo Unbounded) keys) (filter (range_contains string_cmp lo Unbounded) keys))) [
+        | true ↦ λ e. (past k e, between_past keys)
+        | false ↦ λ e. between_past keys
+      ]) refl
 
   between_there : (text : List ℕ) → is_past bound inclusive text ≡ true → contains_text ordered text ≡ true → has_key text (keys_between string_cmp lo Unbounded ordered) ≡ true
   between_there text text_past there =
@@ -198,10 +198,10 @@ module _ {Y : Type 0} (ordered : BTreeSet (String Y)) (lo : Bound (String Y)) (b
       let over : (most ≤ length (rows_listed value taken)) ⊎ (left ≡ []) = subst (λ (r : List ValueRow). (most ≤ length r) ⊎ (left ≡ [])) listing.are ended in
       subst (λ (r : List ValueRow). AreNextOf value bound inclusive most r) (sym listing.are)
       (listed_next value bound inclusive taken left most
-        (subst (λ (k : List (String Y)). IsStrictlySortedBy string_cmp k) listing.parts sorted_keys)
-        (subst (λ (k : List (String Y)). ArePast bound inclusive k) listing.parts (between_past ordered.keys))
-        (λ text text_past has. subst (λ (k : List (String Y)). has_key text k ≡ true) listing.parts (between_there text text_past (covered text (has_place (row_at nodes text) (values text) has))))
-        few over)
+      (subst (λ (k : List (String Y)). IsStrictlySortedBy string_cmp k) listing.parts sorted_keys)
+      (subst (λ (k : List (String Y)). ArePast bound inclusive k) listing.parts (between_past ordered.keys))
+      (λ text text_past has. subst (λ (k : List (String Y)). has_key text k ≡ true) listing.parts (between_there text text_past (covered text (has_place (row_at nodes text) (values text) has))))
+      few over)
     where
       has_place : (at : ℕ → Option ElementRow) (place : Option ℕ) → is_some (option_map ranked_of (option_and_then at place)) ≡ true → is_some place ≡ true
       has_place at None has = has

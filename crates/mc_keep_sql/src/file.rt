@@ -131,13 +131,14 @@ impl Keeper for FileKeeper {
         self.inner.has(key)
     }
 
-    fn value_from(
+    fn values_from(
         &mut self,
         alloc: Global,
         bound: &str,
         inclusive: bool,
-    ) -> Result<Option<ValueRow>, KeepError> {
-        self.inner.value_from(alloc, bound, inclusive)
+        most: u64,
+    ) -> Result<List<ValueRow>, KeepError> {
+        self.inner.values_from(alloc, bound, inclusive, most)
     }
 
     fn reserve(&mut self, rows: u64) -> Result<(), AllocError> {

@@ -237,13 +237,14 @@ impl<S: Alter + Drop> Keeper for SqlKeeper<S> {
         self.count_failed(answer)
     }
 
-    fn value_from(
+    fn values_from(
         &mut self,
         alloc: Global,
         bound: &str,
         inclusive: bool,
-    ) -> Result<Option<ValueRow>, KeepError> {
-        let answer = reading::value_from(self.connection.get_mut(), alloc, bound, inclusive);
+        most: u64,
+    ) -> Result<List<ValueRow>, KeepError> {
+        let answer = reading::values_from(self.connection.get_mut(), alloc, bound, inclusive, most);
         self.count(answer)
     }
 

@@ -111,13 +111,14 @@ impl Keeper for Bare {
         Ok(false)
     }
 
-    fn value_from(
+    fn values_from(
         &mut self,
-        _alloc: Global,
+        alloc: Global,
         _bound: &str,
         _inclusive: bool,
-    ) -> Result<Option<ValueRow>, KeepError> {
-        Ok(None)
+        _most: u64,
+    ) -> Result<List<ValueRow>, KeepError> {
+        Ok(List::new(alloc))
     }
 
     fn reserve(&mut self, rows: u64) -> Result<(), AllocError> {

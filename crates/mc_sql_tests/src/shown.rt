@@ -6,7 +6,7 @@ use std::alloc::{AllocError, Global};
 // More than a keeper of a test has values.
 const MOST: u64 = 1_000;
 
-/// The answers of a keeper to `summary` and `heads`, and those to `value_from` and `holder` at each key, in order of the
+/// The answers of a keeper to `summary` and `heads`, and those to `values_from` and `holder` at each key, in order of the
 /// keys.
 pub(crate) fn shown<K: Keeper>(keeper: &mut K, alloc: Global) -> Result<String, KeepError> {
     let mut text = String::new(alloc);
@@ -74,12 +74,18 @@ fn push_value_after<K: Keeper>(
     key: &Text,
     text: &mut String,
 ) -> Result<Option<Text>, KeepError> {
-    let Some(row) = keeper.value_from(alloc, key.as_str(), false)? else {
+    let mut found = keeper
+        .values_from(alloc, key.as_str(), false, 1)?
+        .into_vec();
+    let Some(row) = found.pop() else {
         return Ok(None);
     };
     push_value(alloc, &row, text)?;
-    if let Some(row) = keeper.value_from(alloc, row.key.as_str(), true)? {
-        push_value(alloc, &row, text)?;
+    for same in keeper
+        .values_from(alloc, row.key.as_str(), true, 2)?
+        .as_slice()
+    {
+        push_value(alloc, same, text)?;
     }
     push_holder(keeper, alloc, row.key.as_str(), text)?;
     Ok(Some(row.key))

@@ -291,14 +291,15 @@ fn is_one_of(rows: &[ElementRow], cid: &Cid) -> bool {
 
 // Whether the one key with a value is that of the examples.
 fn has_keys<K: Keeper>(keeper: &mut K, alloc: Global) -> Result<bool, KeepError> {
-    let first = match keeper.value_from(alloc, "/", true)? {
-        Some(row) => row.key.as_str() == "/k",
-        None => false,
+    let found = keeper.values_from(alloc, "/", true, 9)?;
+    let only = match found.as_slice() {
+        [row] => row.key.as_str() == "/k",
+        _ => false,
     };
     Ok(
-        first
-            && keeper.value_from(alloc, "/k", true)?.is_some()
-            && keeper.value_from(alloc, "/k", false)?.is_none()
+        only && keeper.values_from(alloc, "/", true, 0)?.len() == 0
+            && keeper.values_from(alloc, "/k", true, 1)?.len() == 1
+            && keeper.values_from(alloc, "/k", false, 1)?.len() == 0
             && keeper.has("/k")?
             && !keeper.has("/")?,
     )

@@ -106,19 +106,24 @@ fn has_row(rows: &[Pair], key: &str) -> bool {
     false
 }
 
-fn row_from(
+fn rows_from(
     alloc: Global,
     rows: &[Pair],
     bound: &str,
     inclusive: bool,
-) -> Result<Option<ValueRow>, AllocError> {
+    most: u64,
+) -> Result<List<ValueRow>, AllocError> {
+    let mut found = List::new(alloc);
     for pair in rows {
         let key = pair.key.as_str();
+        if found.len() as u64 == most {
+            return Ok(found);
+        }
         if key > bound || inclusive && key == bound {
-            return Ok(Some(row_of(alloc, pair)?));
+            found.push(row_of(alloc, pair)?)?;
         }
     }
-    Ok(None)
+    Ok(found)
 }
 
 // The row of the block with this number.
@@ -258,14 +263,15 @@ impl Keeper for HandMade {
         Ok(has_row(self.rows.as_slice(), key))
     }
 
-    fn value_from(
+    fn values_from(
         &mut self,
         alloc: Global,
         bound: &str,
         inclusive: bool,
-    ) -> Result<Option<ValueRow>, KeepError> {
+        most: u64,
+    ) -> Result<List<ValueRow>, KeepError> {
         self.read()?;
-        Ok(row_from(alloc, self.rows.as_slice(), bound, inclusive)?)
+        Ok(rows_from(alloc, self.rows.as_slice(), bound, inclusive, most)?)
     }
 
     fn reserve(&mut self, rows: u64) -> Result<(), AllocError> {

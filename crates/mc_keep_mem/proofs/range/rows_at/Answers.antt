@@ -19,11 +19,11 @@ returns-then-is_full g c =
     listed_at c.args.ordered.now c.args.from.now c.args.elements.now.nodes.items (value_in c.args.elements.now.keys) c.loop-key.yielded c.loop-key.key-iterator c.args.most c.loop-key.rows
     c.range-key-items.ensures.ordered c.requires.covered (inl (c.is_full.ensures.full c.if-is_full.true))
     (subst (λ (keys : List (String _)). IsListing (row_in c.args.elements.now.nodes.items (value_in c.args.elements.now.keys)) keys c.loop-key.yielded c.loop-key.key-iterator c.args.most c.loop-key.rows)
-      (c.into_iter-key-iterator.ensures.into_iter_gives ∙ c.range-key-items.ensures.between tt) c.loop-key.invariant)
+    (c.into_iter-key-iterator.ensures.into_iter_gives ∙ c.range-key-items.ensures.between tt) c.loop-key.invariant)
 
 pub returns : goal.returns
 returns g c =
     listed_at c.args.ordered.now c.args.from.now c.args.elements.now.nodes.items (value_in c.args.elements.now.keys) c.loop-key.yielded c.loop-key.key-iterator c.args.most c.loop-key.rows
     c.range-key-items.ensures.ordered c.requires.covered (inr c.in-None.ensures.steps.0)
     (subst (λ (keys : List (String _)). IsListing (row_in c.args.elements.now.nodes.items (value_in c.args.elements.now.keys)) keys c.loop-key.yielded c.loop-key.key-iterator c.args.most c.loop-key.rows)
-      (c.into_iter-key-iterator.ensures.into_iter_gives ∙ c.range-key-items.ensures.between tt) c.loop-key.invariant)
+    (c.into_iter-key-iterator.ensures.into_iter_gives ∙ c.range-key-items.ensures.between tt) c.loop-key.invariant)
