@@ -22,7 +22,7 @@ use Rattle.mc_keep.specs.Next.{is_past}
 use Rattle.mc_keep_mem.specs.declared.elements.Node.{Node}
 use Rattle.mc_keep_mem.specs.Chains.{row_at, row_of_node}
 use Rattle.mc_keep_mem.specs.InOrder.{IsFirst, IsFirstText}
-use Rattle.mc_keep_mem.specs.Values.{has_text, AreThere, IsCovered}
+use Rattle.mc_keep_mem.specs.Values.{waits_in, AreThere, IsCovered}
 use denote.Ref.{Bor}
 
 le_not_gt : (o : Ordering) → is_le o ≡ true → is_gt o ≡ false
@@ -93,15 +93,15 @@ module _ {Y : Type 0} (ordered : BTreeSet (String Y)) (from : String Y) (range :
   none_after is e = none_of ordered (Excluded from) (string_bytes from) false (λ k p. (less_is (string_cmp from k) p, tt)) (λ k i. ap is_lt i.0) range is e
 
 -- a key without a value needs not be in order
-pub covered_without : {Y : Type 0} (values : List ℕ → Option ℕ) (ordered new : BTreeSet (String Y)) (pending : List (String Y)) (key : List ℕ) → values key ≡ None
+pub covered_without : {Y : Type 0} (texts : List (String Y)) (values : List ℕ → Option ℕ) (ordered new : BTreeSet (String Y)) (pending : List ℕ) (key : List ℕ) → values key ≡ None
     → ((other : List ℕ) → contains_text new other ≡ cond (bytes_eq key other) false (contains_text ordered other))
-    → IsCovered values ordered pending → IsCovered values new pending
-covered_without values ordered new pending key gone without covered = record { each = λ other has. by other (bytes_eq key other) refl has }
+    → IsCovered texts values ordered pending → IsCovered texts values new pending
+covered_without texts values ordered new pending key gone without covered = record { each = λ other has. by other (bytes_eq key other) refl has }
   where
-    by : (other : List ℕ) (b : Bool) → bytes_eq key other ≡ b → is_some (values other) ≡ true → (contains_text new other || has_text pending other) ≡ true
+    by : (other : List ℕ) (b : Bool) → bytes_eq key other ≡ b → is_some (values other) ≡ true → (contains_text new other || waits_in texts pending other) ≡ true
     by other true e has = absurd (let f : false ≡ true = sym (ap is_some (ap values (sym ((bytes_decides key other).0 e)) ∙ gone)) ∙ has in cc)
     by other false e has =
-        ap (λ t. t || has_text pending other) (without other ∙ ap (λ t. cond t false (contains_text ordered other)) e) ∙ covered.each other has
+        ap (λ t. t || waits_in texts pending other) (without other ∙ ap (λ t. cond t false (contains_text ordered other)) e) ∙ covered.each other has
 
 -- where a look-up by the bytes of a key gives no node, the key has no value
 pub no_value : (nodes : List Node) (values : List ℕ → Option ℕ) (text key : List ℕ) (node : Option (Bor Node)) → AreThere nodes values → text ≡ key

@@ -17,13 +17,13 @@ use Rattle.mc_model.proofs.Members.{any_agree, list_any-filter}
 use Rattle.mc_model.specs.Kept.{Kept, IsKept, processed}
 use Rattle.mc_keep.specs.declared.rows.ElementRow.{ElementRow}
 use Rattle.mc_keep.specs.Live.{live_element_rows, ranked_of}
-use Rattle.mc_keep_mem.specs.Places.{last_in, value_in}
+use Rattle.mc_keep_mem.specs.Places.{last_in, value_in, texts_in}
 use Rattle.mc_keep_mem.specs.declared.elements.Elements.{Elements}
 use Rattle.mc_keep_mem.specs.declared.tables.Tables.{Tables}
 use Rattle.mc_keep_mem.specs.Chains.{is_live, row_at, rows_in, Pruned}
 use Rattle.mc_keep_mem.specs.Fits.{kept_in, tomb_in, Fits, RoomFor, Reserved}
 use Rattle.mc_keep_mem.specs.Holder.{AreBacked}
-use Rattle.mc_keep_mem.specs.Values.{has_text, IsCovered}
+use Rattle.mc_keep_mem.specs.Values.{waits_in, IsCovered}
 use Rattle.mc_keep_mem.proofs.HolderFacts.{backed_same, backed_pruned}
 
 module _ {S X : Type 0} {g : build.Ghosts S X} {h : hash.Ghosts X} (old new : Tables S X g h) (reserved : Reserved old new) where
@@ -48,8 +48,9 @@ module _ {S X : Type 0} {g : build.Ghosts S X} {h : hash.Ghosts X} (old new : Ta
         ∙ fits.values key ∙ ap (λ (z : Kept). value_row (processed z) key) (sym told_same);
     covered = record {
       each = λ key has.
-          ap (λ z. contains_text z key || has_text new.values.pending.items key) reserved.ordered
-          ∙ ap (λ z. contains_text old.values.ordered key || has_text z key) reserved.pending
+          ap (λ z. contains_text z key || waits_in (texts_in new.elements.keys) new.values.pending.items key) reserved.ordered
+          ∙ ap (λ z. contains_text old.values.ordered key || waits_in z new.values.pending.items key) reserved.texts
+          ∙ ap (λ z. contains_text old.values.ordered key || waits_in (texts_in old.elements.keys) z key) reserved.pending
           ∙ fits.covered.each key (sym (ap is_some (reserved.values key)) ∙ has);
     };
     backed = backed_same (tomb_in old) (tomb_in new) old.elements.nodes.items new.elements.nodes.items (last_in old.elements.keys) (last_in new.elements.keys) (value_in old.elements.keys) (value_in new.elements.keys)
@@ -89,7 +90,7 @@ fits_pruned old elements pruned keys fits = record {
   values = λ key.
       ap (λ z. option_map ranked_of (option_and_then (row_at elements.nodes.items key) (value_in z key))) keys
       ∙ pruned_value key (value_in old.elements.keys key) ∙ fits.values key;
-  covered = subst (λ z. IsCovered (value_in z) old.values.ordered old.values.pending.items) (sym keys) fits.covered;
+  covered = subst (λ z. IsCovered (texts_in z) (value_in z) old.values.ordered old.values.pending.items) (sym keys) fits.covered;
   backed = subst (λ z. AreBacked (tomb_in old) elements.nodes.items (last_in z) (value_in z)) (sym keys)
       (backed_pruned (tomb_in old) old.elements.nodes.items elements.nodes.items (last_in old.elements.keys) (value_in old.elements.keys) pruned fits.backed);
   gaps = fits.gaps;

@@ -1,14 +1,12 @@
 -- What a change of one key does to the table of value rows, and to its keys in order.
-use Rattle.std.proofs.Common.{◌≡◌, ℕ, Bool, true, false, cond, ◌||◌, List, [], ◌∷◌, ◌++◌, Option, Some, None, sym, refl, ap, ◌∙◌}
-use Rattle.std.specs.Prelude.{is_some}
+use Rattle.std.proofs.Common.{◌≡◌, ℕ, Bool, true, false, cond, ◌||◌, List, [], ◌∷◌, ◌++◌, Option, Some, None, inl, inr, sym, refl, ap, ◌∙◌, subst}
+use Rattle.std.specs.Prelude.{is_some, slice_get}
 use Rattle.std.specs.Str.{bytes_eq}
 use Rattle.std.specs.Option.{option_map, option_and_then}
 use Rattle.std.specs.BTreeSet.{BTreeSet, contains_text}
 use Rattle.std.specs.declared.string.String.{String}
-use Rattle.std.specs.String.{string_bytes}
 use Rattle.std.proofs.lemmas.List.Folds.{list_any-append}
-use Rattle.std.proofs.lemmas.Cmp.{nat_list_eq_equiv}
-use Rattle.std.proofs.lemmas.Bool.{or_right, or_left}
+use Rattle.std.proofs.lemmas.Bool.{or_right, or_left, or_cases}
 use Rattle.std.proofs.lemmas.Slice.Eq.{bytes_eq-Decides}
 use Rattle.mc_model.specs.Rank.{Ranked}
 use Rattle.mc_keep.specs.declared.rows.ElementRow.{ElementRow}
@@ -16,33 +14,64 @@ use Rattle.mc_keep.specs.Live.{ranked_of}
 use Rattle.mc_keep_mem.specs.declared.elements.Node.{Node}
 use Rattle.mc_keep_mem.specs.Chains.{row_at, KeepsRows}
 use Rattle.mc_keep_mem.specs.Holder.{row_with}
-use Rattle.mc_keep_mem.specs.Values.{row_in, has_text, AreThere, IsCovered}
+use Rattle.mc_keep_mem.specs.Places.{is_named, stands_at, KeepsTexts}
+use Rattle.mc_keep_mem.specs.Values.{row_in, waits_in, AreThere, IsCovered}
 use Rattle.mc_keep_mem.proofs.HolderFacts.{found_is}
 
 more : (a b c : Bool) → (a || b) ≡ true → (a || (b || c)) ≡ true
 more true b c e = refl
 more false b c e = or_left b c e
 
-module _ {Y : Type 0} (old new : List ℕ → Option ℕ) (ordered : BTreeSet (String Y)) (pending : List (String Y)) (key : List ℕ) where
-  covered_where : (pending' : List (String Y)) → ((other : List ℕ) → is_some (new other) ≡ cond (bytes_eq key other) true (is_some (old other)))
-      → ((other : List ℕ) → bytes_eq key other ≡ true → (contains_text ordered other || has_text pending' other) ≡ true)
-      → ((other : List ℕ) → (contains_text ordered other || has_text pending other) ≡ true → (contains_text ordered other || has_text pending' other) ≡ true)
-      → IsCovered old ordered pending → IsCovered new ordered pending'
-  covered_where pending' set here kept covered = record { each = λ other has. by other (bytes_eq key other) refl (sym (set other) ∙ has) }
+-- a key that has a value, and those that had one
+module _ {Y : Type 0} (texts : List (String Y)) (old new : List ℕ → Option ℕ) (ordered : BTreeSet (String Y)) (pending : List ℕ) (key : List ℕ)
+    (set : (other : List ℕ) → is_some (new other) ≡ cond (bytes_eq key other) true (is_some (old other))) where
+  covered_where : (all : List ℕ) → ((other : List ℕ) → key ≡ other → (contains_text ordered other || waits_in texts all other) ≡ true)
+      → ((other : List ℕ) → (contains_text ordered other || waits_in texts pending other) ≡ true → (contains_text ordered other || waits_in texts all other) ≡ true)
+      → IsCovered texts old ordered pending → IsCovered texts new ordered all
+  covered_where all here kept covered = record { each = λ other has. by other (bytes_eq key other) refl (sym (set other) ∙ has) }
     where
-      by : (other : List ℕ) (b : Bool) → bytes_eq key other ≡ b → cond (bytes_eq key other) true (is_some (old other)) ≡ true → (contains_text ordered other || has_text pending' other) ≡ true
-      by other true e has = here other e
+      by : (other : List ℕ) (b : Bool) → bytes_eq key other ≡ b → cond (bytes_eq key other) true (is_some (old other)) ≡ true → (contains_text ordered other || waits_in texts all other) ≡ true
+      by other true e has = here other ((bytes_eq-Decides key other).0 e)
       by other false e has = kept other (covered.each other (sym (ap (λ t. cond t true (is_some (old other))) e) ∙ has))
 
-  -- a new key is covered by its text among those that wait
-  pub covered_new : (text : String Y) → ((other : List ℕ) → is_some (new other) ≡ cond (bytes_eq key other) true (is_some (old other))) → string_bytes text ≡ key → IsCovered old ordered pending → IsCovered new ordered (pending ++ text ∷ [])
-  covered_new text set named covered =
-      covered_where (pending ++ text ∷ []) set
-      (λ other e. or_right (contains_text ordered other) (has_text (pending ++ text ∷ []) other)
-      (list_any-append (λ t. bytes_eq other (string_bytes t)) pending (text ∷ []) ∙ or_right (has_text pending other) (bytes_eq other (string_bytes text) || false)
-      (or_left (bytes_eq other (string_bytes text)) false (ap (bytes_eq other) named ∙ nat_list_eq_equiv.symm other key ∙ e))))
-      (λ other e. ap (λ t. contains_text ordered other || t) (list_any-append (λ t. bytes_eq other (string_bytes t)) pending (text ∷ [])) ∙ more (contains_text ordered other) (has_text pending other) (bytes_eq other (string_bytes text) || false) e)
+  -- a new key is covered by its place among those that wait
+  pub covered_new : (number : ℕ) → stands_at texts key number ≡ true → IsCovered texts old ordered pending → IsCovered texts new ordered (pending ++ number ∷ [])
+  covered_new number stands covered =
+      covered_where (pending ++ number ∷ [])
+      (λ other same. subst (λ (z : List ℕ). (contains_text ordered z || waits_in texts (pending ++ number ∷ []) z) ≡ true) same
+      (or_right (contains_text ordered key) (waits_in texts (pending ++ number ∷ []) key)
+      (list_any-append (stands_at texts key) pending (number ∷ []) ∙ or_right (waits_in texts pending key) (stands_at texts key number || false) (or_left (stands_at texts key number) false stands))))
+      (λ other e. ap (λ t. contains_text ordered other || t) (list_any-append (stands_at texts other) pending (number ∷ [])) ∙ more (contains_text ordered other) (waits_in texts pending other) (stands_at texts other number || false) e)
       covered
+
+  -- and one that had a value is covered
+  pub covered_had : is_some (old key) ≡ true → IsCovered texts old ordered pending → IsCovered texts new ordered pending
+  covered_had had covered = covered_where pending (λ other same. covered.each other (ap (λ z. is_some (old z)) (sym same) ∙ had)) (λ other e. e) covered
+
+-- keys that keep their places are covered as before
+module _ {Y : Type 0} (texts new : List (String Y)) (keeps : KeepsTexts texts new) where
+  stands_kept : (key : List ℕ) (place : ℕ) → stands_at texts key place ≡ true → stands_at new key place ≡ true
+  stands_kept key place e = by (slice_get texts place) refl
+    where
+      by : (found : Option (String Y)) → slice_get texts place ≡ found → stands_at new key place ≡ true
+      by None is = absurd (let f : false ≡ true = sym (ap (is_named key) is) ∙ e in cc)
+      by (Some text) is = ap (is_named key) (keeps place text is) ∙ sym (ap (is_named key) is) ∙ e
+
+  waits_kept : (pending : List ℕ) (key : List ℕ) → waits_in texts pending key ≡ true → waits_in new pending key ≡ true
+  waits_kept [] key e = e
+  waits_kept (place ∷ pending) key e = elim (or_cases (stands_at texts key place) (waits_in texts pending key) e) [
+    | inl here ↦ or_left (stands_at new key place) (waits_in new pending key) (stands_kept key place here)
+    | inr later ↦ or_right (stands_at new key place) (waits_in new pending key) (waits_kept pending key later)
+  ]
+
+  pub covered_kept : (values new_values : List ℕ → Option ℕ) (ordered : BTreeSet (String Y)) (pending : List ℕ) → ((key : List ℕ) → new_values key ≡ values key) → IsCovered texts values ordered pending → IsCovered new new_values ordered pending
+  covered_kept values new_values ordered pending same covered = record {
+    each = λ key has. by (contains_text ordered key) key (covered.each key (ap is_some (sym (same key)) ∙ has));
+  }
+    where
+      by : (b : Bool) (key : List ℕ) → (b || waits_in texts pending key) ≡ true → (b || waits_in new pending key) ≡ true
+      by true key e = refl
+      by false key e = waits_kept pending key e
 
 -- what the value of a key is once its place is set, or gone
 module _ (nodes : List Node) (old new : List ℕ → Option ℕ) (key : List ℕ) where
@@ -74,25 +103,23 @@ row_kept nodes new values stays there key = by (values key) (there.each key)
     by (Some place) e = ap (option_map ranked_of) (one place (row_at nodes key place) refl e)
 
 -- a key that is put into order needs to wait no more
-pub covered_moved : {Y : Type 0} (values : List ℕ → Option ℕ) (ordered new : BTreeSet (String Y)) (pending all : List (String Y)) (key : String Y)
-    → all ≡ pending ++ key ∷ []
-    → ((other : List ℕ) → contains_text new other ≡ cond (bytes_eq (string_bytes key) other) true (contains_text ordered other))
-    → IsCovered values ordered all → IsCovered values new pending
-covered_moved values ordered new pending all key e updates covered = record {
+pub covered_moved : {Y : Type 0} (texts : List (String Y)) (values : List ℕ → Option ℕ) (ordered new : BTreeSet (String Y)) (pending all : List ℕ) (number : ℕ)
+    → all ≡ pending ++ number ∷ []
+    → ((other : List ℕ) → contains_text new other ≡ cond (stands_at texts other number) true (contains_text ordered other))
+    → IsCovered texts values ordered all → IsCovered texts values new pending
+covered_moved texts values ordered new pending all number e updates covered = record {
   each = λ other has.
-      ap (λ t. t || has_text pending other) (updates other)
-      ∙ by other (bytes_eq (string_bytes key) other) refl (ap (λ z. contains_text ordered other || has_text z other) (sym e) ∙ covered.each other has);
+      ap (λ t. t || waits_in texts pending other) (updates other)
+      ∙ by other (stands_at texts other number)
+      (ap (λ t. contains_text ordered other || t) (sym (list_any-append (stands_at texts other) pending (number ∷ [])))
+      ∙ ap (λ z. contains_text ordered other || waits_in texts z other) (sym e) ∙ covered.each other has);
 }
   where
-    last : (a b c : Bool) → c ≡ false → (a || (b || (c || false))) ≡ true → (a || b) ≡ true
-    last true b c f h = refl
-    last false true c f h = refl
-    last false false c f h = absurd (let g : false ≡ true = sym (ap (λ z. z || false) f) ∙ h in cc)
+    last : (a b : Bool) → (a || (b || (false || false))) ≡ true → (a || b) ≡ true
+    last true b h = refl
+    last false true h = refl
+    last false false h = h
 
-    by : (other : List ℕ) (b : Bool) → bytes_eq (string_bytes key) other ≡ b → (contains_text ordered other || has_text (pending ++ key ∷ []) other) ≡ true
-        → (cond (bytes_eq (string_bytes key) other) true (contains_text ordered other) || has_text pending other) ≡ true
-    by other true f h = ap (λ t. cond t true (contains_text ordered other) || has_text pending other) f
-    by other false f h =
-        ap (λ t. cond t true (contains_text ordered other) || has_text pending other) f
-        ∙ last (contains_text ordered other) (has_text pending other) (bytes_eq other (string_bytes key)) (nat_list_eq_equiv.symm other (string_bytes key) ∙ f)
-        (ap (λ t. contains_text ordered other || t) (sym (list_any-append (λ t. bytes_eq other (string_bytes t)) pending (key ∷ []))) ∙ h)
+    by : (other : List ℕ) (b : Bool) → (contains_text ordered other || (waits_in texts pending other || (b || false))) ≡ true → (cond b true (contains_text ordered other) || waits_in texts pending other) ≡ true
+    by other true h = refl
+    by other false h = last (contains_text ordered other) (waits_in texts pending other) h

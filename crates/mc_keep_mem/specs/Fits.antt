@@ -20,7 +20,7 @@ use Rattle.mc_keep_mem.specs.Chains.{is_live, rows_in, with_element, KeepsRows}
 use Rattle.mc_keep_mem.specs.Front.{are_fresh, closed_by, opened_by}
 use Rattle.mc_keep_mem.specs.Graph.{graph_of, order_of}
 use Rattle.mc_keep_mem.specs.Holder.{AreBacked, is_brought}
-use Rattle.mc_keep_mem.specs.Places.{last_in, value_in}
+use Rattle.mc_keep_mem.specs.Places.{last_in, value_in, texts_in}
 use Rattle.mc_keep_mem.specs.Tombs.{has_tomb_in, with_tomb}
 use Rattle.mc_keep_mem.specs.Values.{row_in, IsCovered}
 
@@ -41,7 +41,7 @@ pub record Fits {S X : Type 0} {g : build.Ghosts S X} {h : hash.Ghosts X} (table
   pub elements : (key : List ℕ) → SameMembers (filter (is_live (tomb_in tables key)) (rows_in tables.elements.nodes.items (last_in tables.elements.keys) key)) (live_element_rows (processed (kept_in tables)) key)
   pub tombs : (key id : List ℕ) → tomb_in tables key id ≡ has_tomb (processed (kept_in tables)) key id
   pub values : (key : List ℕ) → row_in tables.elements.nodes.items (value_in tables.elements.keys) key ≡ value_row (processed (kept_in tables)) key
-  pub covered : IsCovered (value_in tables.elements.keys) tables.values.ordered tables.values.pending.items
+  pub covered : IsCovered (texts_in tables.elements.keys) (value_in tables.elements.keys) tables.values.ordered tables.values.pending.items
   pub backed : AreBacked (tomb_in tables) tables.elements.nodes.items (last_in tables.elements.keys) (value_in tables.elements.keys)
   pub gaps : (cid : Cid) → is_among tables.gaps.keys cid ≡ is_gap (processed (kept_in tables)) cid
   pub heads : (cid : Cid) → get same_cid tables.heads cid ≡ head_at (processed (kept_in tables)) cid
@@ -65,7 +65,7 @@ pub record ChangesMeet {S X : Type 0} {g : build.Ghosts S X} {h : hash.Ghosts X}
   pub once : is_once same_cid (cids_of changes.store) ≡ true
   pub stored : list_all (is_stored (graph_of tables.graph.blocks ++ changes.store)) changes.marks ≡ true
   pub fresh : are_fresh (order_in tables) changes.marks ≡ true
-  pub covered : IsCovered (value_in tables.elements.keys) tables.values.ordered tables.values.pending.items
+  pub covered : IsCovered (texts_in tables.elements.keys) (value_in tables.elements.keys) tables.values.ordered tables.values.pending.items
   pub brought : list_all (is_brought (λ key. fold (with_element key) (rows_in tables.elements.nodes.items (last_in tables.elements.keys) key) changes.elements)) changes.values ≡ true
 
 pub record Applied {S X : Type 0} {g : build.Ghosts S X} {h : hash.Ghosts X} (old new : Tables S X g h) (changes : Changes) : Type 0 where
@@ -78,7 +78,7 @@ pub record Applied {S X : Type 0} {g : build.Ghosts S X} {h : hash.Ghosts X} (ol
   pub tombs : (key id : List ℕ) → tomb_in new key id ≡ fold (with_tomb key id) (tomb_in old key id) changes.tombs
   pub stays : KeepsRows old.elements.nodes.items new.elements.nodes.items
   pub values : (key : List ℕ) → row_in new.elements.nodes.items (value_in new.elements.keys) key ≡ values_after key (row_in new.elements.nodes.items (value_in old.elements.keys) key) changes.values
-  pub covered : IsCovered (value_in new.elements.keys) new.values.ordered new.values.pending.items
+  pub covered : IsCovered (texts_in new.elements.keys) (value_in new.elements.keys) new.values.ordered new.values.pending.items
   pub backed : (hidden : List ℕ → List ℕ → Bool) → AreBacked hidden new.elements.nodes.items (last_in new.elements.keys) (value_in old.elements.keys) → AreBacked hidden new.elements.nodes.items (last_in new.elements.keys) (value_in new.elements.keys)
 
 -- the rows are the same, and there is no less room
@@ -92,6 +92,7 @@ pub record Reserved {S X : Type 0} {g : build.Ghosts S X} {h : hash.Ghosts X} (o
   pub tombs : (key id : List ℕ) → tomb_in new key id ≡ tomb_in old key id
   pub nodes : new.elements.nodes.items ≡ old.elements.nodes.items
   pub values : (key : List ℕ) → value_in new.elements.keys key ≡ value_in old.elements.keys key
+  pub texts : texts_in new.elements.keys ≡ texts_in old.elements.keys
   pub ordered : new.values.ordered ≡ old.values.ordered
   pub pending : new.values.pending.items ≡ old.values.pending.items
   pub blocks_room : map_spare old.graph.blocks ≤ map_spare new.graph.blocks

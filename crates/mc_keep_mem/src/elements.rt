@@ -4,13 +4,13 @@ ghost use Rattle.std.specs.Prelude as prelude;
 ghost use Rattle.std.specs.HashMap.{spare};
 ghost use Rattle.std.specs.Str.{bytes_eq};
 ghost use Rattle.mc_keep_mem.specs.Chains.{AreChains, KeepsRows, rows_in, row_of_node, with_element};
-ghost use Rattle.mc_keep_mem.specs.Places.{last_in, value_in};
+ghost use Rattle.mc_keep_mem.specs.Places.{last_in, value_in, texts_in, KeepsTexts};
 
 use crate::places::{Places, reserve_keys, set_last};
+use indexmap::IndexMap;
 use mc_base::{Bytes, Cid, Text};
 use mc_keep::ElementRow;
 use std::alloc::{AllocError, Global};
-use std::collections::HashMap;
 use std::hash::BuildHasher;
 
 /// An element row without its key, and the place of the row before it of the same key.
@@ -26,7 +26,7 @@ pub(crate) struct Node {
 #[derive(Drop)]
 pub(crate) struct Elements<S: BuildHasher + Drop> {
     pub(crate) nodes: Vec<Node>,
-    pub(crate) keys: HashMap<String, Places, S>,
+    pub(crate) keys: IndexMap<String, Places, S>,
     ghost chains: { AreChains nodes.items (last_in keys) },
 }
 
@@ -38,6 +38,7 @@ pub(crate) fn put_element<S: BuildHasher + Drop>(elements: &mut Elements<S>, row
         ≡ cond (bytes_eq row.key key) (row ∷ rows_in elements.old.nodes.items (last_in elements.old.keys) key)
         (rows_in elements.old.nodes.items (last_in elements.old.keys) key) }
     ensures values { (key : prelude.List ℕ) → value_in elements.new.keys key ≡ value_in elements.old.keys key }
+    ensures texts { KeepsTexts (texts_in elements.old.keys) (texts_in elements.new.keys) }
     ensures stays { KeepsRows elements.old.nodes.items elements.new.nodes.items }
     ensures nodes_spare { vec_len elements.new.nodes ≡ vec_len elements.old.nodes + 1 }
     ensures nodes_capacity { vec_capacity elements.old.nodes ≤ vec_capacity elements.new.nodes }
@@ -87,6 +88,7 @@ pub(crate) fn reserve_elements<S: BuildHasher + Drop>(
     ensures rows { (key : prelude.List ℕ) → rows_in elements.new.nodes.items (last_in elements.new.keys) key
         ≡ rows_in elements.old.nodes.items (last_in elements.old.keys) key }
     ensures values { (key : prelude.List ℕ) → value_in elements.new.keys key ≡ value_in elements.old.keys key }
+    ensures texts { texts_in elements.new.keys ≡ texts_in elements.old.keys }
     ensures nodes { elements.new.nodes.items ≡ elements.old.nodes.items }
     ensures nodes_len { vec_len elements.new.nodes ≡ vec_len elements.old.nodes }
     ensures nodes_capacity { vec_capacity elements.old.nodes ≤ vec_capacity elements.new.nodes }
@@ -103,6 +105,7 @@ pub(crate) fn put_elements<S: BuildHasher + Drop>(elements: &mut Elements<S>, ro
     ensures rows { (key : prelude.List ℕ) → rows_in elements.new.nodes.items (last_in elements.new.keys) key
         ≡ fold (with_element key) (rows_in elements.old.nodes.items (last_in elements.old.keys) key) rows.items }
     ensures values { (key : prelude.List ℕ) → value_in elements.new.keys key ≡ value_in elements.old.keys key }
+    ensures texts { KeepsTexts (texts_in elements.old.keys) (texts_in elements.new.keys) }
     ensures stays { KeepsRows elements.old.nodes.items elements.new.nodes.items }
     ensures nodes_spare { vec_len elements.new.nodes ≤ vec_len elements.old.nodes + length rows.items }
     ensures nodes_capacity { vec_capacity elements.old.nodes ≤ vec_capacity elements.new.nodes }

@@ -1,15 +1,15 @@
 // The block of a value is looked for along the rows of its key, from the one that came last.
-ghost use Rattle.std.specs.Prelude.{◌≡◌, IfOk};
-ghost use Rattle.std.specs.Option.{option_and_then};
+ghost use Rattle.std.specs.Prelude.{◌≡◌, true, IfOk, IfSome};
+ghost use Rattle.std.specs.Option.{option_and_then, option_map};
 ghost use Rattle.mc_model.specs.Rank.{same_ranked};
 ghost use Rattle.mc_keep_mem.specs.Chains.{row_at, rows_in, row_of_node};
 ghost use Rattle.mc_keep_mem.specs.Holder.{is_held, holder_among, row_with};
-ghost use Rattle.mc_keep_mem.specs.Places.{last_in};
+ghost use Rattle.mc_keep_mem.specs.Places.{last_in, texts_in, stands_at};
 ghost use Rattle.mc_keep_mem.specs.Tombs.{has_tomb_in};
 
 use crate::elements::{Elements, Node};
 use crate::live::is_hidden;
-use crate::places::last_of;
+use crate::places::{find_key, last_of};
 use crate::tombs::Tombs;
 use mc_base::Cid;
 use std::alloc::{AllocError, Global};
@@ -42,24 +42,28 @@ pub(crate) fn holder_of<S: BuildHasher + Drop>(
     Ok(None)
 }
 
-/// The place of the last row of the key that has this value with this priority, or none where no row has. It takes no
-/// memory.
+/// The place of the key, and that of its last row that has this value with this priority, or none where no row has. It
+/// takes no memory.
 pub(crate) fn place_with<S: BuildHasher + Drop>(
     elements: &Elements<S>,
     key: &str,
     priority: u64,
     value: &[u8],
-) -> Option<usize>
-    ensures { option_and_then (row_at elements.now.nodes.items key.now) result
+) -> Option<(usize, usize)>
+    ensures row { option_and_then (row_at elements.now.nodes.items key.now) (option_map (λ found. found.1) result)
         ≡ row_with (priority, value.now) (rows_in elements.now.nodes.items (last_in elements.now.keys) key.now) }
+    ensures place { IfSome result (λ found. stands_at (texts_in elements.now.keys) key.now found.0 ≡ true) }
 {
-    let mut at = last_of(&elements.keys, key);
+    let Some((number, last)) = find_key(&elements.keys, key) else {
+        return None;
+    };
+    let mut at = Some(last);
     while let Some(place) = at {
         let Some(node) = elements.nodes.get(place) else {
             return None;
         };
         if has_value(node, priority, value) {
-            return Some(place);
+            return Some((number, place));
         }
         at = node.before;
     }

@@ -28,7 +28,7 @@ use mc_base::{Bytes, Cid, List};
 use mc_keep::{Changes, ElementRow, HeadRow, Summary, ValueRow, changes_fit, commits_are_events};
 use mc_model::gaps_are_counted;
 use std::alloc::{AllocError, Global};
-use std::collections::{BTreeSet, HashMap, HashSet};
+use std::collections::{BTreeSet, HashSet};
 use std::hash::BuildHasher;
 
 // The tables of a keeper.
@@ -57,7 +57,7 @@ impl<S: BuildHasher + Copy + Drop> Store<S> {
                 heads: IndexMap::new(alloc),
                 elements: Elements {
                     nodes: Vec::new(alloc),
-                    keys: HashMap::with_hasher(alloc, hasher),
+                    keys: IndexMap::with_hasher(alloc, hasher),
                 },
                 tombs: Tombs {
                     keys: IndexSet::with_hasher(alloc, hasher),

@@ -3,12 +3,12 @@ use crate::elements::{Elements, put_element, reserve_elements};
 use crate::live::live_elements_of;
 use crate::tombs::{Tombs, has_tomb, put_tomb, reserve_tombs};
 use crate::{FaultPlan, MemKeeper, MemKeepers};
-use indexmap::IndexSet;
+use indexmap::{IndexMap, IndexSet};
 use mc_base::{Bytes, Cid, Counted, List, Text};
 use mc_keep::{ElementRow, KeepError, Keeper, KeeperPlan, Keepers, TombRow};
 use mc_model::id_of;
 use std::alloc::{AllocError, Global};
-use std::collections::{HashMap, HashSet};
+use std::collections::HashSet;
 use std::hash::{BuildHasherDefault, FoldHasher};
 use std::sync::Wait;
 use std::test::Fail;
@@ -25,7 +25,7 @@ fn text(alloc: Global, text: &str) -> Result<Text, Fail> {
 fn rows_of(alloc: Global, rows: &[(&str, u8)]) -> Result<Elements<FoldState>, Fail> {
     let mut elements = Elements {
         nodes: Vec::new(alloc),
-        keys: HashMap::new(alloc),
+        keys: IndexMap::new(alloc),
     };
     put_rows(alloc, &mut elements, rows)?;
     Ok(elements)

@@ -8,23 +8,23 @@ ghost use Rattle.std.specs.Option.{option_and_then, option_copied, option_map};
 ghost use Rattle.mc_keep.specs.Changes.{value_after, values_after};
 ghost use Rattle.mc_keep_mem.specs.Chains.{row_at, row_of_node, rows_in};
 ghost use Rattle.mc_keep_mem.specs.Holder.{AreBacked, is_brought, row_with};
-ghost use Rattle.mc_keep_mem.specs.Places.{last_in, value_in};
+ghost use Rattle.mc_keep_mem.specs.Places.{last_in, value_in, texts_in, stands_at};
 ghost use Rattle.mc_keep_mem.specs.Values.{row_in, IsCovered};
 
 use crate::elements::{Elements, Node};
 use crate::holder::place_with;
-use crate::places::{set_value, value_place};
+use crate::places::{find_key, set_value, value_place};
 use mc_base::Text;
 use mc_keep::{ValueChange, ValueRow};
 use std::alloc::{AllocError, Global};
 use std::collections::BTreeSet;
 use std::hash::BuildHasher;
 
-/// The keys with a value, in order.
+/// The keys with a value, in order, and the places in the table of the keys of those that wait to be put there.
 #[derive(Drop)]
 pub(crate) struct Values {
     pub(crate) ordered: BTreeSet<String>,
-    pub(crate) pending: Vec<String>,
+    pub(crate) pending: Vec<usize>,
 }
 
 // Makes a change. It takes no memory.
@@ -35,7 +35,8 @@ pub(crate) fn put_value<S: BuildHasher + Drop>(
 )
     requires pending_room { vec_len values.old.pending < vec_capacity values.old.pending }
     requires brought { is_brought (rows_in elements.old.nodes.items (last_in elements.old.keys)) change ≡ true }
-    requires covered { IsCovered (value_in elements.old.keys) values.old.ordered values.old.pending.items }
+    requires covered { IsCovered (texts_in elements.old.keys) (value_in elements.old.keys)
+        values.old.ordered values.old.pending.items }
     ensures rows { (key : List ℕ) → row_in elements.new.nodes.items (value_in elements.new.keys) key
         ≡ value_after key (row_in elements.old.nodes.items (value_in elements.old.keys) key) change }
     ensures nodes { elements.new.nodes ≡ elements.old.nodes }
@@ -43,14 +44,15 @@ pub(crate) fn put_value<S: BuildHasher + Drop>(
     ensures backed { (hidden : List ℕ → List ℕ → Bool) →
         AreBacked hidden elements.old.nodes.items (last_in elements.old.keys) (value_in elements.old.keys) →
         AreBacked hidden elements.new.nodes.items (last_in elements.new.keys) (value_in elements.new.keys) }
-    ensures covered { IsCovered (value_in elements.new.keys) values.new.ordered values.new.pending.items }
+    ensures covered { IsCovered (texts_in elements.new.keys) (value_in elements.new.keys)
+        values.new.ordered values.new.pending.items }
     ensures keys_spare { spare elements.old.keys ≤ spare elements.new.keys }
     ensures pending_spare { vec_len values.new.pending ≤ vec_len values.old.pending + 1 }
     ensures pending_capacity { vec_capacity values.old.pending ≤ vec_capacity values.new.pending }
 {
     let ValueChange { key, row } = change;
     match row {
-        Some(row) => set_row(values, elements, key, row),
+        Some(row) => set_row(values, elements, key.as_str(), row),
         None => remove_row(elements, key.as_str()),
     }
 }
@@ -59,36 +61,46 @@ pub(crate) fn put_value<S: BuildHasher + Drop>(
 fn set_row<S: BuildHasher + Drop>(
     values: &mut Values,
     elements: &mut Elements<S>,
-    key: Text,
+    key: &str,
     row: ValueRow,
 )
     requires pending_room { vec_len values.old.pending < vec_capacity values.old.pending }
     requires brought { is_some (row_with (row.priority, row.value)
-        (rows_in elements.old.nodes.items (last_in elements.old.keys) key)) ≡ true }
-    requires covered { IsCovered (value_in elements.old.keys) values.old.ordered values.old.pending.items }
+        (rows_in elements.old.nodes.items (last_in elements.old.keys) key.now)) ≡ true }
+    requires covered { IsCovered (texts_in elements.old.keys) (value_in elements.old.keys)
+        values.old.ordered values.old.pending.items }
     ensures rows { (other : List ℕ) → row_in elements.new.nodes.items (value_in elements.new.keys) other
-        ≡ cond (bytes_eq key other) (Some (row.priority, row.value))
+        ≡ cond (bytes_eq key.now other) (Some (row.priority, row.value))
         (row_in elements.old.nodes.items (value_in elements.old.keys) other) }
     ensures nodes { elements.new.nodes ≡ elements.old.nodes }
     ensures lasts { (other : List ℕ) → last_in elements.new.keys other ≡ last_in elements.old.keys other }
     ensures backed { (hidden : List ℕ → List ℕ → Bool) →
         AreBacked hidden elements.old.nodes.items (last_in elements.old.keys) (value_in elements.old.keys) →
         AreBacked hidden elements.new.nodes.items (last_in elements.new.keys) (value_in elements.new.keys) }
-    ensures covered { IsCovered (value_in elements.new.keys) values.new.ordered values.new.pending.items }
+    ensures covered { IsCovered (texts_in elements.new.keys) (value_in elements.new.keys)
+        values.new.ordered values.new.pending.items }
     ensures keys_spare { spare elements.old.keys ≤ spare elements.new.keys }
     ensures pending_spare { vec_len values.new.pending ≤ vec_len values.old.pending + 1 }
     ensures pending_capacity { vec_capacity values.old.pending ≤ vec_capacity values.new.pending }
 {
-    if !place_row(elements, key.as_str(), row) {
-        values.pending.push_reserved(key.into_string());
+    let (number, had) = place_row(elements, key, row);
+    if had {
+        return;
     }
+    values.pending.push_reserved(number);
 }
 
-// Gives a key the value of a row, by its place, and tells whether it had a value.
-fn place_row<S: BuildHasher + Drop>(elements: &mut Elements<S>, key: &str, row: ValueRow) -> bool
+// Gives a key the value of a row, by its place, and tells the place of the key, and whether it had a value.
+fn place_row<S: BuildHasher + Drop>(
+    elements: &mut Elements<S>,
+    key: &str,
+    row: ValueRow,
+) -> (usize, bool)
     requires brought { is_some (row_with (row.priority, row.value)
         (rows_in elements.old.nodes.items (last_in elements.old.keys) key.now)) ≡ true }
-    ensures before { result ≡ is_some (value_in elements.old.keys key.now) }
+    ensures before { result.1 ≡ is_some (value_in elements.old.keys key.now) }
+    ensures place { stands_at (texts_in elements.new.keys) key.now result.0 ≡ true }
+    ensures texts { texts_in elements.new.keys ≡ texts_in elements.old.keys }
     ensures rows { (other : List ℕ) → row_in elements.new.nodes.items (value_in elements.new.keys) other
         ≡ cond (bytes_eq key.now other) (Some (row.priority, row.value))
         (row_in elements.old.nodes.items (value_in elements.old.keys) other) }
@@ -101,21 +113,25 @@ fn place_row<S: BuildHasher + Drop>(elements: &mut Elements<S>, key: &str, row: 
         AreBacked hidden elements.new.nodes.items (last_in elements.new.keys) (value_in elements.new.keys) }
     ensures keys_spare { spare elements.old.keys ≤ spare elements.new.keys }
 {
-    let Some(place) = place_with(elements, key, row.priority, row.value.as_slice()) else {
+    let Some((number, place)) = place_with(elements, key, row.priority, row.value.as_slice()) else {
         unreachable!();
     };
-    set_value(&mut elements.keys, key, Some(place))
+    let had = set_value(&mut elements.keys, number, Some(place));
+    (number, had)
 }
 
 // Takes the value of a key away.
 fn remove_row<S: BuildHasher + Drop>(elements: &mut Elements<S>, key: &str)
     ensures values { (other : List ℕ) → value_in elements.new.keys other
         ≡ cond (bytes_eq key.now other) None (value_in elements.old.keys other) }
+    ensures texts { texts_in elements.new.keys ≡ texts_in elements.old.keys }
     ensures nodes { elements.new.nodes ≡ elements.old.nodes }
     ensures lasts { (other : List ℕ) → last_in elements.new.keys other ≡ last_in elements.old.keys other }
     ensures keys_spare { spare elements.old.keys ≤ spare elements.new.keys }
 {
-    let _had = set_value(&mut elements.keys, key, None);
+    if let Some((number, _)) = find_key(&elements.keys, key) {
+        let _had = set_value(&mut elements.keys, number, None);
+    }
 }
 
 /// Makes the changes in their order, where their values are those of rows. It takes no memory.
@@ -127,7 +143,8 @@ pub(crate) fn put_values<S: BuildHasher + Drop>(
     requires pending_room { vec_len values.old.pending + length changes.items ≤ vec_capacity values.old.pending }
     requires brought { list_all (is_brought (rows_in elements.old.nodes.items (last_in elements.old.keys)))
         changes.items ≡ true }
-    requires covered { IsCovered (value_in elements.old.keys) values.old.ordered values.old.pending.items }
+    requires covered { IsCovered (texts_in elements.old.keys) (value_in elements.old.keys)
+        values.old.ordered values.old.pending.items }
     ensures rows { (key : List ℕ) → row_in elements.new.nodes.items (value_in elements.new.keys) key
         ≡ values_after key (row_in elements.old.nodes.items (value_in elements.old.keys) key) changes.items }
     ensures nodes { elements.new.nodes ≡ elements.old.nodes }
@@ -135,7 +152,8 @@ pub(crate) fn put_values<S: BuildHasher + Drop>(
     ensures backed { (hidden : List ℕ → List ℕ → Bool) →
         AreBacked hidden elements.old.nodes.items (last_in elements.old.keys) (value_in elements.old.keys) →
         AreBacked hidden elements.new.nodes.items (last_in elements.new.keys) (value_in elements.new.keys) }
-    ensures covered { IsCovered (value_in elements.new.keys) values.new.ordered values.new.pending.items }
+    ensures covered { IsCovered (texts_in elements.new.keys) (value_in elements.new.keys)
+        values.new.ordered values.new.pending.items }
     ensures keys_spare { spare elements.old.keys ≤ spare elements.new.keys }
     ensures pending_spare { vec_len values.new.pending ≤ vec_len values.old.pending + length changes.items }
     ensures pending_capacity { vec_capacity values.old.pending ≤ vec_capacity values.new.pending }

@@ -1,6 +1,5 @@
-use Rattle.std.proofs.Common.{◌≡◌, ◌∙◌, Some, refl, ap, sym, List}
+use Rattle.std.proofs.Common.{◌≡◌, ◌∙◌, Some, refl, ap, List}
 use Rattle.std.specs.Prelude.{is_some}
-use Rattle.std.specs.Option.{option_and_then}
 use Rattle.mc_model.specs.Rank.{Ranked}
 use Rattle.mc_keep.specs.declared.rows.ElementRow.{ElementRow}
 use Rattle.mc_keep_mem.specs.Chains.{row_at, rows_in}
@@ -17,18 +16,18 @@ returns-clause-rows g c =
     let ranked : Ranked = (c.args.row.priority, c.args.row.value) in
     let rows : List ElementRow = rows_in nodes (last_in c.args.elements.now.keys) c.args.key.now in
     let found : row_at nodes c.args.key.now c.in-Some.place ≡ row_with ranked rows =
-    ap (option_and_then (row_at nodes c.args.key.now)) (sym c.in-Some.is) ∙ (rw c.as_slice.ensures at c.place_with.ensures) in
-    row_set nodes (value_in c.args.elements.now.keys) (value_in c.set_value.new.keys) c.args.key.now c.in-Some.place ranked rows found c.requires.brought c.set_value.ensures.values
+    rw c.as_slice.ensures at c.in-Some.ensures.row in
+    row_set nodes (value_in c.args.elements.now.keys) (value_in c.set_value-had.new.keys) c.args.key.now c.in-Some.place ranked rows found c.requires.brought (c.set_value-had.ensures.values c.args.key.now c.in-Some.ensures.place)
 
 pub returns-clause-backed : goal.returns-clause-backed
 returns-clause-backed g c = λ hidden backed.
     let nodes = c.args.elements.now.nodes.items in
     let lasts = last_in c.args.elements.now.keys in
-    let values = value_in c.set_value.new.keys in
+    let values = value_in c.set_value-had.new.keys in
     let ranked : Ranked = (c.args.row.priority, c.args.row.value) in
     let rows : List ElementRow = rows_in nodes lasts c.args.key.now in
     let found : row_at nodes c.args.key.now c.in-Some.place ≡ row_with ranked rows =
-    ap (option_and_then (row_at nodes c.args.key.now)) (sym c.in-Some.is) ∙ (rw c.as_slice.ensures at c.place_with.ensures) in
-    backed_same hidden hidden nodes nodes lasts (last_in c.set_value.new.keys) values values (λ key id. refl) refl (same_rows nodes nodes lasts (last_in c.set_value.new.keys) refl c.set_value.ensures.lasts) (λ key. refl)
-    (backed_set hidden nodes lasts (value_in c.args.elements.now.keys) values c.args.key.now (Some c.in-Some.place) c.set_value.ensures.values
+    rw c.as_slice.ensures at c.in-Some.ensures.row in
+    backed_same hidden hidden nodes nodes lasts (last_in c.set_value-had.new.keys) values values (λ key id. refl) refl (same_rows nodes nodes lasts (last_in c.set_value-had.new.keys) refl c.set_value-had.ensures.lasts) (λ key. refl)
+    (backed_set hidden nodes lasts (value_in c.args.elements.now.keys) values c.args.key.now (Some c.in-Some.place) (c.set_value-had.ensures.values c.args.key.now c.in-Some.ensures.place)
     (found_stands (hidden c.args.key.now) ranked rows (row_at nodes c.args.key.now c.in-Some.place) found (ap is_some found ∙ c.requires.brought)) backed)

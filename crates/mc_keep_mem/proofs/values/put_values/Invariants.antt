@@ -3,7 +3,7 @@ use Rattle.std.specs.Prelude.{vec_len, vec_capacity}
 use Rattle.std.specs.HashMap.{spare}
 use Rattle.mc_keep.specs.Changes.{values_after}
 use Rattle.mc_keep_mem.specs.Holder.{AreBacked}
-use Rattle.mc_keep_mem.specs.Places.{last_in, value_in}
+use Rattle.mc_keep_mem.specs.Places.{last_in, value_in, texts_in}
 use Rattle.mc_keep_mem.specs.Values.{row_in, IsCovered}
 use Rattle.mc_keep_mem.proofs.values.put_values.Given as goal
 
@@ -12,7 +12,7 @@ invariant-loop-change g l = record {
   rows : (key : List ℕ) → row_in l.elements.nodes.items (value_in l.elements.keys) key ≡ values_after key (row_in l.initial.elements.nodes.items (value_in l.initial.elements.keys) key) l.yielded;
   nodes : l.elements.nodes ≡ l.initial.elements.nodes;
   lasts : (key : List ℕ) → last_in l.elements.keys key ≡ last_in l.initial.elements.keys key;
-  covered : IsCovered (value_in l.elements.keys) l.values.ordered l.values.pending.items;
+  covered : IsCovered (texts_in l.elements.keys) (value_in l.elements.keys) l.values.ordered l.values.pending.items;
   backed : (hidden : List ℕ → List ℕ → Bool) → AreBacked hidden l.initial.elements.nodes.items (last_in l.initial.elements.keys) (value_in l.initial.elements.keys)
       → AreBacked hidden l.elements.nodes.items (last_in l.elements.keys) (value_in l.elements.keys);
   keys_spare : spare l.initial.elements.keys ≤ spare l.elements.keys;
