@@ -15,7 +15,6 @@ pub mod FitAfter
 pub mod FrontMembers
 pub mod LinkFacts
 pub mod IfOk
-pub mod NextFacts
 pub mod ListedFacts
 pub mod Reserves
 pub mod Empty

@@ -123,3 +123,21 @@ covered_moved texts values ordered new pending all number e updates covered = re
     by : (other : List ℕ) (b : Bool) → (contains_text ordered other || (waits_in texts pending other || (b || false))) ≡ true → (cond b true (contains_text ordered other) || waits_in texts pending other) ≡ true
     by other true h = refl
     by other false h = last (contains_text ordered other) (waits_in texts pending other) h
+
+-- a key that loses its value needs not be in order
+pub covered_without : {Y : Type 0} (texts : List (String Y)) (old values : List ℕ → Option ℕ) (ordered new : BTreeSet (String Y)) (pending : List ℕ) (key : List ℕ)
+    → ((other : List ℕ) → values other ≡ cond (bytes_eq key other) None (old other))
+    → ((other : List ℕ) → contains_text new other ≡ cond (bytes_eq key other) false (contains_text ordered other))
+    → IsCovered texts old ordered pending → IsCovered texts values new pending
+covered_without texts old values ordered new pending key gone without covered = record { each = λ other has. by other (bytes_eq key other) refl (sym (ap is_some (gone other)) ∙ has) }
+  where
+    by : (other : List ℕ) (b : Bool) → bytes_eq key other ≡ b → is_some (cond (bytes_eq key other) None (old other)) ≡ true → (contains_text new other || waits_in texts pending other) ≡ true
+    by other true e has = absurd (let f : false ≡ true = sym (ap (λ t. is_some (cond t None (old other))) e) ∙ has in cc)
+    by other false e has =
+        ap (λ t. t || waits_in texts pending other) (without other ∙ ap (λ t. cond t false (contains_text ordered other)) e)
+        ∙ covered.each other (sym (ap (λ t. is_some (cond t None (old other))) e) ∙ has)
+
+-- keys that wait in another order are covered as before
+pub covered_sorted : {Y : Type 0} (texts : List (String Y)) (values : List ℕ → Option ℕ) (ordered : BTreeSet (String Y)) (pending new : List ℕ)
+    → ((key : List ℕ) → waits_in texts new key ≡ waits_in texts pending key) → IsCovered texts values ordered pending → IsCovered texts values ordered new
+covered_sorted texts values ordered pending new same covered = record { each = λ key has. ap (λ t. contains_text ordered key || t) (same key) ∙ covered.each key has }

@@ -2,7 +2,6 @@ pub mod Chains
 pub mod Fits
 pub mod Front
 pub mod Graph
-pub mod InOrder
 pub mod Listed
 pub mod Plan
 pub mod Tombs

@@ -11,7 +11,7 @@ mod holder;
 mod keeper;
 mod keepers;
 mod live;
-mod next;
+mod order;
 mod places;
 mod plan;
 mod range;

@@ -18,7 +18,7 @@ use crate::graph::{Graph, block_bytes, cid_at, has_block, is_processed, position
 use crate::heads::{has_head, head_rows};
 use crate::holder::holder_of;
 use crate::live::{is_hidden, live_elements_of};
-use crate::next::settle;
+use crate::order::settle;
 use crate::range::rows_from;
 use crate::tables::{Tables, commit_tables, reserve_tables};
 use crate::tombs::{Tombs, has_tomb as has_tomb_row};
@@ -198,7 +198,7 @@ impl<S: BuildHasher + Drop> Store<S> {
         ensures kept { kept_in self.new.tables ≡ kept_in self.old.tables }
         ensures room { self.new.room ≡ self.old.room }
     {
-        settle(&mut self.tables.values)?;
+        settle(alloc, &mut self.tables.values, &self.tables.elements)?;
         rows_from(
             alloc,
             &self.tables.values.ordered,

@@ -13,6 +13,7 @@ ghost use Rattle.mc_keep_mem.specs.Values.{row_in, IsCovered};
 
 use crate::elements::{Elements, Node};
 use crate::holder::place_with;
+use crate::order::drop_key;
 use crate::places::{find_key, set_value, value_place};
 use mc_base::Text;
 use mc_keep::{ValueChange, ValueRow};
@@ -53,7 +54,7 @@ pub(crate) fn put_value<S: BuildHasher + Drop>(
     let ValueChange { key, row } = change;
     match row {
         Some(row) => set_row(values, elements, key.as_str(), row),
-        None => remove_row(elements, key.as_str()),
+        None => remove_row(values, elements, key.as_str()),
     }
 }
 
@@ -120,8 +121,26 @@ fn place_row<S: BuildHasher + Drop>(
     (number, had)
 }
 
+// Takes the value of a key away, and the key out of the order.
+fn remove_row<S: BuildHasher + Drop>(values: &mut Values, elements: &mut Elements<S>, key: &str)
+    requires covered { IsCovered (texts_in elements.old.keys) (value_in elements.old.keys)
+        values.old.ordered values.old.pending.items }
+    ensures values { (other : List ℕ) → value_in elements.new.keys other
+        ≡ cond (bytes_eq key.now other) None (value_in elements.old.keys other) }
+    ensures texts { texts_in elements.new.keys ≡ texts_in elements.old.keys }
+    ensures nodes { elements.new.nodes ≡ elements.old.nodes }
+    ensures lasts { (other : List ℕ) → last_in elements.new.keys other ≡ last_in elements.old.keys other }
+    ensures covered { IsCovered (texts_in elements.new.keys) (value_in elements.new.keys)
+        values.new.ordered values.new.pending.items }
+    ensures keys_spare { spare elements.old.keys ≤ spare elements.new.keys }
+    ensures pending { values.new.pending ≡ values.old.pending }
+{
+    drop_key(&mut values.ordered, key);
+    drop_value(elements, key);
+}
+
 // Takes the value of a key away.
-fn remove_row<S: BuildHasher + Drop>(elements: &mut Elements<S>, key: &str)
+fn drop_value<S: BuildHasher + Drop>(elements: &mut Elements<S>, key: &str)
     ensures values { (other : List ℕ) → value_in elements.new.keys other
         ≡ cond (bytes_eq key.now other) None (value_in elements.old.keys other) }
     ensures texts { texts_in elements.new.keys ≡ texts_in elements.old.keys }

@@ -1,9 +1,11 @@
-use Rattle.mc_keep_mem.proofs.ChainFacts.{same_chains}
-use Rattle.mc_keep_mem.specs.Places.{last_in}
-use Rattle.std.proofs.Common.{refl}
+use Rattle.std.proofs.Common.{sym, subst}
+use Rattle.mc_keep_mem.specs.Places.{value_in, texts_in}
+use Rattle.mc_keep_mem.specs.Values.{IsCovered}
+use Rattle.mc_keep_mem.proofs.ValueFacts.{covered_without}
 use Rattle.mc_keep_mem.proofs.values.remove_row.Goals as goal
 
-pub invariant_of-elements : goal.invariant_of-elements
-invariant_of-elements g c = record {
-  chains = same_chains c.args.elements.now.nodes.items c.args.elements.now.nodes.items (last_in c.args.elements.now.keys) (last_in c.set_value-had.new.keys) refl c.set_value-had.ensures.lasts c.args.elements.now.chains;
-}
+pub returns-clause-covered : goal.returns-clause-covered
+returns-clause-covered g c =
+    subst (λ texts. IsCovered texts (value_in c.drop_value.new.elements.keys) c.drop_key.new.ordered c.args.values.now.pending.items) (sym c.drop_value.ensures.texts)
+    (covered_without (texts_in c.args.elements.now.keys) (value_in c.args.elements.now.keys) (value_in c.drop_value.new.elements.keys) c.args.values.now.ordered c.drop_key.new.ordered c.args.values.now.pending.items c.args.key.now
+    c.drop_value.ensures.values c.drop_key.ensures c.requires.covered)

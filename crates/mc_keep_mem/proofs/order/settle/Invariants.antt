@@ -2,7 +2,7 @@ use Rattle.std.proofs.Common.{◌≤◌, ℕ, List, Option}
 use Rattle.std.specs.Prelude.{vec_len, vec_capacity}
 use Rattle.mc_keep_mem.specs.Places.{texts_in}
 use Rattle.mc_keep_mem.specs.Values.{IsCovered}
-use Rattle.mc_keep_mem.proofs.next.settle.Given as goal
+use Rattle.mc_keep_mem.proofs.order.settle.Given as goal
 
 abbrev pub invariant-loop-number : goal.invariant-loop-number
 invariant-loop-number g l = record {

@@ -6,7 +6,7 @@ use Rattle.std.specs.String.{string_bytes}
 use Rattle.std.proofs.lemmas.Cmp.{nat_list_eq_equiv}
 use Rattle.std.proofs.lemmas.Map.Text.{btree_set_updates_text}
 use Rattle.mc_keep_mem.proofs.PlaceFacts.{none_stands, stands_as}
-use Rattle.mc_keep_mem.proofs.next.put_in_order.Goals as goal
+use Rattle.mc_keep_mem.proofs.order.put_in_order.Goals as goal
 
 pub returns-in_default-clause-ok : goal.returns-in_default-clause-ok
 returns-in_default-clause-ok g c = λ other.
