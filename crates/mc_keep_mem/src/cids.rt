@@ -11,6 +11,9 @@ use std::alloc::AllocError;
 pub(crate) fn has_cid(cids: &IndexSet<Cid>, cid: &Cid) -> bool
     ensures { result ≡ is_among cids.now.keys cid.now }
 {
+    if cids.is_empty() {
+        return false;
+    }
     cids.contains(cid)
 }
 
@@ -35,5 +38,8 @@ pub(crate) fn drop_cid(cids: &mut IndexSet<Cid>, cid: &Cid)
     ensures among { (other : Cid) → is_among cids.new.keys other ≡ (not (same_cid other cid.now) && is_among cids.old.keys other) }
     ensures spare { spare cids.old ≤ spare cids.new }
 {
+    if cids.is_empty() {
+        return;
+    }
     let _was_there = cids.swap_remove(cid);
 }

@@ -23,6 +23,3 @@ mod values;
 pub use keeper::MemKeeper;
 pub use keepers::MemKeepers;
 pub use plan::{FaultPlan, MemDesk};
-
-#[cfg(test)]
-mod tests;

@@ -31,6 +31,9 @@ pub(crate) fn has_key<S: BuildHasher + Drop>(tombs: &Tombs<S>, key: &str) -> boo
     ensures { result ≡ false → (id : List ℕ) →
         has_tomb_in tombs.now.keys.keys tombs.now.ids.keys tombs.now.pairs.keys key.now id ≡ false }
 {
+    if tombs.pairs.is_empty() {
+        return false;
+    }
     match tombs.keys.get_index_of(key) {
         Some(_) => true,
         None => false,
@@ -41,6 +44,9 @@ pub(crate) fn has_key<S: BuildHasher + Drop>(tombs: &Tombs<S>, key: &str) -> boo
 pub(crate) fn has_tomb<S: BuildHasher + Drop>(tombs: &Tombs<S>, key: &str, id: &str) -> bool
     ensures { result ≡ has_tomb_in tombs.now.keys.keys tombs.now.ids.keys tombs.now.pairs.keys key.now id.now }
 {
+    if tombs.pairs.is_empty() {
+        return false;
+    }
     let Some(key) = tombs.keys.get_index_of(key) else {
         return false;
     };

@@ -185,8 +185,8 @@ pub fn no_delta(alloc: Global, priority: u64) -> Delta {
     }
 }
 
-// Stores a block and processes it, each in one commit.
-fn take_up<K: Keeper>(keeper: &mut K, alloc: Global, bytes: Bytes) -> Result<Cid, KeepError> {
+/// Stores a block and processes it, each in one commit.
+pub fn take_up<K: Keeper>(keeper: &mut K, alloc: Global, bytes: Bytes) -> Result<Cid, KeepError> {
     let cid = store_bytes(keeper, alloc, bytes)?;
     process(keeper, alloc, &[cid], true)?;
     Ok(cid)

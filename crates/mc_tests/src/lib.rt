@@ -22,6 +22,8 @@ mod given;
 #[cfg(test)]
 mod hand_made;
 #[cfg(test)]
+mod memory;
+#[cfg(test)]
 mod nodes;
 #[cfg(test)]
 mod queries;

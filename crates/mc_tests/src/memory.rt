@@ -1,135 +1,116 @@
-// Tests of the tables, and of keepers without commits: those stand in the crate that makes the rows of a commit.
-use crate::elements::{Elements, put_element, reserve_elements};
-use crate::live::live_elements_of;
-use crate::tombs::{Tombs, has_tomb, put_tomb, reserve_tombs};
-use crate::{FaultPlan, MemKeeper, MemKeepers};
-use indexmap::{IndexMap, IndexSet};
+// The keeper in memory: without blocks, with faults that are planned, and with rows of a key that are hidden.
+use crate::commits::{no_delta, take_up};
+use crate::given::empty;
 use mc_base::{Bytes, Cid, Counted, List, Text};
-use mc_keep::{ElementRow, KeepError, Keeper, KeeperPlan, Keepers, TombRow};
-use mc_model::id_of;
+use mc_block::write_block;
+use mc_keep::{ElementRow, KeepError, Keeper, KeeperPlan, Keepers};
+use mc_keep_mem::{FaultPlan, MemKeeper, MemKeepers};
+use mc_model::{Element, Tomb, id_of};
 use std::alloc::{AllocError, Global};
-use std::collections::HashSet;
-use std::hash::{BuildHasherDefault, FoldHasher};
 use std::sync::Wait;
 use std::test::Fail;
 
-type FoldState = BuildHasherDefault<FoldHasher>;
-
 const CID: Cid = Cid([7; 32]);
 
-fn text(alloc: Global, text: &str) -> Result<Text, Fail> {
-    Ok(Text::from_text(alloc, text)?)
+// The bytes of a block of priority 1 that sets a key to one byte.
+fn element(alloc: Global, key: &str, value: u8) -> Result<Bytes, AllocError> {
+    let mut delta = no_delta(alloc, 1);
+    delta.elements.push(Element {
+        key: Text::from_text(alloc, key)?,
+        value: Bytes::from_slice(alloc, &[value])?,
+    })?;
+    Ok(write_block(alloc, &[], &delta)?.bytes)
 }
 
-// The rows of some keys and digests, in this order.
-fn rows_of(alloc: Global, rows: &[(&str, u8)]) -> Result<Elements<FoldState>, Fail> {
-    let mut elements = Elements {
-        nodes: Vec::new(alloc),
-        keys: IndexMap::new(alloc),
-    };
-    put_rows(alloc, &mut elements, rows)?;
-    Ok(elements)
+// Those of a block of priority 2 that hides a key under an id.
+fn tombstone(alloc: Global, key: &str, id: &str) -> Result<Bytes, AllocError> {
+    let mut delta = no_delta(alloc, 2);
+    delta.tombstones.push(Tomb {
+        key: Text::from_text(alloc, key)?,
+        id: Text::from_text(alloc, id)?,
+    })?;
+    Ok(write_block(alloc, &[], &delta)?.bytes)
 }
 
-fn put_rows(
+// The identifier of the block that sets a key to one byte.
+fn cid_of(alloc: Global, key: &str, value: u8) -> Result<Cid, AllocError> {
+    Ok(Cid::of(element(alloc, key, value)?.as_slice()))
+}
+
+// Takes up blocks that set keys to one byte each, in this order.
+fn put_rows<K: Keeper>(
+    keeper: &mut K,
     alloc: Global,
-    elements: &mut Elements<FoldState>,
     rows: &[(&str, u8)],
-) -> Result<(), Fail> {
-    for (key, digest) in rows {
-        reserve_elements(elements, 1)?;
-        put_element(
-            elements,
-            ElementRow {
-                key: text(alloc, key)?,
-                cid: Cid([*digest; 32]),
-                priority: 7,
-                value: Bytes::new(alloc),
-            },
-        );
+) -> Result<(), KeepError> {
+    for (key, value) in rows {
+        take_up(keeper, alloc, element(alloc, key, *value)?)?;
     }
     Ok(())
 }
 
-// The tombstones of a key for the blocks with these digests.
-fn tombs_of(alloc: Global, key: &str, digests: &[u8]) -> Result<Tombs<FoldState>, Fail> {
-    let mut tombs = Tombs {
-        keys: IndexSet::new(alloc),
-        ids: IndexSet::new(alloc),
-        pairs: HashSet::new(alloc),
-    };
-    put_tombs_of(alloc, &mut tombs, key, digests)?;
-    Ok(tombs)
-}
-
-fn put_tombs_of(
+// Takes up blocks that hide a key in the blocks that set it to these bytes.
+fn put_tombs<K: Keeper>(
+    keeper: &mut K,
     alloc: Global,
-    tombs: &mut Tombs<FoldState>,
     key: &str,
-    digests: &[u8],
-) -> Result<(), Fail> {
-    for digest in digests {
-        reserve_tombs(tombs, 1)?;
-        put_tomb(
-            tombs,
-            TombRow {
-                key: text(alloc, key)?,
-                id: id_of(alloc, &Cid([*digest; 32]))?,
-            },
-        );
+    values: &[u8],
+) -> Result<(), KeepError> {
+    for value in values {
+        let id = id_of(alloc, &cid_of(alloc, key, *value)?)?;
+        take_up(keeper, alloc, tombstone(alloc, key, id.as_str())?)?;
     }
     Ok(())
 }
 
-// Whether the live rows of a key have these digests.
-fn are_live(
+// Whether the live rows of a key are those of the blocks that set it to these bytes, ascending.
+fn are_live<K: Keeper>(
+    keeper: &mut K,
     alloc: Global,
-    elements: &mut Elements<FoldState>,
-    tombs: &Tombs<FoldState>,
     key: &str,
-    digests: &[u8],
-) -> Result<bool, AllocError> {
-    let rows = live_elements_of(alloc, elements, tombs, key)?;
-    if rows.len() != digests.len() {
+    values: &[u8],
+) -> Result<bool, KeepError> {
+    let rows = keeper.live_elements(alloc, key)?;
+    if rows.len() != values.len() || !rows.as_slice().is_sorted() {
         return Ok(false);
     }
-    for (row, digest) in rows.as_slice().iter().zip(digests) {
-        if row.cid != Cid([*digest; 32]) || row.key.as_str() != key {
+    for value in values {
+        if !has_row(rows.as_slice(), key, &cid_of(alloc, key, *value)?) {
             return Ok(false);
         }
     }
     Ok(true)
 }
 
-// Whether the rows of a key that are hidden are left out, at each reading, and no other row of the key or of another one.
-fn hidden_are_left_out(
-    alloc: Global,
-    rows: &[(&str, u8)],
-    hidden: &[u8],
-    live: &[u8],
-) -> Result<bool, Fail> {
-    let tombs = tombs_of(alloc, "/a", hidden)?;
-    let mut elements = rows_of(alloc, rows)?;
-    Ok(are_left_out(alloc, &mut elements, &tombs, live)?)
+fn has_row(rows: &[ElementRow], key: &str, cid: &Cid) -> bool {
+    for row in rows {
+        if row.cid == *cid && row.key.as_str() == key {
+            return true;
+        }
+    }
+    false
 }
 
-fn are_left_out(
-    alloc: Global,
-    elements: &mut Elements<FoldState>,
-    tombs: &Tombs<FoldState>,
-    live: &[u8],
-) -> Result<bool, AllocError> {
+// Whether just these rows of one key are live and both rows of the other one, at each reading.
+fn are_left_out<K: Keeper>(keeper: &mut K, alloc: Global, live: &[u8]) -> Result<bool, KeepError> {
     Ok(
-        are_live(alloc, elements, tombs, "/b", &[2, 3])?
-            && are_live(alloc, elements, tombs, "/a", live)?
-            && are_live(alloc, elements, tombs, "/b", &[2, 3])?
-            && are_live(alloc, elements, tombs, "/a", live)?,
+        are_live(keeper, alloc, "/b", &[2, 3])?
+            && are_live(keeper, alloc, "/a", live)?
+            && are_live(keeper, alloc, "/b", &[2, 3])?
+            && are_live(keeper, alloc, "/a", live)?,
     )
 }
 
-#[test]
-fn live_rows_of_a_key(rt: HostRuntime) -> Result<(), Fail> {
-    let alloc = rt.alloc();
+// Whether the rows of a key that are hidden are left out, and no other row of the key or of another one: where the
+// tombstones came before the rows, and, where `later`, after they were read.
+fn hidden_are_left_out<K: Keeper + Drop>(
+    keeper: K,
+    alloc: Global,
+    later: bool,
+    hidden: &[u8],
+    live: &[u8],
+) -> Result<bool, KeepError> {
+    let mut keeper = keeper;
     let rows = [
         ("/b", 2),
         ("/a", 5),
@@ -138,6 +119,22 @@ fn live_rows_of_a_key(rt: HostRuntime) -> Result<(), Fail> {
         ("/a", 3),
         ("/a", 1),
     ];
+    if !later {
+        put_tombs(&mut keeper, alloc, "/a", hidden)?;
+    }
+    put_rows(&mut keeper, alloc, &rows)?;
+    if later {
+        if !are_left_out(&mut keeper, alloc, &[1, 2, 3, 5])? {
+            return Ok(false);
+        }
+        put_tombs(&mut keeper, alloc, "/a", hidden)?;
+    }
+    are_left_out(&mut keeper, alloc, live)
+}
+
+#[test]
+fn live_rows_of_a_key(rt: HostRuntime) -> Result<(), Fail> {
+    let alloc = rt.alloc();
     // the hidden blocks, and the live ones
     let cases: [(&[u8], &[u8]); 6] = [
         (&[], &[1, 2, 3, 5]),
@@ -148,29 +145,24 @@ fn live_rows_of_a_key(rt: HostRuntime) -> Result<(), Fail> {
         (&[1, 2, 3, 5], &[]),
     ];
     for (hidden, live) in cases {
-        assert!(rt; hidden_are_left_out(alloc, &rows, hidden, live)?);
+        for later in [false, true] {
+            assert!(rt; hidden_are_left_out(empty(alloc)?, alloc, later, hidden, live)?);
+        }
     }
     Ok(())
+}
+
+// Whether a tombstone hides its key under its id, and nothing with the two the other way round.
+fn hides_its_pair<K: Keeper + Drop>(keeper: K, alloc: Global) -> Result<bool, KeepError> {
+    let mut keeper = keeper;
+    take_up(&mut keeper, alloc, tombstone(alloc, "/a", "/X")?)?;
+    Ok(keeper.hidden("/a", "/X")? && !keeper.hidden("/X", "/a")?)
 }
 
 #[test]
 fn tombstones(rt: HostRuntime) -> Result<(), Fail> {
     let alloc = rt.alloc();
-    let mut tombs = Tombs {
-        keys: IndexSet::new(alloc),
-        ids: IndexSet::new(alloc),
-        pairs: HashSet::new(alloc),
-    };
-    reserve_tombs(&mut tombs, 1)?;
-    put_tomb(
-        &mut tombs,
-        TombRow {
-            key: text(alloc, "/a")?,
-            id: text(alloc, "/X")?,
-        },
-    );
-    assert!(rt; has_tomb(&tombs, "/a", "/X"));
-    assert!(rt; !has_tomb(&tombs, "/X", "/a"));
+    assert!(rt; hides_its_pair(empty(alloc)?, alloc)?);
     Ok(())
 }
 
@@ -178,11 +170,6 @@ fn numbers(alloc: Global, number: u64) -> Result<List<u64>, AllocError> {
     let mut numbers = List::new(alloc);
     numbers.push(number)?;
     Ok(numbers)
-}
-
-// A keeper by which nothing fails.
-fn empty(alloc: Global) -> Result<MemKeeper, AllocError> {
-    MemKeeper::new(alloc, FaultPlan::nothing(alloc))
 }
 
 // A plan by which this read fails, and the second read of the second desk.
