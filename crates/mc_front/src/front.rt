@@ -98,7 +98,7 @@ fn rows_of<K: Keeper>(keeper: &mut K, alloc: Global, blocks: &[Block]) -> Result
 fn marks_of(alloc: Global, blocks: &[Block]) -> Result<List<Cid>, AllocError>
     ensures { IfOk result (λ marks. marks ≡ map (λ (block : Block). block.cid) blocks.now) }
 {
-    let mut marks = List::new(alloc);
+    let mut marks = List::with_capacity(alloc, blocks.len())?;
     for block in blocks {
         marks.push(block.cid)?;
     }

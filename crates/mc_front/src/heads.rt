@@ -26,7 +26,7 @@ pub(crate) fn new_heads<K: Keeper>(
         heads ≡ rows_of_heads (processed kept) links.now.keys blocks.now) }
     ensures reads { Reads K.Keeper (is_fault result) keeper.old keeper.new }
 {
-    let mut heads = List::new(alloc);
+    let mut heads = List::with_capacity(alloc, blocks.len())?;
     for block in blocks {
         if !is_led_to(keeper, links, &block.cid)? {
             add(&mut heads, head_of(block))?;

@@ -45,7 +45,7 @@ pub(crate) fn new_links<K: Keeper>(
     ensures new { IfTold (K.told keeper.old) result (λ kept new. new ≡ unlinked (processed kept) links.now) }
     ensures reads { Reads K.Keeper (is_fault result) keeper.old keeper.new }
 {
-    let mut new = List::new(alloc);
+    let mut new = List::with_capacity(alloc, links.len())?;
     for link in links {
         if !keeper.linked(link)? {
             add(&mut new, *link)?;
@@ -63,7 +63,7 @@ pub(crate) fn old_heads<K: Keeper>(
     ensures old { IfTold (K.told keeper.old) result (λ kept old. old ≡ filter (is_among kept.order) links.now) }
     ensures reads { Reads K.Keeper (is_fault result) keeper.old keeper.new }
 {
-    let mut old = List::new(alloc);
+    let mut old = List::with_capacity(alloc, links.len())?;
     for link in links {
         if is_processed(keeper, link)? {
             add(&mut old, *link)?;
