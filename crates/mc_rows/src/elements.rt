@@ -102,11 +102,20 @@ pub(crate) fn new_elements<'a>(
 fn gather<'a>(alloc: Global, blocks: &'a [Block]) -> Result<Vec<NewElement<'a>>, AllocError>
     ensures { IfOk result (λ elements. rows_of elements.items ≡ element_rows blocks.now) }
 {
-    let mut elements = Vec::new(alloc);
+    let mut elements = Vec::with_capacity(alloc, element_count(blocks))?;
     for block in blocks {
         gather_of(block, &mut elements)?;
     }
     Ok(elements)
+}
+
+// How many elements the blocks have.
+fn element_count(blocks: &[Block]) -> usize {
+    let mut count = 0usize;
+    for block in blocks {
+        count = count.saturating_add(block.delta.elements.as_slice().len());
+    }
+    count
 }
 
 fn gather_of<'a>(block: &'a Block, elements: &mut Vec<NewElement<'a>>) -> Result<(), AllocError>

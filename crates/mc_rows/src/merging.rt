@@ -77,7 +77,7 @@ fn value_changes<K: Keeper>(
         ValuesFit (processed kept) (rows_of elements.now) (tombs_of tombs.now) keys.now values) }
     ensures reads { Reads K.Keeper (is_fault result) keeper.old keeper.new }
 {
-    let mut values = List::new(alloc);
+    let mut values = List::with_capacity(alloc, keys.len())?;
     let mut last = None;
     for key in keys {
         let change = change_of(keeper, alloc, *key, elements, tombs, &mut last)?;
