@@ -12,8 +12,9 @@ ghost use Rattle.mc_keep.specs.Tables.{FrontFits};
 ghost use Rattle.mc_front.specs.Front.{HeadsOut, MarkFits, new_heads as heads_of};
 ghost use Rattle.mc_front.specs.Steps.{different_links, unlinked, rows_of_heads};
 
+use crate::distinct::links_of;
 use crate::heads::new_heads;
-use crate::links::{links_of, new_links, old_heads};
+use crate::links::{new_links, old_heads};
 use crate::mark::mark_change;
 use mc_base::{Cid, List};
 use mc_keep::{Changes, HeadRow, KeepError, Keeper};
