@@ -12,8 +12,9 @@ ghost use Rattle.mc_keep.specs.Tables.{FrontFits};
 ghost use Rattle.mc_front.specs.Front.{HeadsOut, MarkFits, new_heads as heads_of};
 ghost use Rattle.mc_front.specs.Steps.{different_links, unlinked, rows_of_heads};
 
+use crate::distinct::links_of;
 use crate::heads::new_heads;
-use crate::links::{links_of, new_links, old_heads};
+use crate::links::{new_links, old_heads};
 use crate::mark::mark_change;
 use mc_base::{Cid, List};
 use mc_keep::{Changes, HeadRow, KeepError, Keeper};
@@ -98,7 +99,7 @@ fn rows_of<K: Keeper>(keeper: &mut K, alloc: Global, blocks: &[Block]) -> Result
 fn marks_of(alloc: Global, blocks: &[Block]) -> Result<List<Cid>, AllocError>
     ensures { IfOk result (λ marks. marks ≡ map (λ (block : Block). block.cid) blocks.now) }
 {
-    let mut marks = List::new(alloc);
+    let mut marks = List::with_capacity(alloc, blocks.len())?;
     for block in blocks {
         marks.push(block.cid)?;
     }

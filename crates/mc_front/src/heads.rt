@@ -7,9 +7,10 @@ ghost use Rattle.mc_keep.specs.Causes.{IfTold};
 ghost use Rattle.mc_keep.specs.Plan.{is_fault};
 ghost use Rattle.mc_front.specs.Steps.{leads_to, rows_of_heads};
 ghost use Rattle.mc_front.specs.Front.{head_row};
+ghost use Rattle.mc_front.specs.Distinct.{cids_in};
 
 use crate::adding::add;
-use indexmap::IndexSet;
+use crate::distinct::Distinct;
 use mc_base::{Cid, Failed, List};
 use mc_keep::{HeadRow, KeepError, Keeper};
 use mc_model::Block;
@@ -20,13 +21,13 @@ pub(crate) fn new_heads<K: Keeper>(
     keeper: &mut K,
     alloc: Global,
     blocks: &[Block],
-    links: &IndexSet<Cid>,
+    links: &Distinct,
 ) -> Result<List<HeadRow>, KeepError>
     ensures heads { IfTold (K.told keeper.old) result (λ kept heads.
-        heads ≡ rows_of_heads (processed kept) links.now.keys blocks.now) }
+        heads ≡ rows_of_heads (processed kept) (cids_in links.now) blocks.now) }
     ensures reads { Reads K.Keeper (is_fault result) keeper.old keeper.new }
 {
-    let mut heads = List::new(alloc);
+    let mut heads = List::with_capacity(alloc, blocks.len())?;
     for block in blocks {
         if !is_led_to(keeper, links, &block.cid)? {
             add(&mut heads, head_of(block))?;
@@ -44,9 +45,9 @@ fn head_of(block: &Block) -> HeadRow
     }
 }
 
-fn is_led_to<K: Keeper>(keeper: &mut K, links: &IndexSet<Cid>, cid: &Cid) -> Result<bool, Failed>
+fn is_led_to<K: Keeper>(keeper: &mut K, links: &Distinct, cid: &Cid) -> Result<bool, Failed>
     ensures found { IfTold (K.told keeper.old) result (λ kept found.
-        found ≡ leads_to (processed kept) links.now.keys cid.now) }
+        found ≡ leads_to (processed kept) (cids_in links.now) cid.now) }
     ensures reads { Reads K.Keeper (is_err result) keeper.old keeper.new }
 {
     if links.contains(cid) {

@@ -3,6 +3,7 @@
 #![tactic(auto, using(mc_keep::proofs::Frames::reads_none))]
 
 mod adding;
+mod distinct;
 mod front;
 mod heads;
 mod links;

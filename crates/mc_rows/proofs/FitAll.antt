@@ -115,14 +115,13 @@ rows_fit blocks more elements tombs keys changes once sorted same sorted' same' 
   values_once = fit.once;
 }
 
-pub rows_fit_told : (told : Option Kept) (more group : List Block) (elements : List NewElement) (tombs : List NewTomb) (keys : List (Bor (List ℕ))) (changes : Changes)
-    → group ≡ more
-    → IsStrictlySortedBy new_element_cmp elements → SameMembers (rows_of elements) (element_rows group)
+pub rows_fit_told : (told : Option Kept) (more : List Block) (elements : List NewElement) (tombs : List NewTomb) (keys : List (Bor (List ℕ))) (changes : Changes)
+    → IsStrictlySortedBy new_element_cmp elements → SameMembers (rows_of elements) (element_rows more)
     → IsStrictlySortedBy new_tomb_cmp tombs → IfSome told (λ kept. SameMembers (tombs_of tombs) (filter (is_unknown (processed kept)) (tomb_rows more)))
     → ((key : List ℕ) → has_key keys key ≡ (has_element_of (rows_of elements) key || has_tomb_of (tombs_of tombs) key))
     → IfSome told (λ kept. ValuesFit (processed kept) (rows_of elements) (tombs_of tombs) keys changes.values)
     → changes.elements ≡ rows_of elements → changes.tombs ≡ tombs_of tombs
     → IfSome told (λ kept. AreNew kept more → RowsFit (processed kept) more changes)
-rows_fit_told None more group elements tombs keys changes g sorted same sorted' same' spoken fit e t = tt
-rows_fit_told (Some kept) more group elements tombs keys changes g sorted same sorted' same' spoken fit e t =
-    λ new. rows_fit (processed kept) more elements tombs keys changes new.0 sorted (subst (λ (z : List Block). SameMembers (rows_of elements) (element_rows z)) g same) sorted' same' spoken fit e t
+rows_fit_told None more elements tombs keys changes sorted same sorted' same' spoken fit e t = tt
+rows_fit_told (Some kept) more elements tombs keys changes sorted same sorted' same' spoken fit e t =
+    λ new. rows_fit (processed kept) more elements tombs keys changes new.0 sorted same sorted' same' spoken fit e t

@@ -10,20 +10,15 @@ use Rattle.mc_model.specs.declared.block.Block.{Block}
 use Rattle.mc_model.specs.declared.delta.Tomb.{Tomb}
 use Rattle.mc_keep.specs.declared.rows.ElementRow.{ElementRow}
 use Rattle.mc_keep.specs.declared.rows.TombRow.{TombRow}
-use Rattle.mc_rows.specs.declared.named.NamedBlock.{NamedBlock}
 use Rattle.mc_rows.specs.declared.elements.NewElement.{NewElement}
 use Rattle.mc_rows.specs.declared.tombs.NewTomb.{NewTomb}
-
--- the blocks of a group
-abbrev pub blocks_of : List NamedBlock → List Block
-blocks_of group = map (λ (named : NamedBlock). named.block.now) group
 
 -- the row of a borrowed element
 abbrev pub row_of : NewElement → ElementRow
 row_of element = record {
   key = element.key.now;
-  cid = element.block.now.block.now.cid;
-  priority = element.block.now.block.now.delta.priority;
+  cid = element.block.now.cid;
+  priority = element.block.now.delta.priority;
   value = element.value.now;
 }
 

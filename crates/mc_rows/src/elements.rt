@@ -7,11 +7,11 @@ ghost use Rattle.std.specs.List.Sorted.{IsStrictlySortedBy};
 ghost use Rattle.std.proofs.lemmas.Cmp.{eq_by_cmp_equiv};
 ghost use Rattle.mc_model.specs.SameMembers.{SameMembers};
 ghost use Rattle.mc_keep.specs.Tables.{element_row, element_rows};
-ghost use Rattle.mc_rows.specs.Rows.{new_element_cmp, new_element_total, row_of, rows_of, blocks_of};
+ghost use Rattle.mc_rows.specs.Rows.{new_element_cmp, new_element_total, row_of, rows_of};
 
-use crate::named::NamedBlock;
 use mc_base::{Bytes, Cid, List, Text};
 use mc_keep::ElementRow;
+use mc_model::Block;
 use std::alloc::{AllocError, Global};
 use std::cmp::Ordering;
 
@@ -20,20 +20,20 @@ use std::cmp::Ordering;
 pub(crate) struct NewElement<'a> {
     pub(crate) key: &'a str,
     pub(crate) value: &'a [u8],
-    pub(crate) block: &'a NamedBlock<'a>,
+    pub(crate) block: &'a Block,
 }
 
 impl<'a> NewElement<'a> {
-    fn cid(&self) -> &Cid
+    pub(crate) fn cid(&self) -> &Cid
         ensures { result.now ≡ (row_of self.now).cid }
     {
-        &self.block.block.cid
+        &self.block.cid
     }
 
     pub(crate) fn priority(&self) -> u64
         ensures { result ≡ (row_of self.now).priority }
     {
-        self.block.block.delta.priority
+        self.block.delta.priority
     }
 }
 
@@ -87,40 +87,46 @@ impl<'a> Ord for NewElement<'a> {
 // The elements of the group, ascending, each once.
 pub(crate) fn new_elements<'a>(
     alloc: Global,
-    group: &'a [NamedBlock<'a>],
+    blocks: &'a [Block],
 ) -> Result<Vec<NewElement<'a>>, AllocError>
     ensures sorted { IfOk result (λ elements. IsStrictlySortedBy new_element_cmp elements.items) }
     ensures members { IfOk result (λ elements.
-        SameMembers (rows_of elements.items) (element_rows (blocks_of group.now))) }
+        SameMembers (rows_of elements.items) (element_rows blocks.now)) }
 {
-    let mut elements = gather(alloc, group)?;
+    let mut elements = gather(alloc, blocks)?;
     elements.sort_unstable();
     elements.dedup();
     Ok(elements)
 }
 
-fn gather<'a>(alloc: Global, group: &'a [NamedBlock<'a>]) -> Result<Vec<NewElement<'a>>, AllocError>
-    ensures { IfOk result (λ elements. rows_of elements.items ≡ element_rows (blocks_of group.now)) }
+fn gather<'a>(alloc: Global, blocks: &'a [Block]) -> Result<Vec<NewElement<'a>>, AllocError>
+    ensures { IfOk result (λ elements. rows_of elements.items ≡ element_rows blocks.now) }
 {
-    let mut elements = Vec::new(alloc);
-    for named in group {
-        gather_of(named, &mut elements)?;
+    let mut elements = Vec::with_capacity(alloc, element_count(blocks))?;
+    for block in blocks {
+        gather_of(block, &mut elements)?;
     }
     Ok(elements)
 }
 
-fn gather_of<'a>(
-    named: &'a NamedBlock<'a>,
-    elements: &mut Vec<NewElement<'a>>,
-) -> Result<(), AllocError>
+// How many elements the blocks have.
+fn element_count(blocks: &[Block]) -> usize {
+    let mut count = 0usize;
+    for block in blocks {
+        count = count.saturating_add(block.delta.elements.as_slice().len());
+    }
+    count
+}
+
+fn gather_of<'a>(block: &'a Block, elements: &mut Vec<NewElement<'a>>) -> Result<(), AllocError>
     ensures { OnOk result (rows_of elements.new.items ≡
-        rows_of elements.old.items ++ map (element_row named.now.block.now) named.now.block.now.delta.elements) }
+        rows_of elements.old.items ++ map (element_row block.now) block.now.delta.elements) }
 {
-    for element in named.block.delta.elements.as_slice() {
+    for element in block.delta.elements.as_slice() {
         elements.push(NewElement {
             key: element.key.as_str(),
             value: element.value.as_slice(),
-            block: named,
+            block,
         })?;
     }
     Ok(())

@@ -23,7 +23,7 @@ pub(crate) fn keys_of<'a>(
     ensures members { IfOk result (λ keys. (key : List ℕ) → has_key keys.items key ≡
         (has_element_of (rows_of elements.now) key || has_tomb_of (tombs_of tombs.now) key)) }
 {
-    let mut keys = Vec::new(alloc);
+    let mut keys = Vec::with_capacity(alloc, elements.len().saturating_add(tombs.len()))?;
     add_element_keys(elements, &mut keys)?;
     add_tomb_keys(tombs, &mut keys)?;
     keys.sort_unstable();
@@ -37,7 +37,6 @@ fn add_element_keys<'a>(
 ) -> Result<(), AllocError>
     ensures { OnOk result (keys.new.items ≡ keys.old.items ++ map (λ (e : NewElement). e.key) elements.now) }
 {
-    keys.reserve(elements.len())?;
     for element in elements {
         keys.push(element.key)?;
     }
@@ -47,7 +46,6 @@ fn add_element_keys<'a>(
 fn add_tomb_keys<'a>(tombs: &[NewTomb<'a>], keys: &mut Vec<&'a str>) -> Result<(), AllocError>
     ensures { OnOk result (keys.new.items ≡ keys.old.items ++ map (λ (t : NewTomb). t.key) tombs.now) }
 {
-    keys.reserve(tombs.len())?;
     for tomb in tombs {
         keys.push(tomb.key)?;
     }

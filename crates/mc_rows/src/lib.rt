@@ -4,7 +4,6 @@
 
 mod best;
 mod elements;
-mod group;
 mod keys;
 mod live;
 mod merging;

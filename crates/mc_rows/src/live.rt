@@ -7,6 +7,7 @@ ghost use Rattle.mc_model.specs.Rank.{greater, greatest};
 ghost use Rattle.mc_keep.specs.Calls.{Reads};
 ghost use Rattle.mc_keep.specs.Causes.{IfTold};
 ghost use Rattle.mc_keep.specs.Changes.{has_tomb_row};
+ghost use Rattle.mc_keep.specs.Plan.{is_fault};
 ghost use Rattle.mc_rows.specs.Rows.{new_tomb_cmp, row_of, rows_of, tombs_of};
 ghost use Rattle.mc_keep.specs.Live.{live_row, live_rows};
 ghost use Rattle.mc_rows.specs.Live.{hides};
@@ -15,10 +16,11 @@ ghost use Rattle.mc_rows.specs.Values.{ranked_best};
 
 use crate::best::{Best, is_above};
 use crate::elements::NewElement;
+use crate::named::{Named, name};
 use crate::search::has_tomb;
 use crate::tombs::NewTomb;
 use mc_base::{Cid, Failed};
-use mc_keep::{ElementRow, Keeper};
+use mc_keep::{ElementRow, KeepError, Keeper};
 use mc_model::id_of;
 use std::alloc::{AllocError, Global};
 
@@ -124,40 +126,45 @@ fn with_old<'a>(
     Ok(Some(next))
 }
 
-// The greatest of a value and of these elements of the key, which are of blocks of the group.
+// The greatest of a value and of these elements of the key, which are of blocks of the group. `last` is the block that
+// was named last.
 pub(crate) fn best_with_new<'a, K: Keeper>(
     keeper: &mut K,
+    alloc: Global,
     key: &str,
     elements: &[NewElement<'a>],
     tombs: &[NewTomb<'_>],
+    last: &mut Option<Named>,
     best: Option<Best<'a>>,
-) -> Result<Option<Best<'a>>, Failed>
+) -> Result<Option<Best<'a>>, KeepError>
     requires sorted { IsStrictlySortedBy new_tomb_cmp tombs.now }
     ensures best { IfTold (K.told keeper.old) result (λ kept found.
         ranked_best found ≡ fold greater (ranked_best best.entry)
         (live_rows (hides (processed kept) (tombs_of tombs.now) key.now) (rows_of elements.now))) }
-    ensures reads { Reads K.Keeper (is_err result) keeper.old keeper.new }
+    ensures reads { Reads K.Keeper (is_fault result) keeper.old keeper.new }
 {
     let mut best = best;
     for element in elements {
-        best = with_new(keeper, key, element, tombs, best)?;
+        best = with_new(keeper, alloc, key, element, tombs, last, best)?;
     }
     Ok(best)
 }
 
-// The same with one more element.
+// The same with one more element. Just the block of one that is above all before is named.
 fn with_new<'a, K: Keeper>(
     keeper: &mut K,
+    alloc: Global,
     key: &str,
     element: &NewElement<'a>,
     tombs: &[NewTomb<'_>],
+    last: &mut Option<Named>,
     best: Option<Best<'a>>,
-) -> Result<Option<Best<'a>>, Failed>
+) -> Result<Option<Best<'a>>, KeepError>
     requires sorted { IsStrictlySortedBy new_tomb_cmp tombs.now }
     ensures best { IfTold (K.told keeper.old) result (λ kept found.
         ranked_best found ≡ fold greater (ranked_best best.entry)
         (live_row (hides (processed kept) (tombs_of tombs.now) key.now) (row_of element.now))) }
-    ensures reads { Reads K.Keeper (is_err result) keeper.old keeper.new }
+    ensures reads { Reads K.Keeper (is_fault result) keeper.old keeper.new }
 {
     let next = Best {
         priority: element.priority(),
@@ -166,7 +173,10 @@ fn with_new<'a, K: Keeper>(
     if !is_above(best, next) {
         return Ok(best);
     }
-    if is_hidden(keeper, key, element.block.id.as_str(), tombs)? {
+    let named = name(alloc, element.cid(), last.take())?;
+    let hidden = is_hidden(keeper, key, named.id.as_str(), tombs)?;
+    *last = Some(named);
+    if hidden {
         return Ok(best);
     }
     Ok(Some(next))

@@ -13,7 +13,6 @@ ghost use Rattle.mc_rows.specs.Rows.{new_element_cmp, new_tomb_cmp, rows_of, tom
 ghost use Rattle.mc_rows.specs.Values.{ValuesFit, change_list};
 
 use crate::elements::{NewElement, element_rows_from, new_elements};
-use crate::group::named_blocks;
 use crate::keys::keys_of;
 use crate::tombs::{NewTomb, new_tombs, tomb_rows_from};
 use crate::values::change_of;
@@ -45,8 +44,7 @@ pub fn merge<K: Keeper>(
     ensures refused { OnErr result (changes.new ≡ changes.old) }
     ensures reads { Reads K.Keeper (is_fault result) keeper.old keeper.new }
 {
-    let group = named_blocks(alloc, blocks)?;
-    let elements = new_elements(alloc, group.as_slice())?;
+    let elements = new_elements(alloc, blocks)?;
     let tombs = new_tombs(keeper, alloc, blocks)?;
     let keys = keys_of(alloc, elements.as_slice(), tombs.as_slice())?;
     let values = value_changes(
@@ -79,9 +77,10 @@ fn value_changes<K: Keeper>(
         ValuesFit (processed kept) (rows_of elements.now) (tombs_of tombs.now) keys.now values) }
     ensures reads { Reads K.Keeper (is_fault result) keeper.old keeper.new }
 {
-    let mut values = List::new(alloc);
+    let mut values = List::with_capacity(alloc, keys.len())?;
+    let mut last = None;
     for key in keys {
-        let change = change_of(keeper, alloc, *key, elements, tombs)?;
+        let change = change_of(keeper, alloc, *key, elements, tombs, &mut last)?;
         push_change(&mut values, change)?;
     }
     Ok(values)

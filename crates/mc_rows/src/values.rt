@@ -15,6 +15,7 @@ ghost use Rattle.mc_rows.specs.Values.{ranked_best, ChangesTo, IsChange};
 use crate::best::{Best, best_of, is_unchanged};
 use crate::elements::NewElement;
 use crate::live::{best_of_old, best_with_new};
+use crate::named::Named;
 use crate::search::{elements_with, has_tomb, has_tomb_with};
 use crate::tombs::NewTomb;
 use mc_base::{Bytes, Text};
@@ -22,13 +23,15 @@ use mc_keep::{KeepError, Keeper, ValueChange, ValueRow};
 use mc_model::id_of;
 use std::alloc::{AllocError, Global};
 
-// The change of a key's value row by the new elements and tombstones, or none where the row stays.
+// The change of a key's value row by the new elements and tombstones, or none where the row stays. `last` is the block
+// that was named last.
 pub(crate) fn change_of<K: Keeper>(
     keeper: &mut K,
     alloc: Global,
     key: &str,
     elements: &[NewElement<'_>],
     tombs: &[NewTomb<'_>],
+    last: &mut Option<Named>,
 ) -> Result<Option<ValueChange>, KeepError>
     requires elements { IsStrictlySortedBy new_element_cmp elements.now }
     requires tombs { IsStrictlySortedBy new_tomb_cmp tombs.now }
@@ -40,9 +43,9 @@ pub(crate) fn change_of<K: Keeper>(
     let old = keeper.value(alloc, key)?;
     let elements = elements_with(elements, key);
     if is_hidden_anew(keeper, alloc, key, tombs, &old)? {
-        return change_anew(keeper, alloc, key, elements, tombs, &old);
+        return change_anew(keeper, alloc, key, elements, tombs, &old, last);
     }
-    change_on(keeper, alloc, key, elements, tombs, &old)
+    change_on(keeper, alloc, key, elements, tombs, &old, last)
 }
 
 // Whether a new tombstone hides the block of the key's value. Where it says no, the value is still that of the old
@@ -84,6 +87,7 @@ fn change_anew<K: Keeper>(
     elements: &[NewElement<'_>],
     tombs: &[NewTomb<'_>],
     old: &Option<ValueRow>,
+    last: &mut Option<Named>,
 ) -> Result<Option<ValueChange>, KeepError>
     requires tombs { IsStrictlySortedBy new_tomb_cmp tombs.now }
     requires old { IfSome (K.told keeper.old) (λ kept. IsValueRow (processed kept) key.now old.now) }
@@ -95,7 +99,7 @@ fn change_anew<K: Keeper>(
 {
     let rows = keeper.live_elements(alloc, key)?;
     let best = best_of_old(alloc, key, rows.as_slice(), tombs)?;
-    let found = best_with_new(keeper, key, elements, tombs, best)?;
+    let found = best_with_new(keeper, alloc, key, elements, tombs, last, best)?;
     Ok(change_to(alloc, key, old, found)?)
 }
 
@@ -107,6 +111,7 @@ fn change_on<K: Keeper>(
     elements: &[NewElement<'_>],
     tombs: &[NewTomb<'_>],
     old: &Option<ValueRow>,
+    last: &mut Option<Named>,
 ) -> Result<Option<ValueChange>, KeepError>
     requires tombs { IsStrictlySortedBy new_tomb_cmp tombs.now }
     requires old { IfSome (K.told keeper.old) (λ kept. IsValueRow (processed kept) key.now old.now) }
@@ -116,7 +121,8 @@ fn change_on<K: Keeper>(
         (row_from (processed kept) (rows_of elements.now) (tombs_of tombs.now) key.now) change) }
     ensures reads { Reads K.Keeper (is_fault result) keeper.old keeper.new }
 {
-    let found = best_with_new(keeper, key, elements, tombs, best_of(old))?;
+    let best = best_of(old);
+    let found = best_with_new(keeper, alloc, key, elements, tombs, last, best)?;
     Ok(change_to(alloc, key, old, found)?)
 }
 

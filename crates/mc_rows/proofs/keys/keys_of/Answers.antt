@@ -14,5 +14,5 @@ returns-clause-sorted c =
 
 pub returns-clause-members : goal.returns-clause-members
 returns-clause-members c =
-    keys_members c.args.elements.now c.args.tombs.now _ _ _ _ _ c.new-keys.ensures.items c.in_ok-add_element_keys.ensures c.in_ok-add_tomb_keys.ensures c.sort_unstable.ensures.permutation
+    keys_members c.args.elements.now c.args.tombs.now _ _ _ _ _ c.in_ok-keys.ensures.items c.in_ok-add_element_keys.ensures c.in_ok-add_tomb_keys.ensures c.sort_unstable.ensures.permutation
     (dedup_is (λ (x y : Bor (List ℕ)). bytes_eq x.now y.now) c.sort_unstable.new.self.items c.dedup.new.self.items c.dedup.ensures.filtered)
