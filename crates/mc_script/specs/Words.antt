@@ -16,7 +16,10 @@ abbrev pub ◌>>=◌ : {A B : Type 0} → Option A → (A → Option B) → Opti
 None >>= next = None
 Some value >>= next = next value
 
--- the bytes of borrowed texts
+-- the bytes of a borrowed text, and of some
+abbrev pub text_of : Bor (List ℕ) → List ℕ
+text_of text = text.now
+
 abbrev pub texts_of : List (Bor (List ℕ)) → List (List ℕ)
 texts_of texts = map (λ text. text.now) texts
 

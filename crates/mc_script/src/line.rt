@@ -12,11 +12,15 @@ use crate::arguments::{
     read_offer_words, read_pair_words, read_range_words, read_replica_words, read_storm_words,
     read_up_to_words, read_value_words, read_work_words,
 };
+use smallvec::SmallVec;
 use std::alloc::{AllocError, Global};
 use thiserror::Error;
 
 // The greatest number of a commit that may be told to fail.
 const COMMIT_MAX: u64 = 1_000_000;
+
+// The most words of a command, which are read without memory of their own.
+const WORDS_MAX: usize = 5;
 
 /// Why a line gave no command.
 #[derive(Clone, Copy, Debug, PartialEq, Eq, Error)]
@@ -65,7 +69,7 @@ fn read_text(alloc: Global, text: &str) -> Result<Option<Command>, LineError>
         return Ok(None);
     }
     let words = split_words(alloc, text)?;
-    Ok(Some(read_words(alloc, &words)?))
+    Ok(Some(read_words(alloc, words.as_slice())?))
 }
 
 // Whether a line has no reply.
@@ -78,7 +82,7 @@ fn is_silent(text: &str) -> bool
     }
 }
 
-fn split_words<'a>(alloc: Global, text: &'a str) -> Result<Vec<&'a str>, AllocError>
+fn split_words<'a>(alloc: Global, text: &'a str) -> Result<SmallVec<&'a str, WORDS_MAX>, AllocError>
     ensures { IfOk result (λ words. texts_of words.items ≡ words_of text.now) }
 {
     text.split(' ').collect(alloc)

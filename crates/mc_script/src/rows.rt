@@ -15,7 +15,7 @@ pub fn write_rows(alloc: Global, rows: &[(Text, Bytes)], out: &mut Bytes) -> Res
     ensures err { OnErr result (out.new ≡ out.old) }
 {
     let len = out.len();
-    write_number(alloc, "rows", rows.len() as u64, out)?;
+    write_number("rows", rows.len() as u64, out)?;
     for row in rows {
         if let Err(error) = write_row(alloc, row, out) {
             out.truncate(len);
@@ -31,7 +31,7 @@ pub fn write_heads(alloc: Global, heads: &[(Cid, u64)], out: &mut Bytes) -> Resu
     ensures err { OnErr result (out.new ≡ out.old) }
 {
     let len = out.len();
-    write_number(alloc, "heads", heads.len() as u64, out)?;
+    write_number("heads", heads.len() as u64, out)?;
     for head in heads {
         if let Err(error) = write_head(alloc, head, out) {
             out.truncate(len);
@@ -48,7 +48,7 @@ fn write_row(alloc: Global, row: &(Text, Bytes), out: &mut Bytes) -> Result<(), 
 {
     let key = escape_key(alloc, row.0.as_bytes())?;
     let value = to_hex(alloc, row.1.as_slice())?;
-    write_pair(alloc, key.as_str(), value.as_str(), out)
+    write_pair(key.as_str(), value.as_str(), out)
 }
 
 // A head and its height.
@@ -57,5 +57,5 @@ fn write_head(alloc: Global, head: &(Cid, u64), out: &mut Bytes) -> Result<(), A
     ensures err { OnErr result (out.new ≡ out.old) }
 {
     let cid = to_text(alloc, &head.0)?;
-    write_number(alloc, cid.as_str(), head.1, out)
+    write_number(cid.as_str(), head.1, out)
 }

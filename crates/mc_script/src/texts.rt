@@ -1,22 +1,20 @@
 // The lines of a reply. A refusal leaves the bytes that are written to as they were.
 ghost use Rattle.std.specs.Prelude.{◌≡◌, ◌++◌, IfOk, OnOk, OnErr, string_bytes};
+ghost use Rattle.std.specs.List.{flat_map};
 ghost use Rattle.mc_script.specs.ReplyText.{clear_or_set, count_words, hex_text, joined, line, mark_words, number_line, pair_line, state_text, stormed_text, worked_text, yes_or_no};
+ghost use Rattle.mc_script.specs.Words.{text_of};
 
+use itoa::Buffer;
 use mc_base::Bytes;
 use std::alloc::{AllocError, Global};
 
 // A word and a number.
-pub fn write_number(
-    alloc: Global,
-    word: &str,
-    number: u64,
-    out: &mut Bytes,
-) -> Result<(), AllocError>
+pub fn write_number(word: &str, number: u64, out: &mut Bytes) -> Result<(), AllocError>
     ensures ok { OnOk result (out.new ≡ out.old ++ number_line word.now number) }
     ensures err { OnErr result (out.new ≡ out.old) }
 {
-    let text = format!(in alloc; "{word} {number}\n")?;
-    out.extend_from_slice(text.as_bytes())
+    let mut digits = Buffer::new();
+    write_pair(word, digits.format(number), out)
 }
 
 // A value.
@@ -24,23 +22,31 @@ pub fn write_value(alloc: Global, bytes: &[u8], out: &mut Bytes) -> Result<(), A
     ensures ok { OnOk result (out.new ≡ out.old ++ line (hex_text bytes.now)) }
     ensures err { OnErr result (out.new ≡ out.old) }
 {
-    let mut text = to_hex(alloc, bytes)?;
-    text.push('\n')?;
-    out.extend_from_slice(text.as_bytes())
+    let text = to_hex(alloc, bytes)?;
+    write_pieces(&[text.as_bytes(), b"\n"], out)
 }
 
 // Two texts, with a space between them.
-pub fn write_pair(
-    alloc: Global,
-    first: &str,
-    second: &str,
-    out: &mut Bytes,
-) -> Result<(), AllocError>
+pub fn write_pair(first: &str, second: &str, out: &mut Bytes) -> Result<(), AllocError>
     ensures ok { OnOk result (out.new ≡ out.old ++ pair_line first.now second.now) }
     ensures err { OnErr result (out.new ≡ out.old) }
 {
-    let text = format!(in alloc; "{first} {second}\n")?;
-    out.extend_from_slice(text.as_bytes())
+    write_pieces(&[first.as_bytes(), b" ", second.as_bytes(), b"\n"], out)
+}
+
+// Some texts, one behind the other.
+fn write_pieces(pieces: &[&[u8]], out: &mut Bytes) -> Result<(), AllocError>
+    ensures ok { OnOk result (out.new ≡ out.old ++ flat_map text_of pieces.now) }
+    ensures err { OnErr result (out.new ≡ out.old) }
+{
+    let len = out.len();
+    for piece in pieces {
+        if let Err(error) = out.extend_from_slice(piece) {
+            out.truncate(len);
+            return Err(error);
+        }
+    }
+    Ok(())
 }
 
 // How many blocks were processed, and are missing and bad.

@@ -11,7 +11,7 @@ use Rattle.mc_lend.specs.Lending.{HaveAt, HaveDesks}
 use Rattle.mc_pull.specs.Pulls.{DeskListGoes}
 use Rattle.mc_world.specs.declared.links.Link.{Link}
 use Rattle.mc_world.specs.declared.seat.Seat.{Seat}
-use Rattle.mc_world.specs.Desked.{desks_each, is_desked, is_full_list}
+use Rattle.mc_world.specs.Desked.{desk_sums, desks_each, is_desked, is_full_list}
 use Rattle.mc_world.specs.Pulling.{AreAsLong}
 use Rattle.mc_world.specs.Words.{place}
 use Rattle.mc_world.specs.Worlds.{Place, peer_row}
@@ -114,3 +114,9 @@ desked_again {D = D} seats mid news x y r desks lists left back list desked stan
     subst (λ (l : List (List D)). is_desked (length news) l ≡ true) (sym is)
     (and_from (nat_eq (length news) (length (insert left r list))) (list_all is_full_list (insert left r list))
     (ap (λ n. nat_eq n (length (insert left r list))) (sym (same_length seats mid news r x y stands out again)) ∙ ap (λ n. nat_eq (length seats) n) all.0 ∙ parts.0) all.1)
+
+-- there are as many counts as replicas with desks
+pub counts_long : {D : Type 0} (count : D → ℕ) (counts : List ℕ) (n m : ℕ) (desks back : List (List D)) → counts ≡ desk_sums count desks → n ≡ m → is_desked n desks ≡ true → is_desked m back ≡ true → length counts ≡ length back
+counts_long count counts n m desks back are same desked again =
+    ap length are ∙ map_long _ desks ∙ sym (as_many n (length desks) (and_parts (nat_eq n (length desks)) (list_all is_full_list desks) desked).0)
+    ∙ same ∙ as_many m (length back) (and_parts (nat_eq m (length back)) (list_all is_full_list back) again).0

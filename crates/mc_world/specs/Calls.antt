@@ -29,7 +29,15 @@ is_call (Query r prefix skip take) = true
 is_call (HeadsOf r) = true
 is_call command = false
 
--- what such a command makes of the batch, over every keeper
+-- those of them that only read
+abbrev pub is_read : Command → Bool
+is_read (Get r key) = true
+is_read (HasKey r key) = true
+is_read (Query r prefix skip take) = true
+is_read (HeadsOf r) = true
+is_read command = false
+
+-- what such a call makes of the batch, over every keeper
 abbrev pub BatchBy : Command → Option OpenBatch → Option OpenBatch → Type 0
 BatchBy (Begin r) old new = new ≡ Some empty_batch
 BatchBy (BatchPut r key bytes) old new = AddsPut key bytes old new

@@ -2,6 +2,7 @@
 ghost use Rattle.std.specs.Prelude.{◌≡◌, true, false, IfOk, IsErrOf};
 ghost use Rattle.std.specs.Prelude.{cond};
 ghost use Rattle.mc_script.specs.Limits.{IsInLimits};
+ghost use Rattle.mc_world.specs.Arming.{is_arming};
 ghost use Rattle.mc_world.specs.Asks.{arms, is_there};
 ghost use Rattle.mc_world.specs.Keepers.{WorldGoes};
 ghost use Rattle.mc_world.specs.Step.{answers_fault};
@@ -103,6 +104,29 @@ where
     ensures acts { ActsOn ⟦<Fused<K> as Keeper>⟧ K.Desk.faults command.now result world.old world.new }
 {
     match command {
+        Command::StopAt { r, commit } => arm_in(world, *r, *commit, false),
+        Command::StopAfter { r, commit } => arm_in(world, *r, *commit, true),
+        _ => act_over(world, alloc, command, gate, threads, wait),
+    }
+}
+
+// The same of one that arms no fuse, over every keeper.
+fn act_over<K: Keeper + Send + Sync, G: Gate + Sync, T: Threads + Sync, W: Wait + Sync>(
+    world: &mut World<K>,
+    alloc: Global,
+    command: &Command,
+    gate: &G,
+    threads: &T,
+    wait: &W,
+) -> Result<Reply, ActError>
+where
+    K::Desk: Send,
+    requires limits { IsInLimits command.now }
+    requires there { is_there (state K.Keeper K.Desk.faults world.old) command.now ≡ true }
+    requires plain { is_arming command.now ≡ false }
+    ensures acts { ActsOn K.Keeper K.Desk.faults command.now result world.old world.new }
+{
+    match command {
         Command::Cast { r } => cast_in(world, alloc, *r),
         Command::Wire { bytes } => send_in(world, alloc, bytes.as_slice()),
         Command::Hear { r, message } => hear_in(world, alloc, *r, *message),
@@ -121,8 +145,6 @@ where
         Command::Same { r, other } => same_in(world, *r, *other),
         Command::Stop { r } => stop_in(world, *r),
         Command::Open { r } => open_in(world, alloc, *r),
-        Command::StopAt { r, commit } => arm_in(world, *r, *commit, false),
-        Command::StopAfter { r, commit } => arm_in(world, *r, *commit, true),
         Command::Put { .. }
         | Command::Del { .. }
         | Command::Begin { .. }
@@ -134,5 +156,6 @@ where
         | Command::Query { .. }
         | Command::Heads { .. }
         | Command::State { .. } => reply_in(world, alloc, command),
+        Command::StopAt { .. } | Command::StopAfter { .. } => unreachable!(),
     }
 }

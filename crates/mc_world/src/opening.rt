@@ -15,6 +15,7 @@ ghost use Rattle.mc_world.specs.Words.{state};
 ghost use Rattle.mc_world.specs.Starts.{IsFirst};
 
 use crate::parting::{NoPart, Opened, open_part};
+use crate::record::push_counts;
 use crate::seat::{Held, Seat, wake};
 use crate::seats::{put_first, take_first};
 use crate::{NoWorld, Part, World};
@@ -57,6 +58,7 @@ impl<K: Keeper> World<K> {
         let World {
             seats,
             desks,
+            desk_counts: _,
             bag: _,
             down: _,
             room,
@@ -70,6 +72,7 @@ impl<K: Keeper> World<K> {
 struct Rooms<K: Keeper> {
     seats: Vec<Seat<K>>,
     desks: Vec<List<K::Desk>>,
+    counts: Vec<u64>,
 }
 
 // Room for so many replicas.
@@ -77,10 +80,16 @@ fn reserve<K: Keeper>(alloc: Global, count: usize) -> Result<Rooms<K>, AllocErro
     ensures empty { IfOk result (λ rooms. (rooms.seats.items ≡ []) × (rooms.desks.items ≡ [])) }
     ensures seats { IfOk result (λ rooms. count ≤ vec_capacity rooms.seats) }
     ensures desks { IfOk result (λ rooms. count ≤ vec_capacity rooms.desks) }
+    ensures counts { IfOk result (λ rooms. (rooms.counts.items ≡ []) × (count ≤ vec_capacity rooms.counts)) }
 {
+    let counts = Vec::with_capacity(alloc, count)?;
     let seats = Vec::with_capacity(alloc, count)?;
     match Vec::with_capacity(alloc, count) {
-        Ok(desks) => Ok(Rooms { seats, desks }),
+        Ok(desks) => Ok(Rooms {
+            seats,
+            desks,
+            counts,
+        }),
         Err(AllocError) => {
             seats.destroy_empty();
             Err(AllocError)
@@ -98,15 +107,21 @@ fn open_all<K: Keeper>(
     requires empty { (rooms.seats.items ≡ []) × (rooms.desks.items ≡ []) }
     requires seats { vec_len parts ≤ vec_capacity rooms.seats }
     requires desks { vec_len parts ≤ vec_capacity rooms.desks }
+    requires counts { (rooms.counts.items ≡ []) × (vec_len parts ≤ vec_capacity rooms.counts) }
     ensures opened { IfOk result (λ world.
         AreOpened K.Keeper K.Desk.faults parts.items world.seats.items world.desks.items) }
     ensures around { IfOk result (λ world. (world.bag ≡ []) × (world.down.items ≡ [])) }
     ensures entries { IfOk result (λ world. world.entries ≡ []) }
     ensures refused { IfErr result (λ refused. AreRefused K.Keeper refused.cause parts.items refused.parts) }
 {
-    let Rooms { seats, desks } = rooms;
+    let Rooms {
+        seats,
+        desks,
+        counts,
+    } = rooms;
     let mut seats = seats;
     let mut desks = desks;
+    let mut counts = counts;
     let mut parts = parts;
     while parts.len() > 0 {
         match open_part(alloc, take_first(&mut parts)) {
@@ -123,9 +138,11 @@ fn open_all<K: Keeper>(
             }
         }
     }
+    push_counts::<K>(&mut counts, desks.as_slice());
     Ok(World {
         seats,
         desks,
+        desk_counts: counts,
         bag: List::new(alloc),
         down: Vec::new(alloc),
         room: parts,

@@ -14,6 +14,7 @@ ghost use Rattle.mc_world.specs.Works.{repaired_reply, worked_reply};
 ghost use Rattle.mc_world.specs.Worlds.{peer_row, place_with};
 
 use crate::links::Link;
+use crate::record::recount;
 use crate::seat::{Held, Seat};
 use crate::seats::{put_at, take_at};
 use crate::sites::{let_go, sites_of};
@@ -64,6 +65,7 @@ where
     );
     put_at(&mut world.desks, r as usize, list);
     put_at(&mut world.seats, r as usize, seat);
+    recount::<K>(&mut world.desk_counts, world.desks.as_slice());
     match worked {
         Ok(worked) => worked_answer(worked),
         Err(AllocError) => Err(ActError::Memory),
@@ -103,6 +105,7 @@ where
     );
     put_at(&mut world.desks, r as usize, list);
     put_at(&mut world.seats, r as usize, seat);
+    recount::<K>(&mut world.desk_counts, world.desks.as_slice());
     match repaired {
         Ok(repaired) => repaired_answer(repaired),
         Err(AllocError) => Err(ActError::Memory),

@@ -1,21 +1,26 @@
 // The record of a line: what failed in it.
-ghost use Rattle.std.specs.Prelude.{◌≡◌, ◌≤◌, ◌+◌, ◌++◌, [], ◌∷◌, OnErr, OnOk, IfOk, length};
+ghost use Rattle.std.specs.Prelude.{◌≡◌, ◌≤◌, ◌+◌, ◌++◌, [], ◌∷◌, OnErr, OnOk, IfOk, length, vec_capacity, vec_len};
 ghost use Rattle.mc_world.specs.Counting.{desk_counts, fault_counts, own_counts, risen_from, rises};
 ghost use Rattle.mc_world.specs.Counting.{HasRecord, entry_since};
+ghost use Rattle.mc_world.specs.Desked.{desk_sums};
 ghost use Rattle.mc_world.specs.Keepers.{desk_count, keeper_of};
 
 use crate::seat::{Held, Seat};
 use crate::{LineEntry, World};
 use mc_base::{Counted, List};
 use mc_keep::Keeper;
+use smallvec::SmallVec;
 use std::alloc::{AllocError, Global};
+
+// Of so many replicas the counts take no memory of their own.
+const FEW: usize = 8;
 
 // How often the keepers of a world have failed, how often by themselves, and how often the desks, by replica.
 #[derive(Drop)]
 pub(crate) struct Counts {
-    pub(crate) keepers: Vec<u64>,
-    pub(crate) own: Vec<u64>,
-    pub(crate) desks: Vec<u64>,
+    pub(crate) keepers: SmallVec<u64, FEW>,
+    pub(crate) own: SmallVec<u64, FEW>,
+    pub(crate) desks: SmallVec<u64, FEW>,
 }
 
 // What is counted in a world now.
@@ -26,7 +31,7 @@ pub(crate) fn counts_of<K: Keeper>(world: &World<K>, alloc: Global) -> Result<Co
 {
     let keepers = faults_of(alloc, world.seats.as_slice())?;
     let own = own_of(alloc, world.seats.as_slice())?;
-    let desks = desks_of::<K>(alloc, world.desks.as_slice())?;
+    let desks = SmallVec::from_slice(alloc, world.desk_counts.as_slice())?;
     Ok(Counts {
         keepers,
         own,
@@ -34,34 +39,43 @@ pub(crate) fn counts_of<K: Keeper>(world: &World<K>, alloc: Global) -> Result<Co
     })
 }
 
-fn faults_of<K: Keeper>(alloc: Global, seats: &[Seat<K>]) -> Result<Vec<u64>, AllocError>
+fn faults_of<K: Keeper>(alloc: Global, seats: &[Seat<K>]) -> Result<SmallVec<u64, FEW>, AllocError>
     ensures { IfOk result (λ counts. counts.items ≡ fault_counts K.faults seats.now) }
 {
-    let mut counts = Vec::with_capacity(alloc, seats.len())?;
+    let mut counts = SmallVec::with_capacity(alloc, seats.len())?;
     for seat in seats {
         counts.push(keeper_of(seat).faults())?;
     }
     Ok(counts)
 }
 
-fn own_of<K: Keeper>(alloc: Global, seats: &[Seat<K>]) -> Result<Vec<u64>, AllocError>
+fn own_of<K: Keeper>(alloc: Global, seats: &[Seat<K>]) -> Result<SmallVec<u64, FEW>, AllocError>
     ensures { IfOk result (λ counts. counts.items ≡ own_counts K.own seats.now) }
 {
-    let mut counts = Vec::with_capacity(alloc, seats.len())?;
+    let mut counts = SmallVec::with_capacity(alloc, seats.len())?;
     for seat in seats {
         counts.push(keeper_of(seat).own_faults())?;
     }
     Ok(counts)
 }
 
-fn desks_of<K: Keeper>(alloc: Global, desks: &[List<K::Desk>]) -> Result<Vec<u64>, AllocError>
-    ensures { IfOk result (λ counts. counts.items ≡ desk_counts K.Desk.faults desks.now) }
+// Counts the desks of the replicas once more, of which there are as many as counts.
+pub(crate) fn recount<K: Keeper>(counts: &mut Vec<u64>, desks: &[List<K::Desk>])
+    requires { length counts.old.items ≡ length desks.now }
+    ensures { counts.new.items ≡ desk_sums K.Desk.faults desks.now }
 {
-    let mut counts = Vec::with_capacity(alloc, desks.len())?;
+    counts.clear();
+    push_counts::<K>(counts, desks);
+}
+
+// Adds the counts of the desks of some replicas. Takes no memory.
+pub(crate) fn push_counts<K: Keeper>(counts: &mut Vec<u64>, desks: &[List<K::Desk>])
+    requires { vec_len counts.old + length desks.now ≤ vec_capacity counts.old }
+    ensures { counts.new.items ≡ counts.old.items ++ desk_sums K.Desk.faults desks.now }
+{
     for list in desks {
-        counts.push(count_desks::<K>(list.as_slice()))?;
+        counts.push_reserved(count_desks::<K>(list.as_slice()));
     }
-    Ok(counts)
 }
 
 // The counts of some desks together, at most `u64::MAX`.

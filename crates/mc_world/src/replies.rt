@@ -6,7 +6,7 @@ ghost use Rattle.mc_core.specs.Exact.{front_of, stop_front};
 ghost use Rattle.mc_core.specs.Refusals.{is_fault};
 ghost use Rattle.mc_core.specs.Words.{Acts, Continues};
 ghost use Rattle.mc_world.specs.declared.acting.ActError.{ActError};
-ghost use Rattle.mc_world.specs.Calls.{is_call, CallLeaves, CallMakes};
+ghost use Rattle.mc_world.specs.Calls.{is_call, is_read, CallLeaves, CallMakes};
 ghost use Rattle.mc_world.specs.Effects.{CallRefusal, Leaves, EventsOf, answer_of, batch_priority, call_front};
 ghost use Rattle.mc_world.specs.Step.{answers_fault};
 ghost use Rattle.mc_world.specs.Words.{can_fail};
@@ -59,6 +59,44 @@ pub(crate) fn call<K: Keeper>(
         Command::Commit { .. } => Ok(Reply::Priority {
             priority: batch_priority(replica.batch_commit(alloc)?),
         }),
+        Command::Get { .. } | Command::Has { .. } | Command::Query { .. } | Command::Heads { .. } =>
+            read(replica, alloc, command),
+        Command::Cast { .. }
+        | Command::Wire { .. }
+        | Command::Hear { .. }
+        | Command::Plant { .. }
+        | Command::Link { .. }
+        | Command::Step { .. }
+        | Command::Work { .. }
+        | Command::Repair { .. }
+        | Command::Storm { .. }
+        | Command::State { .. }
+        | Command::Same { .. }
+        | Command::Stop { .. }
+        | Command::Open { .. }
+        | Command::StopAt { .. }
+        | Command::StopAfter { .. } => unreachable!(),
+    }
+}
+
+// The same for a command that only reads.
+fn read<K: Keeper>(
+    replica: &mut Replica<K>,
+    alloc: Global,
+    command: &Command,
+) -> Result<Reply, CoreError>
+    requires read { is_read command.now ≡ true }
+    ensures call { (w : WorldState) → Acts K.Keeper (λ s. CallRefusal w s command.now) (λ s. EventsOf w s command.now)
+        (Leaves command.now) result replica.old replica.new }
+    ensures keeps { Continues K.Keeper (is_fault result) replica.old replica.new }
+    ensures front { (w : WorldState) →
+        front_of result ≡ stop_front replica.old.stopped (call_front w replica.old.batch command.now) }
+    ensures value { answers_fault result ≡ false }
+    ensures may { can_fail command.now ≡ false → is_fault result ≡ false }
+    ensures leaves { CallLeaves K.Keeper command.now result replica.old replica.new }
+    ensures makes { IfOk result (CallMakes K.Keeper command.now replica.old replica.new) }
+{
+    match command {
         Command::Get { key, .. } => Ok(Reply::Value {
             value: replica.get(alloc, key.as_str())?,
         }),
@@ -76,21 +114,7 @@ pub(crate) fn call<K: Keeper>(
         Command::Heads { .. } => Ok(Reply::Heads {
             heads: heads_of(alloc, replica.heads(alloc)?.as_slice())?,
         }),
-        Command::Cast { .. }
-        | Command::Wire { .. }
-        | Command::Hear { .. }
-        | Command::Plant { .. }
-        | Command::Link { .. }
-        | Command::Step { .. }
-        | Command::Work { .. }
-        | Command::Repair { .. }
-        | Command::Storm { .. }
-        | Command::State { .. }
-        | Command::Same { .. }
-        | Command::Stop { .. }
-        | Command::Open { .. }
-        | Command::StopAt { .. }
-        | Command::StopAfter { .. } => unreachable!(),
+        _ => unreachable!(),
     }
 }
 

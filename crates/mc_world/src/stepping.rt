@@ -18,6 +18,7 @@ ghost use Rattle.mc_world.specs.Worlds.{peer_row};
 
 use crate::jobs::{begin_at, deliver_at, give_back_at};
 use crate::peers::find_among;
+use crate::record::recount;
 use crate::{ActError, World};
 use mc_base::{Bytes, Cid};
 use mc_fetch::{FetchError, Found, Job};
@@ -76,7 +77,7 @@ fn find<K: Keeper, W: Wait>(
         return Ok(Found::Bytes(bytes));
     }
     let seats = world.seats.as_slice();
-    match find_among(
+    let found = find_among(
         alloc,
         seats,
         &mut world.desks,
@@ -84,7 +85,9 @@ fn find<K: Keeper, W: Wait>(
         r,
         cid,
         wait,
-    ) {
+    );
+    recount::<K>(&mut world.desk_counts, world.desks.as_slice());
+    match found {
         Ok(Some(bytes)) => Ok(Found::Bytes(bytes)),
         Ok(None) => Ok(Found::Missing),
         Err(error) => Err(error),

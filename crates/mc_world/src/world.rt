@@ -1,6 +1,6 @@
 // The replicas of a run, what is around them, and the record of its lines.
 ghost use Rattle.std.specs.Prelude.{◌≡◌, ◌≤◌, [], true, length, vec_capacity};
-ghost use Rattle.mc_world.specs.Desked.{is_desked};
+ghost use Rattle.mc_world.specs.Desked.{desk_sums, is_desked};
 
 use crate::LineEntry;
 use crate::links::Link;
@@ -31,6 +31,8 @@ pub struct NoWorld<K: Keeper> {
 pub struct World<K: Keeper> {
     pub(crate) seats: Vec<Seat<K>>,
     pub(crate) desks: Vec<List<K::Desk>>,
+    // How often the desks of each replica have failed.
+    pub(crate) desk_counts: Vec<u64>,
     pub(crate) bag: List<Bytes>,
     pub(crate) down: Vec<Link>,
     // Room for the parts that are handed back.
@@ -38,6 +40,7 @@ pub struct World<K: Keeper> {
     /// One entry for each line that was executed.
     pub entries: List<LineEntry>,
     pub ghost desked: { is_desked (length seats.items) desks.items ≡ true },
+    pub ghost counted: { desk_counts.items ≡ desk_sums K.Desk.faults desks.items },
     pub ghost empty: { room.items ≡ [] },
     pub ghost roomy: { length seats.items ≤ vec_capacity room },
 }

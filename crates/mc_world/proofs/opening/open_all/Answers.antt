@@ -1,4 +1,5 @@
-use Rattle.std.proofs.Common.{◌≡◌, arith, length, ap}
+use Rattle.std.proofs.Common.{◌≡◌, ◌∙◌, ◌++◌, arith, length, ap}
+use Rattle.mc_world.specs.Desked.{desk_sums}
 use Rattle.mc_world.proofs.OpeningFacts.{none_of_length, opened_desked, opened_length, opening_begins, opening_more, opening_refused}
 use Rattle.mc_world.proofs.opening.open_all.Goals as goal
 
@@ -10,6 +11,7 @@ loop-parts-init g c =
       omega (arith, seats, c.args.rooms.seats.ok, c.requires.seats),
       omega (arith, desks, c.args.rooms.desks.ok, c.requires.desks),
       omega (arith, seats, c.args.rooms.seats.ok, c.args.parts.ok),
+      omega (arith, desks, c.args.rooms.desks.ok, c.requires.counts.1),
     )
 
 pub loop-parts-preserved : goal.loop-parts-preserved
@@ -19,6 +21,7 @@ loop-parts-preserved g c =
       omega (arith, inv.1, c.push_reserved.ensures.len, c.push_reserved.ensures.capacity, c.take_first.ensures.len),
       omega (arith, inv.2, c.push_reserved-in-Ok.ensures.len, c.push_reserved-in-Ok.ensures.capacity, c.take_first.ensures.len),
       omega (arith, inv.3, c.push_reserved.ensures.len, c.take_first.ensures.len, c.take_first.ensures.capacity),
+      omega (arith, inv.4, c.push_reserved-in-Ok.ensures.len, c.take_first.ensures.len),
     )
 
 pub join-parts-requires-clause-same : goal.join-parts-requires-clause-same
@@ -33,6 +36,7 @@ invariant_of-result g c =
     let none : length c.loop-parts.parts.items ≡ 0 = omega (arith, c.loop-parts.parts.ok, c.len.ensures, c.loop-parts-test.false) in
     record {
       desked = opened_desked _ _ _ _ _ inv.0.opened;
+      counted = c.push_counts.ensures ∙ ap (λ l. l ++ desk_sums g.K.Desk.Counted.faults c.as_slice.result.now) c.requires.counts.0 ∙ ap (desk_sums g.K.Desk.Counted.faults) c.as_slice.ensures.value;
       empty = none_of_length _ none;
       roomy = omega (arith, inv.3, c.loop-parts.seats.ok, c.loop-parts.parts.ok);
     }

@@ -13,6 +13,7 @@ compare-requires g c = record {
 pub invariant_of-world : goal.invariant_of-world
 invariant_of-world g c = record {
   desked = still_desked _ _ _ c.compare.ensures.len (search rules);
+  counted = c.args.world.now.counted;
   empty = search rules;
   roomy = still_roomy _ _ _ c.compare.ensures.len c.args.world.now.roomy;
 }

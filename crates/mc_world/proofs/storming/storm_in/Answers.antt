@@ -7,6 +7,7 @@ use Rattle.mc_world.proofs.storming.storm_in.Goals as goal
 pub invariant_of-world : goal.invariant_of-world
 invariant_of-world g c = let same = same_length _ _ _ _ _ _ c.take_at-seat.ensures.taken c.take_at-seat.ensures.items c.put_at.ensures in record {
   desked = still_desked _ _ _ same (search rules);
+  counted = c.args.world.now.counted;
   empty = search rules;
   roomy = still_roomy _ _ _ same c.args.world.now.roomy;
 }

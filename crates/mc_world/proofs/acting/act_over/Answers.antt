@@ -1,4 +1,4 @@
-use Rattle.mc_world.proofs.acting.act_on.Goals as goal
+use Rattle.mc_world.proofs.acting.act_over.Goals as goal
 
 pub returns-in-Step : goal.returns-in-Step
 returns-in-Step g c = record { acts = rw c.in-Step.is c.step_in.ensures.acts }
