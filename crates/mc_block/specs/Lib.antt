@@ -1,3 +1,3 @@
 pub mod Limits
 pub mod Reads
-pub mod Seen
+pub mod Faults

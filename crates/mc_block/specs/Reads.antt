@@ -4,7 +4,7 @@ use Rattle.std.specs.Result.{result_ok}
 use Rattle.mc_base.specs.NodeRead.{NodeFault, NodeText, node_of}
 use Rattle.mc_base.specs.declared.cid.Cid.{Cid}
 use Rattle.mc_model.specs.Offer as model
-use Rattle.mc_block.specs.Seen.{damage_of}
+use Rattle.mc_block.specs.Faults.{damage_of}
 use Rattle.mc_block.specs.declared.fault.BlockError.{BlockError}
 use Rattle.mc_block.specs.declared.fault.BlockError.TheVariants.{Damaged, Memory}
 

@@ -1,7 +1,7 @@
 // Why bytes are no block.
 ghost use Rattle.std.specs.Prelude.{◌≡◌};
 ghost use Rattle.mc_model.specs.Found.{damage_number};
-ghost use Rattle.mc_block.specs.Seen.{damage_of, of_node, of_delta};
+ghost use Rattle.mc_block.specs.Faults.{damage_of, of_node, of_delta};
 ghost use Rattle.mc_block.specs.declared.fault.BlockError.TheVariants.{Memory, Damaged};
 
 use mc_base::Cid;

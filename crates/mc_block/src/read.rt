@@ -6,7 +6,7 @@ ghost use Rattle.mc_base.specs.NodeRead.{node_of};
 ghost use Rattle.mc_model.specs.Offer as offers;
 ghost use Rattle.mc_model.specs.Offer.{offer, is_good, block_of, block_of_node, cid_of_bytes, links_from, data_of};
 ghost use Rattle.mc_dagpb.specs.Reads.{view_text};
-ghost use Rattle.mc_block.specs.Seen.{damage_of};
+ghost use Rattle.mc_block.specs.Faults.{damage_of};
 ghost use Rattle.mc_base.specs.declared.cid.Cid.{Cid as Identifier};
 ghost use Rattle.mc_block.specs.Reads.{IsDamage, node_links, named_links};
 

@@ -5,7 +5,7 @@ use Rattle.std.specs.List.{cons_option}
 use Rattle.mc_base.specs.Cid.{cid_digest}
 use Rattle.mc_base.specs.Wire.{Field, part_of, parts_of}
 use Rattle.mc_base.specs.WireRead.{Placed, fields_in, fields_of, fronts_from}
-use Rattle.mc_wire.specs.Seen.{FaultAt, FieldAt, fault_named, field_at, fronts_at}
+use Rattle.mc_wire.specs.Named.{FaultAt, FieldAt, fault_named, field_at, fronts_at}
 use Rattle.mc_wire.specs.declared.fault.WireFaultAt.{WireFaultAt}
 use Rattle.mc_wire.specs.declared.field.Field.{Field as PlacedField}
 use Rattle.mc_cast.specs.Cast.{digest_in, first_fault, last_of}

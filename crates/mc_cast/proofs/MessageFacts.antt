@@ -3,7 +3,7 @@ use Rattle.std.proofs.Common.{◌≡◌, ℕ, ◌≤◌, List, [], ◌∷◌, �
 use Rattle.std.specs.Prelude.{option_map, option_and_then}
 use Rattle.mc_base.specs.Wire.{Field, part_of}
 use Rattle.mc_base.specs.WireRead.{Front, NoKey, NoContent, Placed, WireFault, Whole, fault_of, fields_in, fields_of, front_of, fronts_from}
-use Rattle.mc_wire.specs.Seen.{FaultAt, FieldAt, fault_named, field_at, fronts_at}
+use Rattle.mc_wire.specs.Named.{FaultAt, FieldAt, fault_named, field_at, fronts_at}
 use Rattle.mc_wire.specs.declared.fault.WireFaultAt.{WireFaultAt}
 use Rattle.mc_wire.specs.declared.field.Field.{Field as PlacedField}
 use Rattle.mc_cast.specs.declared.fault.CastFault.TheVariants.{Wire, BadCid}

@@ -1,7 +1,7 @@
 -- What a reading of a broadcast answers.
 use Rattle.std.specs.Prelude.{◌≡◌, ◌↔◌, ℕ, List, map, length, All, Option, None, Some, IsSome, ⊤}
 use Rattle.mc_base.specs.WireRead.{fronts_from}
-use Rattle.mc_wire.specs.Seen.{fault_named}
+use Rattle.mc_wire.specs.Named.{fault_named}
 use Rattle.mc_cast.specs.Cast.{cast_bytes, cast_fault, first_unnamed, heads_of}
 use Rattle.mc_cast.specs.declared.fault.CastFault.{CastFault}
 use Rattle.mc_cast.specs.declared.fault.CastFault.TheVariants.{Wire, BadCid}

@@ -4,7 +4,7 @@ use denote.Ref.{Bor}
 use Rattle.mc_base.specs.Cid.{cid_digest}
 use Rattle.mc_base.specs.declared.cid.Cid.{Cid}
 use Rattle.mc_base.specs.WireRead.{fields_of, fronts_from}
-use Rattle.mc_wire.specs.Seen.{fault_named}
+use Rattle.mc_wire.specs.Named.{fault_named}
 use Rattle.mc_cast.specs.declared.fault.CastFault.TheVariants.{Wire, BadCid}
 use Rattle.mc_cast.specs.declared.fault.CastError.{CastError}
 use Rattle.mc_cast.specs.declared.fault.CastError.TheVariants.{Memory, Fault}

@@ -2,7 +2,7 @@
 ghost use Rattle.std.specs.Prelude.{◌≡◌, ◌≤◌, length, None, Some, IfOk, IfErr, option_map};
 ghost use Rattle.mc_base.specs.Wire as wire;
 ghost use Rattle.mc_base.specs.WireRead.{fields_of, fronts_from};
-ghost use Rattle.mc_wire.specs.Seen.{EndsAt, fault_named, field_at};
+ghost use Rattle.mc_wire.specs.Named.{EndsAt, fault_named, field_at};
 ghost use Rattle.mc_cast.specs.Cast as cast;
 ghost use Rattle.mc_cast.specs.Steps.{digest, digest_after, text_of};
 

@@ -12,9 +12,9 @@ use Rattle.mc_keep.specs.declared.fuse.Fuse.{Fuse}
 use Rattle.mc_core.specs.declared.error.CoreError.{CoreError}
 use Rattle.mc_core.specs.declared.made.Planned.{Planned}
 use Rattle.mc_core.specs.declared.made.Written.{Written}
-use Rattle.mc_core.specs.Batches.{batch_put_refusal, BatchPutPlan, batch_delete_refusal, BatchDeletePlan, commit_refusal, CommitPlan, commit_kept_refusal, batch_made_refusal, delta_of_batch, BatchBecomes, OfBatch}
+use Rattle.mc_core.specs.Batches.{batch_put_refusal, BatchPutEvents, batch_delete_refusal, BatchDeleteEvents, commit_refusal, CommitEvents, commit_kept_refusal, batch_made_refusal, delta_of_batch, BatchBecomes, OfBatch}
 use Rattle.mc_core.specs.Events.{ReplicaState, state_of, Goes}
-use Rattle.mc_core.specs.Plans.{plan_events}
+use Rattle.mc_core.specs.Uptakes.{uptake_events}
 use Rattle.mc_core.specs.Puts.{IsPlanned, next_links}
 use Rattle.mc_keep.specs.Causes.{is_fault_kind}
 use Rattle.mc_keep.specs.Plan.{is_fault}
@@ -41,25 +41,25 @@ told_batch (Some kept) fuse stop run after up =
     subst (λ b. Goes (Batch after ∷ []) (at kept fuse (run_of b run)) (at kept fuse (run_of b (with_batch run after)))) (sym up) (batch_goes kept fuse run after)
 
 -- a call that changes the batch, after reads
-pub batch_call : {T : Type 0} (Refusal : ReplicaState → Option CoreError → Type 0) (Plan : ReplicaState → List Event → T → Type 0) (told told_new : Option Kept) (fuse fuse_new : Option Fuse) (stop : Bool) (run : Running) (after : Option OpenBatch) (rose : Type 0) (value : T)
+pub batch_call : {T : Type 0} (Refusal : ReplicaState → Option CoreError → Type 0) (Uptake : ReplicaState → List Event → T → Type 0) (told told_new : Option Kept) (fuse fuse_new : Option Fuse) (stop : Bool) (run : Running) (after : Option OpenBatch) (rose : Type 0) (value : T)
     → stop ≡ false → told_new ≡ told → fuse_new ≡ fuse
-    → IfSome told (λ kept. Refusal (at kept fuse (run_of false run)) None × Plan (at kept fuse (run_of false run)) (Batch after ∷ []) value)
-    → Told (state_of told fuse (run_of stop run)) (state_of told_new fuse_new (run_of stop (with_batch run after))) (Calls Refusal Plan rose (Ok value))
-batch_call Refusal Plan None told_new fuse fuse_new stop run after rose value up e f plan = tt
-batch_call Refusal Plan (Some kept) told_new fuse fuse_new stop run after rose value up e f plan =
-    subst (λ t. Told (state_of (Some kept) fuse (run_of stop run)) (state_of t fuse_new (run_of stop (with_batch run after))) (Calls Refusal Plan rose (Ok value))) (sym e)
-    (subst (λ x. Calls Refusal Plan rose (Ok value) (at kept fuse (run_of stop run)) (at kept x (run_of stop (with_batch run after)))) (sym f)
-    (subst (λ b. Calls Refusal Plan rose (Ok value) (at kept fuse (run_of b run)) (at kept fuse (run_of b (with_batch run after)))) (sym up)
-    (record { allowed = plan.0; events = Batch after ∷ []; plan = plan.1; goes = batch_goes kept fuse run after })))
+    → IfSome told (λ kept. Refusal (at kept fuse (run_of false run)) None × Uptake (at kept fuse (run_of false run)) (Batch after ∷ []) value)
+    → Told (state_of told fuse (run_of stop run)) (state_of told_new fuse_new (run_of stop (with_batch run after))) (Calls Refusal Uptake rose (Ok value))
+batch_call Refusal Uptake None told_new fuse fuse_new stop run after rose value up e f uptake = tt
+batch_call Refusal Uptake (Some kept) told_new fuse fuse_new stop run after rose value up e f uptake =
+    subst (λ t. Told (state_of (Some kept) fuse (run_of stop run)) (state_of t fuse_new (run_of stop (with_batch run after))) (Calls Refusal Uptake rose (Ok value))) (sym e)
+    (subst (λ x. Calls Refusal Uptake rose (Ok value) (at kept fuse (run_of stop run)) (at kept x (run_of stop (with_batch run after)))) (sym f)
+    (subst (λ b. Calls Refusal Uptake rose (Ok value) (at kept fuse (run_of b run)) (at kept fuse (run_of b (with_batch run after)))) (sym up)
+    (record { allowed = uptake.0; events = Batch after ∷ []; uptake = uptake.1; goes = batch_goes kept fuse run after })))
 
 -- a call that ended early, with the batch as it was
-pub early_batch : {T : Type 0} (Refusal : ReplicaState → Option CoreError → Type 0) (Plan : ReplicaState → List Event → T → Type 0) (told told_new : Option Kept) (fuse fuse_new : Option Fuse) (stop stop_new : Bool) (run : Running) (after : Option OpenBatch) (rose : Type 0) (error : CoreError)
+pub early_batch : {T : Type 0} (Refusal : ReplicaState → Option CoreError → Type 0) (Uptake : ReplicaState → List Event → T → Type 0) (told told_new : Option Kept) (fuse fuse_new : Option Fuse) (stop stop_new : Bool) (run : Running) (after : Option OpenBatch) (rose : Type 0) (error : CoreError)
     → after ≡ run.batch → stop ≡ false → told_new ≡ told → fuse_new ≡ fuse → stop_new ≡ stops error false → (is_fault_kind (kind_of error) ≡ true → rose)
     → IfSome told (λ kept. IsDue (Refusal (at kept fuse (run_of false run))) error)
-    → Told (state_of told fuse (run_of stop run)) (state_of told_new fuse_new (run_of stop_new (with_batch run after))) (Calls Refusal Plan rose (Err error))
-early_batch Refusal Plan told told_new fuse fuse_new stop stop_new run after rose error same up e f g r due =
-    subst (λ b. Told (state_of told fuse (run_of stop run)) (state_of told_new fuse_new (run_of stop_new (with_batch run b))) (Calls Refusal Plan rose (Err error))) (sym same)
-    (early_call Refusal Plan told told_new fuse fuse_new stop stop_new run rose error up e f g r due)
+    → Told (state_of told fuse (run_of stop run)) (state_of told_new fuse_new (run_of stop_new (with_batch run after))) (Calls Refusal Uptake rose (Err error))
+early_batch Refusal Uptake told told_new fuse fuse_new stop stop_new run after rose error same up e f g r due =
+    subst (λ b. Told (state_of told fuse (run_of stop run)) (state_of told_new fuse_new (run_of stop_new (with_batch run b))) (Calls Refusal Uptake rose (Err error))) (sym same)
+    (early_call Refusal Uptake told told_new fuse fuse_new stop stop_new run rose error up e f g r due)
 
 none_after : (first second : Option CoreError) → first ≡ None → second ≡ None → None ≡ option_or first second
 none_after first second e f = sym (ap (λ x. option_or x second) e ∙ f)
@@ -71,7 +71,7 @@ PutsInto held after key value =
 
 pub put_into : {T : Type 0} (told : Option Kept) (fuse : Option Fuse) (run : Running) (batch after : OpenBatch) (key value : List ℕ) (answer : T) → run.batch ≡ Some batch → key_refusal key ≡ None → value_refusal value ≡ None
     → after ≡ batch_put key value batch
-    → IfSome told (λ kept. Is (batch_put_refusal (at kept fuse (run_of false run)) key value) None × BatchPutPlan (at kept fuse (run_of false run)) key value (Batch (Some after) ∷ []) answer)
+    → IfSome told (λ kept. Is (batch_put_refusal (at kept fuse (run_of false run)) key value) None × BatchPutEvents (at kept fuse (run_of false run)) key value (Batch (Some after) ∷ []) answer)
 put_into told fuse run batch after key value answer e f g is =
     told_always told _ (λ kept. subst (λ held. PutsInto held after key value) (sym e) (none_after (key_refusal key) (value_refusal value) f g, ap (λ b. Batch (Some b) ∷ []) is))
 
@@ -82,7 +82,7 @@ DeletesInto kept held after key =
 
 pub delete_into : {T : Type 0} (back : BackLaw) (told : Option Kept) (fuse : Option Fuse) (run : Running) (batch after : OpenBatch) (key : List ℕ) (answer : T) → run.batch ≡ Some batch → key_refusal key ≡ None
     → IfSome told (λ kept. after ≡ batch_delete key (pairs (processed kept) key) batch)
-    → IfSome told (λ kept. Is (batch_delete_refusal (at kept fuse (run_of false run)) key) None × BatchDeletePlan (at kept fuse (run_of false run)) key (Batch (Some after) ∷ []) answer)
+    → IfSome told (λ kept. Is (batch_delete_refusal (at kept fuse (run_of false run)) key) None × BatchDeleteEvents (at kept fuse (run_of false run)) key (Batch (Some after) ∷ []) answer)
 delete_into back None fuse run batch after key answer e f is = tt
 delete_into back (Some kept) fuse run batch after key answer e f is =
     subst (λ k. DeletesInto k run.batch after key) (sym (back kept)) (subst (λ held. DeletesInto kept held after key) (sym e) (sym f, ap (λ b. Batch (Some b) ∷ []) is))
@@ -116,17 +116,17 @@ abbrev Both : Kept → OpenBatch → Bool → List Event → Option Written → 
 Both kept batch empty events answer = Is (cond empty None (batch_made_refusal kept batch)) None × BatchBecomes kept batch empty events answer
 
 abbrev PlannedAt : Option Kept → Option Fuse → Running → List Event → Option Written → Type 0
-PlannedAt told fuse run events answer = IfSome told (λ kept. Is (commit_refusal (at kept fuse (run_of false run))) None × CommitPlan (at kept fuse (run_of false run)) events answer)
+PlannedAt told fuse run events answer = IfSome told (λ kept. Is (commit_refusal (at kept fuse (run_of false run))) None × CommitEvents (at kept fuse (run_of false run)) events answer)
 
 pub commit_plan : (back : BackLaw) (told : Option Kept) (fuse : Option Fuse) (run : Running) (batch : OpenBatch) (planned : Planned) → run.batch ≡ Some batch → false ≡ is_empty_batch batch
     → IfSome told (λ kept. batch_made_refusal kept batch ≡ None) → IfSome told (λ kept. IsPlanned kept run.whole (next_links kept) (delta_of_batch kept batch) planned)
-    → PlannedAt told fuse run (plan_events planned.plan ++ Batch None ∷ []) (Some planned.written)
-commit_plan back None fuse run batch planned e full allowed plan = tt
-commit_plan back (Some kept) fuse run batch planned e full allowed plan =
-    subst (λ k. CommitsAs k run.batch (plan_events planned.plan ++ Batch None ∷ []) (Some planned.written)) (sym (back kept))
-    (subst (λ held. CommitsAs kept held (plan_events planned.plan ++ Batch None ∷ []) (Some planned.written)) (sym e)
-    (subst (λ b. Both kept batch b (plan_events planned.plan ++ Batch None ∷ []) (Some planned.written)) full
-    (sym allowed, (ap (λ (events : List Event). events ++ Batch None ∷ []) (plan_is_made kept run.whole (next_links kept) (delta_of_batch kept batch) planned plan), ap Some plan.written))))
+    → PlannedAt told fuse run (uptake_events planned.uptake ++ Batch None ∷ []) (Some planned.written)
+commit_plan back None fuse run batch planned e full allowed uptake = tt
+commit_plan back (Some kept) fuse run batch planned e full allowed uptake =
+    subst (λ k. CommitsAs k run.batch (uptake_events planned.uptake ++ Batch None ∷ []) (Some planned.written)) (sym (back kept))
+    (subst (λ held. CommitsAs kept held (uptake_events planned.uptake ++ Batch None ∷ []) (Some planned.written)) (sym e)
+    (subst (λ b. Both kept batch b (uptake_events planned.uptake ++ Batch None ∷ []) (Some planned.written)) full
+    (sym allowed, (ap (λ (events : List Event). events ++ Batch None ∷ []) (plan_is_made kept run.whole (next_links kept) (delta_of_batch kept batch) planned uptake), ap Some uptake.written))))
 
 pub commit_empty : (told : Option Kept) (fuse : Option Fuse) (run : Running) (batch : OpenBatch) → run.batch ≡ Some batch → true ≡ is_empty_batch batch → PlannedAt told fuse run (Batch None ∷ []) None
 commit_empty told fuse run batch e empty =

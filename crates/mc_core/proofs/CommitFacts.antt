@@ -12,9 +12,9 @@ use Rattle.mc_keep.specs.Causes.{burnt, fires, CommitFails}
 use Rattle.mc_keep.specs.Changes.{changed}
 use Rattle.mc_keep.specs.Tables.{StoreFits, MarksFit, ChangesFit}
 use Rattle.mc_model.specs.Wanted.{Queue, without}
-use Rattle.mc_core.specs.declared.plan.After.{After}
+use Rattle.mc_core.specs.declared.uptake.After.{After}
 use Rattle.mc_core.specs.Events.{ReplicaState, state_of, Goes, CommitBreaks, Breaks}
-use Rattle.mc_core.specs.Plans.{IsReady, wants}
+use Rattle.mc_core.specs.Uptakes.{IsReady, wants}
 use Rattle.mc_core.specs.Counted.{run_of}
 
 -- a commit that only stores is this event

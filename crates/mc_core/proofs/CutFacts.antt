@@ -19,13 +19,13 @@ use Rattle.mc_core.specs.declared.deletes.MadeBlock.{MadeBlock}
 use Rattle.mc_core.specs.declared.error.CoreError.{CoreError}
 use Rattle.mc_core.specs.Deletes.{AddsDeleted, AddsSome, AreNext, IsDelete, IsDeltas, Takes, all_events, chain_blocks, with_all}
 use Rattle.mc_core.specs.Events.{ReplicaState, state_of, all_happen, goes_on, stopped_with, Goes, IsCutShort}
-use Rattle.mc_core.specs.Plans.{with_store}
+use Rattle.mc_core.specs.Uptakes.{with_store}
 use Rattle.mc_core.specs.Puts.{Adds, next_links}
 use Rattle.mc_core.specs.Refusals.{kind_of}
 use Rattle.mc_core.specs.Counted.{run_of}
 use Rattle.mc_core.proofs.DeletedFacts.{HeadsLaw}
 use Rattle.mc_core.proofs.KindFacts.{kinds, by_kind}
-use Rattle.mc_core.proofs.PlanFacts.{SoundLaw, SameLaw, StoredLaw}
+use Rattle.mc_core.proofs.UptakeFacts.{SoundLaw, SameLaw, StoredLaw}
 use Rattle.mc_core.proofs.PutFacts.{BackLaw}
 use Rattle.mc_core.proofs.ShortFacts.{after_all, after_one, blocks_are, follows_processed, kept_one, next_take}
 use Rattle.mc_core.proofs.TakenFacts.{running, goes_follow, made_take, next_all}

@@ -19,7 +19,7 @@ use Rattle.mc_core.specs.declared.deletes.Deleted.{Deleted}
 use Rattle.mc_core.specs.declared.deletes.MadeBlock.{MadeBlock}
 use Rattle.mc_core.specs.declared.error.CoreError.{CoreError}
 use Rattle.mc_core.specs.Calls.{Call}
-use Rattle.mc_core.specs.Deletes.{chain_clash, AreMade, AreNext, IsDelete, DeleteKeptRefusal, DeletePlan, DeleteRefusal, DeleteShort, all_events, Takes}
+use Rattle.mc_core.specs.Deletes.{chain_clash, AreMade, AreNext, IsDelete, DeleteKeptRefusal, DeleteEvents, DeleteRefusal, DeleteShort, all_events, Takes}
 use Rattle.mc_core.specs.Events.{ReplicaState, state_of, Goes}
 use Rattle.mc_core.specs.Puts.{next_links}
 use Rattle.mc_core.specs.Refusals.{IsDue, key_refusal, kind_of, stops}
@@ -52,11 +52,11 @@ abbrev running : Durable → Running → Option Fuse → ReplicaState
 running durable run fuse = record { state = record { durable = durable; run = Some run }; fuse = fuse }
 
 abbrev DeleteCall : List ℕ → Type 0 → Result Deleted CoreError → ReplicaState → ReplicaState → Type 0
-DeleteCall key rose result s new = Call (DeleteRefusal s key) (DeletePlan s key) (DeleteShort s key) rose result s new
+DeleteCall key rose result s new = Call (DeleteRefusal s key) (DeleteEvents s key) (DeleteShort s key) rose result s new
 
-plan_is : (durable : Durable) (run : Running) (fuse : Option Fuse) (key : List ℕ) (blocks : List MadeBlock) (deleted : Deleted) → IsDelete (kept_of durable) key blocks → deleted.blocks ≡ length blocks
-    → DeletePlan (running durable run fuse) key (all_events (kept_of durable) blocks) deleted
-plan_is durable run fuse key blocks deleted is e = (
+uptake_is : (durable : Durable) (run : Running) (fuse : Option Fuse) (key : List ℕ) (blocks : List MadeBlock) (deleted : Deleted) → IsDelete (kept_of durable) key blocks → deleted.blocks ≡ length blocks
+    → DeleteEvents (running durable run fuse) key (all_events (kept_of durable) blocks) deleted
+uptake_is durable run fuse key blocks deleted is e = (
   is.deltas,
   is.is,
   events_all is.deltas blocks (kept_of durable) (next_links (kept_of durable)) is.are,
@@ -69,14 +69,14 @@ call_of durable run fuse key blocks rose (Ok deleted) new good is takes = record
   allowed = subst (λ fault. DeleteKeptRefusal (kept_of durable) key fault None) (sym good)
       (inl (is.deltas, is.is, sym (chain_none is.deltas blocks (kept_of durable) (next_links (kept_of durable)) is.are)));
   events = all_events (kept_of durable) blocks;
-  plan = plan_is durable run fuse key blocks deleted is takes.1;
+  uptake = uptake_is durable run fuse key blocks deleted is takes.1;
   goes = takes.0;
 }
 call_of durable run fuse key blocks rose (Err error) new good is takes =
     let links : List Cid = next_links (kept_of durable) in
     let deleted : Deleted = record { blocks = length blocks } in
     by_kind (kind_of error) (λ never. absurd never)
-    (λ breaks. record { events = all_events (kept_of durable) blocks; begins = inr (deleted, plan_is durable run fuse key blocks deleted is refl); breaks = breaks })
+    (λ breaks. record { events = all_events (kept_of durable) blocks; begins = inr (deleted, uptake_is durable run fuse key blocks deleted is refl); breaks = breaks })
     (λ some. inr (
       is.deltas,
       some.0,
@@ -112,7 +112,7 @@ delete_call back told mid fuse fuse_mid stop run new key blocks own own_mid own_
 
 -- a delete that made no blocks
 
-short_is : (key : List ℕ) (rose : Type 0) (error : CoreError) (s new : ReplicaState) → Calls {T = Deleted} (λ s. DeleteRefusal s key) (λ s. DeletePlan s key) rose (Err error) s new → DeleteCall key rose (Err error) s new
+short_is : (key : List ℕ) (rose : Type 0) (error : CoreError) (s new : ReplicaState) → Calls {T = Deleted} (λ s. DeleteRefusal s key) (λ s. DeleteEvents s key) rose (Err error) s new → DeleteCall key rose (Err error) s new
 short_is key rose error s new call = by_kind (kind_of error) (λ x. x) (λ x. x) (λ same. inl same) call
 
 delete_due : (back : BackLaw) (told : Option Kept) (fuse : Option Fuse) (run : Running) (key : List ℕ) (error : CoreError) → IfSome told (λ kept. IsDue (DeleteKeptRefusal kept key (key_refusal key)) error)
@@ -125,5 +125,5 @@ pub delete_early : (back : BackLaw) (told told_new : Option Kept) (fuse fuse_new
     → IfSome told (λ kept. IsDue (DeleteKeptRefusal kept key (key_refusal key)) error)
     → Told (state_of told fuse (run_of stop run)) (state_of told_new fuse_new (run_of stop_new run)) (DeleteCall key rose (Err error))
 delete_early back told told_new fuse fuse_new stop stop_new run key rose error up e f g r due =
-    told_weaker (Calls {T = Deleted} (λ s. DeleteRefusal s key) (λ s. DeletePlan s key) rose (Err error)) (DeleteCall key rose (Err error)) (short_is key rose error) _ _
-    (early_call (λ s. DeleteRefusal s key) (λ s. DeletePlan s key) told told_new fuse fuse_new stop stop_new run rose error up e f g r (delete_due back told fuse run key error due))
+    told_weaker (Calls {T = Deleted} (λ s. DeleteRefusal s key) (λ s. DeleteEvents s key) rose (Err error)) (DeleteCall key rose (Err error)) (short_is key rose error) _ _
+    (early_call (λ s. DeleteRefusal s key) (λ s. DeleteEvents s key) told told_new fuse fuse_new stop stop_new run rose error up e f g r (delete_due back told fuse run key error due))

@@ -25,14 +25,14 @@ use Rattle.mc_fetch.specs.declared.job.Delivered.{Delivered}
 use Rattle.mc_fetch.specs.declared.job.Delivered.TheVariants.{Processed, Missing, Bad, Known}
 use Rattle.mc_core.specs.declared.deliveries.Arrival.{Arrival}
 use Rattle.mc_core.specs.declared.deliveries.Taken.{Taken}
-use Rattle.mc_core.specs.declared.plan.Plan.{Plan}
+use Rattle.mc_core.specs.declared.uptake.Uptake.{Uptake}
 use Rattle.mc_core.specs.declared.error.CoreError.{CoreError}
 use Rattle.mc_core.specs.declared.error.CoreError.TheVariants.{KeeperFault, Memory}
 use Rattle.mc_core.specs.Calls.{Call, Faults}
 use Rattle.mc_core.specs.Counted.{AreSound, run_of}
 use Rattle.mc_core.specs.Events.{ReplicaState, state_of, Goes}
-use Rattle.mc_core.specs.Jobs.{DeliversIn, DeliverPlan, DeliverShort, IsDelivered, IsTaken, TakesArrival}
-use Rattle.mc_core.specs.Plans.{IsNew, IsNoOther, IsPlan, IsSomePlan, open_links, plan_events, store_change, with_store}
+use Rattle.mc_core.specs.Jobs.{DeliversIn, DeliverEvents, DeliverShort, IsDelivered, IsTaken, TakesArrival}
+use Rattle.mc_core.specs.Uptakes.{IsNew, IsNoOther, IsUptake, IsSomeUptake, open_links, uptake_events, store_change, with_store}
 use Rattle.mc_core.specs.Reads.{read_refusal}
 use Rattle.mc_core.specs.Refusals.{Is, kind_of}
 use Rattle.mc_core.proofs.CallFacts.{at, nothing_done}
@@ -59,7 +59,7 @@ delivers_block law kept cid bytes block good =
 
 -- a call that delivers
 abbrev pub Calls : Cid → Option (List ℕ) → Type 0 → Result Delivered CoreError → ReplicaState → ReplicaState → Type 0
-Calls cid found rose result s new = Call (Is (read_refusal s)) (DeliverPlan s cid found) (DeliverShort s cid) rose result s new
+Calls cid found rose result s new = Call (Is (read_refusal s)) (DeliverEvents s cid found) (DeliverShort s cid) rose result s new
 
 module _ (told told_new : Option Kept) (fuse fuse_new : Option Fuse) (stop : Bool) (run : Running) (cid : Cid) (rose : Type 0) (up : stop ≡ false) (same : told_new ≡ told) (same_fuse : fuse_new ≡ fuse) where
   -- where the block isn't in flight nothing happens
@@ -69,7 +69,7 @@ module _ (told told_new : Option Kept) (fuse fuse_new : Option Fuse) (stop : Boo
       (becomes (Calls cid found rose (Ok Known)) told told_new fuse fuse_new stop false run run up same same_fuse (told_always told _ (λ kept. record {
         allowed = refl;
         events = [];
-        plan = subst (λ t. DeliversIn t (durable_of kept) cid found [] Known) (sym out) (refl, refl);
+        uptake = subst (λ t. DeliversIn t (durable_of kept) cid found [] Known) (sym out) (refl, refl);
         goes = goes_nowhere (at kept fuse (Some run));
       })))
 
@@ -83,7 +83,7 @@ module _ (told told_new : Option Kept) (fuse fuse_new : Option Fuse) (stop : Boo
         (becomes (Calls cid found rose (Ok answer)) told told_new fuse fuse_new stop false run (with_queue run q) up same same_fuse (told_always told _ (λ kept. record {
           allowed = refl;
           events = delivery (durable_of kept).graph cid found;
-          plan = subst (λ t. DeliversIn t (durable_of kept) cid found (delivery (durable_of kept).graph cid found) answer) (sym there) (refl, is kept);
+          uptake = subst (λ t. DeliversIn t (durable_of kept) cid found (delivery (durable_of kept).graph cid found) answer) (sym there) (refl, is kept);
           goes = goes kept;
         })))
 
@@ -117,52 +117,52 @@ module _ (told told_new : Option Kept) (fuse fuse_new : Option Fuse) (stop : Boo
   pub deliver_failed : (found : Option (List ℕ)) (q : Queue) → rose → Told (state_of told fuse (run_of stop run)) (state_of told_new fuse_new None) (Calls cid found rose (Err KeeperFault))
   deliver_failed found q r =
       becomes (Calls cid found rose (Err KeeperFault)) told told_new fuse fuse_new stop true run run up same same_fuse
-      (told_always told _ (λ kept. nothing_done (DeliverPlan (at kept fuse (Some run)) cid found) rose (at kept fuse (Some run)) r))
+      (told_always told _ (λ kept. nothing_done (DeliverEvents (at kept fuse (Some run)) cid found) rose (at kept fuse (Some run)) r))
 
 -- the commits of a block that was found are its delivery
 pub arrival_call : (law : GraphLaw) (told mid : Option Kept) (fuse fuse_mid : Option Fuse) (stop : Bool) (run : Running) (new : Option ReplicaState) (cid : Cid) (bytes : List ℕ) (block : Block) (arrival : Arrival) (own own_mid own_new : ℕ)
-    (result : Result Delivered CoreError) → stop ≡ false → mid ≡ told → fuse_mid ≡ fuse → own ≤ own_mid → has cid run.queue.flight ≡ true → offer cid bytes ≡ Ok block → arrival.plan.after.cid ≡ cid
-    → IfSome told (λ kept. plan_events arrival.plan ≡ with_store (store_change kept.graph cid bytes) (Process (cid ∷ []) ∷ [])) → IfSome told (λ kept. arrival.position ≡ length kept.order)
+    (result : Result Delivered CoreError) → stop ≡ false → mid ≡ told → fuse_mid ≡ fuse → own ≤ own_mid → has cid run.queue.flight ≡ true → offer cid bytes ≡ Ok block → arrival.uptake.after.cid ≡ cid
+    → IfSome told (λ kept. uptake_events arrival.uptake ≡ with_store (store_change kept.graph cid bytes) (Process (cid ∷ []) ∷ [])) → IfSome told (λ kept. arrival.position ≡ length kept.order)
     → IfOk result (λ answer. answer ≡ Processed arrival.position)
-    → Told (state_of mid fuse_mid (run_of stop run)) new (TakesArrival arrival.plan (Rose own_mid own_new) result)
+    → Told (state_of mid fuse_mid (run_of stop run)) new (TakesArrival arrival.uptake (Rose own_mid own_new) result)
     → Told (state_of told fuse (run_of stop run)) new (Calls cid (Some bytes) (Rose own own_new) result)
 arrival_call law told mid fuse fuse_mid stop run new cid bytes block arrival own own_mid own_new result up e f later there good same events position says takes =
     subst (λ b. Told (state_of told fuse (run_of b run)) new (Calls cid (Some bytes) (Rose own own_new) result)) (sym up)
-    (over told new events position (subst (λ b. Told (state_of told fuse (run_of b run)) new (TakesArrival arrival.plan (Rose own_mid own_new) result)) up
-    (subst (λ x. Told (state_of told x (run_of stop run)) new (TakesArrival arrival.plan (Rose own_mid own_new) result)) f
-    (subst (λ t. Told (state_of t fuse_mid (run_of stop run)) new (TakesArrival arrival.plan (Rose own_mid own_new) result)) e takes))))
+    (over told new events position (subst (λ b. Told (state_of told fuse (run_of b run)) new (TakesArrival arrival.uptake (Rose own_mid own_new) result)) up
+    (subst (λ x. Told (state_of told x (run_of stop run)) new (TakesArrival arrival.uptake (Rose own_mid own_new) result)) f
+    (subst (λ t. Told (state_of t fuse_mid (run_of stop run)) new (TakesArrival arrival.uptake (Rose own_mid own_new) result)) e takes))))
   where
-    planned : (kept : Kept) → plan_events arrival.plan ≡ with_store (store_change kept.graph cid bytes) (Process (cid ∷ []) ∷ []) → arrival.position ≡ length kept.order
-        → DeliverPlan (at kept fuse (Some run)) cid (Some bytes) (plan_events arrival.plan) (Processed arrival.position)
+    planned : (kept : Kept) → uptake_events arrival.uptake ≡ with_store (store_change kept.graph cid bytes) (Process (cid ∷ []) ∷ []) → arrival.position ≡ length kept.order
+        → DeliverEvents (at kept fuse (Some run)) cid (Some bytes) (uptake_events arrival.uptake) (Processed arrival.position)
     planned kept is place =
-        subst (λ t. DeliversIn t (durable_of kept) cid (Some bytes) (plan_events arrival.plan) (Processed arrival.position)) (sym there)
+        subst (λ t. DeliversIn t (durable_of kept) cid (Some bytes) (uptake_events arrival.uptake) (Processed arrival.position)) (sym there)
         (is ∙ delivers_block law kept cid bytes block good, (bytes, block, refl, good, place))
 
     ends : (kept : Kept) (after : ReplicaState) (result : Result Delivered CoreError) → IfOk result (λ answer. answer ≡ Processed arrival.position)
-        → DeliverPlan (at kept fuse (Some run)) cid (Some bytes) (plan_events arrival.plan) (Processed arrival.position)
-        → TakesArrival arrival.plan (Rose own_mid own_new) result (at kept fuse (Some run)) after → Calls cid (Some bytes) (Rose own own_new) result (at kept fuse (Some run)) after
-    ends kept after (Ok answer) says plan takes =
-        record { allowed = refl; events = plan_events arrival.plan; plan = subst (DeliverPlan (at kept fuse (Some run)) cid (Some bytes) (plan_events arrival.plan)) (sym says) plan; goes = takes }
-    ends kept after (Err error) says plan takes =
+        → DeliverEvents (at kept fuse (Some run)) cid (Some bytes) (uptake_events arrival.uptake) (Processed arrival.position)
+        → TakesArrival arrival.uptake (Rose own_mid own_new) result (at kept fuse (Some run)) after → Calls cid (Some bytes) (Rose own own_new) result (at kept fuse (Some run)) after
+    ends kept after (Ok answer) says uptake takes =
+        record { allowed = refl; events = uptake_events arrival.uptake; uptake = subst (DeliverEvents (at kept fuse (Some run)) cid (Some bytes) (uptake_events arrival.uptake)) (sym says) uptake; goes = takes }
+    ends kept after (Err error) says uptake takes =
         by_kind (kind_of error) (λ never. absurd never)
         (λ breaks. record {
-          events = plan_events arrival.plan;
-          begins = inr (Processed arrival.position, plan);
-          breaks = breaks_rose (plan_events arrival.plan) (Rose own_mid own_new) (Rose own own_new) (at kept fuse (Some run)) after (λ r. omega (arith, r, later)) breaks;
+          events = uptake_events arrival.uptake;
+          begins = inr (Processed arrival.position, uptake);
+          breaks = breaks_rose (uptake_events arrival.uptake) (Rose own_mid own_new) (Rose own own_new) (at kept fuse (Some run)) after (λ r. omega (arith, r, later)) breaks;
         })
         (λ back. (there, subst (λ c. Goes (GiveBack c ∷ []) (at kept fuse (Some run)) after) same back)) takes
 
-    over : (told : Option Kept) (new : Option ReplicaState) → IfSome told (λ kept. plan_events arrival.plan ≡ with_store (store_change kept.graph cid bytes) (Process (cid ∷ []) ∷ [])) → IfSome told (λ kept. arrival.position ≡ length kept.order)
-        → Told (state_of told fuse (run_of false run)) new (TakesArrival arrival.plan (Rose own_mid own_new) result) → Told (state_of told fuse (run_of false run)) new (Calls cid (Some bytes) (Rose own own_new) result)
+    over : (told : Option Kept) (new : Option ReplicaState) → IfSome told (λ kept. uptake_events arrival.uptake ≡ with_store (store_change kept.graph cid bytes) (Process (cid ∷ []) ∷ [])) → IfSome told (λ kept. arrival.position ≡ length kept.order)
+        → Told (state_of told fuse (run_of false run)) new (TakesArrival arrival.uptake (Rose own_mid own_new) result) → Told (state_of told fuse (run_of false run)) new (Calls cid (Some bytes) (Rose own own_new) result)
     over None new events position takes = tt
     over (Some kept) None events position takes = absurd takes
     over (Some kept) (Some after) events position takes = ends kept after result says (planned kept events position) takes
 
 -- a block is planned to be taken up
 
-pub some_told : (told : Option Kept) (whole : Bool) (block : Block) (bytes : List ℕ) (plan : Plan) → IfSome told (λ kept. IsPlan kept whole block bytes plan) → IfSome told (λ kept. IsSomePlan kept whole plan)
-some_told None whole block bytes plan is = tt
-some_told (Some kept) whole block bytes plan is = record { block = block; bytes = bytes; plans = is }
+pub some_told : (told : Option Kept) (whole : Bool) (block : Block) (bytes : List ℕ) (uptake : Uptake) → IfSome told (λ kept. IsUptake kept whole block bytes uptake) → IfSome told (λ kept. IsSomeUptake kept whole uptake)
+some_told None whole block bytes uptake is = tt
+some_told (Some kept) whole block bytes uptake is = record { block = block; bytes = bytes; plans = is }
 
 pub new_told : (told : Option Kept) (cid : Cid) (taken : Taken) (known : Bool) (links : List Cid) → IsTaken cid taken → IfSome told (λ kept. is_among kept.order cid ≡ false) → IfSome told (λ kept. known ≡ is_stored kept.graph cid)
     → IfSome told (λ kept. known ≡ is_stored kept.graph cid → IsNoOther (bytes_at kept.graph cid) taken.bytes) → IfSome told (λ kept. links ≡ open_links kept taken.block) → IfSome told (λ kept. IsNew kept taken.block taken.bytes links)
@@ -184,11 +184,11 @@ same_store graph cid bytes other true known found =
     ∙ ap (λ t. cond t None (Some (record no_changes { store = record { cid = cid; bytes = bytes } ∷ [] }))) known
 same_store graph cid bytes other false known found = ap (store_change graph cid) (found refl)
 
-pub events_told : (told : Option Kept) (whole : Bool) (cid : Cid) (bytes : List ℕ) (taken : Taken) (known : Bool) (plan : Plan) → IsTaken cid taken → IfSome told (λ kept. known ≡ is_stored kept.graph cid) → (known ≡ false → taken.bytes ≡ bytes)
-    → IfSome told (λ kept. IsPlan kept whole taken.block taken.bytes plan) → IfSome told (λ kept. plan_events plan ≡ with_store (store_change kept.graph cid bytes) (Process (cid ∷ []) ∷ []))
-events_told None whole cid bytes taken known plan good stored found is = tt
-events_told (Some kept) whole cid bytes taken known plan good stored found is =
-    ap (λ store. with_store store (Process plan.process.marks ∷ [])) is.store
+pub events_told : (told : Option Kept) (whole : Bool) (cid : Cid) (bytes : List ℕ) (taken : Taken) (known : Bool) (uptake : Uptake) → IsTaken cid taken → IfSome told (λ kept. known ≡ is_stored kept.graph cid) → (known ≡ false → taken.bytes ≡ bytes)
+    → IfSome told (λ kept. IsUptake kept whole taken.block taken.bytes uptake) → IfSome told (λ kept. uptake_events uptake ≡ with_store (store_change kept.graph cid bytes) (Process (cid ∷ []) ∷ []))
+events_told None whole cid bytes taken known uptake good stored found is = tt
+events_told (Some kept) whole cid bytes taken known uptake good stored found is =
+    ap (λ store. with_store store (Process uptake.process.marks ∷ [])) is.store
     ∙ ap (λ (marks : List Cid). with_store (store_change kept.graph taken.block.cid taken.bytes) (Process marks ∷ [])) is.process.marks
     ∙ ap (λ (c : Cid). with_store (store_change kept.graph c taken.bytes) (Process (c ∷ []) ∷ [])) good.1
     ∙ ap (λ store. with_store store (Process (cid ∷ []) ∷ [])) (same_store kept.graph cid bytes taken.bytes known stored found)

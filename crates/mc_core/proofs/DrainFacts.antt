@@ -11,7 +11,7 @@ use Rattle.mc_core.specs.declared.error.CoreError.{CoreError}
 use Rattle.mc_core.specs.Calls.{Call}
 use Rattle.mc_core.specs.Drained.{CallDrains, DrainsOn}
 use Rattle.mc_core.specs.Events.{ReplicaState, Goes, HappensIn}
-use Rattle.mc_core.specs.Jobs.{DeliverPlan, DeliverShort, DeliversIn, NextPlan, NextShort}
+use Rattle.mc_core.specs.Jobs.{DeliverEvents, DeliverShort, DeliversIn, NextEvents, NextShort}
 use Rattle.mc_core.specs.Reads.{read_refusal}
 use Rattle.mc_core.specs.Refusals.{Is, kind_of}
 use Rattle.mc_core.proofs.KindFacts.{by_kind}
@@ -46,9 +46,9 @@ module _ (goes_on : (bytes_of : FoundBytes) (kept : List Cid) (old : Durable) (s
   back_drains : (bytes_of : FoundBytes) (c : Cid) (s new : ReplicaState) → Goes (GiveBack c ∷ []) s new → DrainsOn bytes_of s new
   back_drains bytes_of c s new goes = goes_drains bytes_of (GiveBack c ∷ []) s new (takes_back bytes_of c s.state.durable s.state.run goes.may.0, tt) goes
 
-  pub next_drains : (bytes_of : FoundBytes) (rose : Type 0) (result : Result (Option Job) CoreError) (s new : ReplicaState) → Call (Is (read_refusal s)) (NextPlan s) (NextShort s) rose result s new → CallDrains bytes_of result s new
-  next_drains bytes_of rose (Ok None) s new call = goes_drains bytes_of [] s new tt (subst (λ events. Goes events s new) call.plan.1 call.goes)
-  next_drains bytes_of rose (Ok (Some job)) s new call = want_drains bytes_of s new (subst (λ events. Goes events s new) call.plan.2 call.goes)
+  pub next_drains : (bytes_of : FoundBytes) (rose : Type 0) (result : Result (Option Job) CoreError) (s new : ReplicaState) → Call (Is (read_refusal s)) (NextEvents s) (NextShort s) rose result s new → CallDrains bytes_of result s new
+  next_drains bytes_of rose (Ok None) s new call = goes_drains bytes_of [] s new tt (subst (λ events. Goes events s new) call.uptake.1 call.goes)
+  next_drains bytes_of rose (Ok (Some job)) s new call = want_drains bytes_of s new (subst (λ events. Goes events s new) call.uptake.2 call.goes)
   next_drains bytes_of rose (Err error) s new call =
       by_kind (kind_of error) (λ refused. stays_drains bytes_of s new refused.1) (λ fault. tt)
       (λ short. goes_drains bytes_of (Want ∷ GiveBack short.0 ∷ []) s new
@@ -87,16 +87,16 @@ module _ (goes_on : (bytes_of : FoundBytes) (kept : List Cid) (old : Durable) (s
       → TakesAll bytes_of (record { durable = durable; run = Some run }) (delivery durable.graph c found)) where
     takes_delivery : (bytes_of : FoundBytes) (c : Cid) (found : Option (List ℕ)) (durable : Durable) (run : Option Running) (events : List Event) (answer : Delivered) → IsFoundFor bytes_of c found
         → DeliversIn (has c (queue_in run).flight) durable c found events answer → TakesAll bytes_of (record { durable = durable; run = run }) events
-    takes_delivery bytes_of c found durable None events answer fits plan = subst (TakesAll bytes_of (record { durable = durable; run = None })) (sym plan.1) tt
-    takes_delivery bytes_of c found durable (Some run) events answer fits plan =
+    takes_delivery bytes_of c found durable None events answer fits uptake = subst (TakesAll bytes_of (record { durable = durable; run = None })) (sym uptake.1) tt
+    takes_delivery bytes_of c found durable (Some run) events answer fits uptake =
         elim (has c run.queue.flight) as (λ t. has c run.queue.flight ≡ t → DeliversIn t durable c found events answer → TakesAll bytes_of (record { durable = durable; run = Some run }) events) [
-          | true ↦ λ e plan. subst (TakesAll bytes_of (record { durable = durable; run = Some run })) (sym plan.0) (takes bytes_of durable run c found e fits)
-          | false ↦ λ e plan. subst (TakesAll bytes_of (record { durable = durable; run = Some run })) (sym plan.1) tt
-        ] refl plan
+          | true ↦ λ e uptake. subst (TakesAll bytes_of (record { durable = durable; run = Some run })) (sym uptake.0) (takes bytes_of durable run c found e fits)
+          | false ↦ λ e uptake. subst (TakesAll bytes_of (record { durable = durable; run = Some run })) (sym uptake.1) tt
+        ] refl uptake
 
     pub deliver_drains : (bytes_of : FoundBytes) (c : Cid) (found : Option (List ℕ)) (rose : Type 0) (result : Result Delivered CoreError) (s new : ReplicaState) → IsFoundFor bytes_of c found
-        → Call (Is (read_refusal s)) (DeliverPlan s c found) (DeliverShort s c) rose result s new → CallDrains bytes_of result s new
+        → Call (Is (read_refusal s)) (DeliverEvents s c found) (DeliverShort s c) rose result s new → CallDrains bytes_of result s new
     deliver_drains bytes_of c found rose (Ok answer) s new fits call =
-        goes_drains bytes_of call.events s new (takes_delivery bytes_of c found s.state.durable s.state.run call.events answer fits call.plan) call.goes
+        goes_drains bytes_of call.events s new (takes_delivery bytes_of c found s.state.durable s.state.run call.events answer fits call.uptake) call.goes
     deliver_drains bytes_of c found rose (Err error) s new fits call =
         by_kind (kind_of error) (λ refused. stays_drains bytes_of s new refused.1) (λ fault. tt) (λ short. back_drains bytes_of c s new short.1) call

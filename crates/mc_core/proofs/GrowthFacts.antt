@@ -14,7 +14,7 @@ use Rattle.mc_model.proofs.Prefix.{goes_on_then}
 use Rattle.mc_keep.specs.declared.fuse.Fuse.{Fuse}
 use Rattle.mc_keep.specs.Causes.{fires, CommitFails}
 use Rattle.mc_core.specs.Events.{ReplicaState, all_happen, MayHappen, Goes, IsCutShort, Breaks}
-use Rattle.mc_core.specs.Plans.{with_store}
+use Rattle.mc_core.specs.Uptakes.{with_store}
 use Rattle.mc_core.specs.Puts.{made_events}
 use Rattle.mc_core.proofs.SoundFacts.{all_after}
 

@@ -3,7 +3,7 @@ use Rattle.std.proofs.Common.{◌≡◌, ℕ, ◌+◌, ◌≤◌, Bool, true, fa
 use Rattle.std.specs.Prelude.{IfSome, IfOk, IfErr, OnOk, OnErr}
 use Rattle.mc_base.specs.Told.{Told}
 use Rattle.mc_base.specs.declared.cid.Cid.{Cid}
-use Rattle.mc_wire.specs.Seen.{fault_named}
+use Rattle.mc_wire.specs.Named.{fault_named}
 use Rattle.mc_wire.specs.declared.fault.WireFault.{WireFault as Fault}
 use Rattle.mc_wire.specs.declared.fault.WireFault.TheVariants.{Short, LongVarint, WireType, FieldZero}
 use Rattle.mc_cast.specs.Cast.{first_unnamed}
@@ -27,7 +27,7 @@ use Rattle.mc_core.specs.declared.error.CoreError.TheVariants.{BadCast}
 use Rattle.mc_core.specs.declared.hears.Heard.{Heard}
 use Rattle.mc_core.specs.Counted.{AreSound, run_of}
 use Rattle.mc_core.specs.Events.{ReplicaState, state_of}
-use Rattle.mc_core.specs.Hears.{HearPlan, IsQueued, IsRefusalOf, NamesNew, cast_refusal, fault_as, hear_refusal}
+use Rattle.mc_core.specs.Hears.{HearEvents, IsQueued, IsRefusalOf, NamesNew, cast_refusal, fault_as, hear_refusal}
 use Rattle.mc_core.specs.Refusals.{Is}
 use Rattle.mc_core.proofs.CallFacts.{at, Calls}
 use Rattle.mc_core.proofs.SoundFacts.{silent_sound, sound_state, state_sound}
@@ -127,18 +127,18 @@ Due text s = Is (hear_refusal s text)
 pub hear_call : (told told_new : Option Kept) (fuse fuse_new : Option Fuse) (stop : Bool) (run : Running) (left : Queue) (rose : Type 0) (text : List ℕ) (new : List Cid) (heard : Heard)
     → stop ≡ false → told_new ≡ told → fuse_new ≡ fuse → AreSound stop told run → cast_refusal text ≡ None → IfSome told (λ kept. NamesNew text kept.order new)
     → left ≡ hear_all [] run.queue new → IsQueued run.queue left heard.queued
-    → Told (state_of told fuse (run_of stop run)) (state_of told_new fuse_new (run_of stop (heard_run run left))) (Calls (Due text) (λ s. HearPlan s text) rose (Ok heard))
+    → Told (state_of told fuse (run_of stop run)) (state_of told_new fuse_new (run_of stop (heard_run run left))) (Calls (Due text) (λ s. HearEvents s text) rose (Ok heard))
 hear_call None told_new fuse fuse_new stop run left rose text new heard up e f sound allowed names is queued = tt
 hear_call (Some kept) told_new fuse fuse_new true run left rose text new heard up e f sound allowed names is queued = absurd (cc)
 hear_call (Some kept) told_new fuse fuse_new false run left rose text new heard up e f sound allowed names is queued =
-    let Does : ReplicaState → ReplicaState → Type 0 = Calls (Due text) (λ s. HearPlan s text) rose (Ok heard) in
+    let Does : ReplicaState → ReplicaState → Type 0 = Calls (Due text) (λ s. HearEvents s text) rose (Ok heard) in
     let whole : left ≡ hear_all kept.order run.queue names.cids = left_is kept run left text new (sound.once kept refl refl) names is in
     subst (λ t. Told (state_of (Some kept) fuse (Some run)) (state_of t fuse_new (Some (heard_run run left))) Does) (sym e)
     (subst (λ x. Does (at kept fuse (Some run)) (at kept x (Some (heard_run run left)))) (sym f)
     (record {
       allowed = sym allowed;
       events = Hear names.cids ∷ [];
-      plan = record { cids = names.cids; named = names.named; only = refl; queued = subst (λ (r : Queue). IsQueued run.queue r heard.queued) whole queued };
+      uptake = record { cids = names.cids; named = names.named; only = refl; queued = subst (λ (r : Queue). IsQueued run.queue r heard.queued) whole queued };
       goes = record { may = (tt, refl, tt); ends = ap (λ (r : Queue). at kept fuse (Some (heard_run run r))) whole };
     }))
 

@@ -6,7 +6,7 @@ use Rattle.std.proofs.lemmas.Bool.{and_parts}
 use Rattle.mc_base.specs.declared.cid.Cid.{Cid}
 use Rattle.mc_model.specs.Front.{same_cid, is_among}
 use Rattle.mc_model.specs.Graph.{has}
-use Rattle.mc_core.specs.Plans.{IsNoOther}
+use Rattle.mc_core.specs.Uptakes.{IsNoOther}
 
 pub known_is : (found : Option (List ℕ)) (bytes : List ℕ) → is_some found ≡ true → IsNoOther found bytes → found ≡ Some bytes
 known_is None bytes e known = absurd (let f : false ≡ true = e in cc)

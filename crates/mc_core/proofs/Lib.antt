@@ -18,7 +18,7 @@ pub mod KnownFacts
 pub mod MadeFacts
 pub mod OpenFacts
 pub mod PartFacts
-pub mod PlanFacts
+pub mod UptakeFacts
 pub mod PutFacts
 pub mod RefusalFacts
 pub mod SettledFacts

@@ -14,15 +14,15 @@ use Rattle.mc_core.specs.declared.deletes.MadeBlock.{MadeBlock}
 use Rattle.mc_core.specs.declared.error.CoreError.{CoreError}
 use Rattle.mc_core.specs.declared.made.Planned.{Planned}
 use Rattle.mc_core.specs.declared.made.Written.{Written}
-use Rattle.mc_core.specs.declared.plan.Plan.{Plan}
+use Rattle.mc_core.specs.declared.uptake.Uptake.{Uptake}
 use Rattle.mc_core.specs.Batches.{AddsBatch, OfBatch, delta_of_batch}
 use Rattle.mc_core.specs.Deletes.{block_events, with_all}
 use Rattle.mc_core.specs.Events.{ReplicaState, state_of, all_happen, goes_on, Goes, Part}
-use Rattle.mc_core.specs.Plans.{IsNew, IsPlan, plan_events}
+use Rattle.mc_core.specs.Uptakes.{IsNew, IsUptake, uptake_events}
 use Rattle.mc_core.specs.Puts.{IsPlanned, Adds, made_block, next_links, next_made}
 use Rattle.mc_core.specs.Counted.{run_of}
 use Rattle.mc_core.proofs.DeletedFacts.{HeadsLaw}
-use Rattle.mc_core.proofs.PlanFacts.{SoundLaw, SameLaw, StoredLaw}
+use Rattle.mc_core.proofs.UptakeFacts.{SoundLaw, SameLaw, StoredLaw}
 use Rattle.mc_core.proofs.PutFacts.{BackLaw}
 use Rattle.mc_core.proofs.ShortFacts.{after_all, follows_processed}
 use Rattle.mc_core.proofs.TakenFacts.{running, follows, plan_is_block}
@@ -41,26 +41,26 @@ closed_after [] s batch = batch_stays s.state.durable s.state.run batch
 closed_after (event ∷ events) s batch = closed_after events (goes_on s event) batch
 
 module _ (back : BackLaw) (sound_law : SoundLaw) (stored_law : StoredLaw) (same_law : SameLaw) (heads_law : HeadsLaw) where
-  one_made : (kept : Kept) (fuse : Option Fuse) (run : Running) (whole : Bool) (links : List Cid) (delta : Delta) (plan : Plan) → IsKept kept → IsPlan kept whole (made_block links delta) (made_bytes links delta) plan → plan.after.links ≡ []
-      → processed (kept_of (all_happen (running (durable_of kept) run fuse) (plan_events plan)).state.durable) ≡ processed kept ++ made_block links delta ∷ []
-  one_made kept fuse run whole links delta plan sound is none =
+  one_made : (kept : Kept) (fuse : Option Fuse) (run : Running) (whole : Bool) (links : List Cid) (delta : Delta) (uptake : Uptake) → IsKept kept → IsUptake kept whole (made_block links delta) (made_bytes links delta) uptake → uptake.after.links ≡ []
+      → processed (kept_of (all_happen (running (durable_of kept) run fuse) (uptake_events uptake)).state.durable) ≡ processed kept ++ made_block links delta ∷ []
+  one_made kept fuse run whole links delta uptake sound is none =
       let made : MadeBlock = record { block = made_block links delta; bytes = made_bytes links delta; known = is_stored kept.graph (made_cid links delta) } in
       let s : ReplicaState = running (durable_of kept) run fuse in
-      ap (λ events. processed (kept_of (all_happen s events).state.durable)) (plan_is_block kept whole made plan is ∙ sym (append-nil (block_events kept made)))
+      ap (λ events. processed (kept_of (all_happen s events).state.durable)) (plan_is_block kept whole made uptake is ∙ sym (append-nil (block_events kept made)))
       ∙ follows_processed back sound_law stored_law same_law heads_law (all_happen s (block_events kept made ++ [])) (with_all kept (made ∷ [])) (follows (made ∷ []) kept (durable_of kept) run fuse refl refl)
       ∙ after_all sound_law stored_law same_law (made ∷ []) kept sound (subst (IsNew kept (made_block links delta) (made_bytes links delta)) none is.block_is_new, refl, tt)
 
   adds_one : (delta_of : Kept → Delta) (kept : Kept) (fuse : Option Fuse) (run : Running) (whole : Bool) (planned : Planned) (durable : Durable) (now : ReplicaState) → IsKept kept → IsPlanned kept whole (next_links kept) (delta_of kept) planned
-      → now.state.durable ≡ (all_happen (running (durable_of kept) run fuse) (plan_events planned.plan)).state.durable → IsAdded delta_of (running (durable_of kept) run fuse) now
+      → now.state.durable ≡ (all_happen (running (durable_of kept) run fuse) (uptake_events planned.uptake)).state.durable → IsAdded delta_of (running (durable_of kept) run fuse) now
   adds_one delta_of kept fuse run whole planned durable now sound is ends =
       ap (λ d. processed (kept_of d)) ends
-      ∙ one_made kept fuse run whole (next_links kept) (delta_of kept) planned.plan sound is.plan is.no_links
+      ∙ one_made kept fuse run whole (next_links kept) (delta_of kept) planned.uptake sound is.uptake is.no_links
       ∙ ap (λ (k : Kept). processed k ++ next_made k (delta_of k) ∷ []) (sym (back kept))
 
   module _ (delta_of : Kept → Delta) (events : List Event) where
     over : (told : Option Kept) (fuse : Option Fuse) (run : Running) (new : Option ReplicaState) (planned : Planned) → IfSome told IsKept
         → IfSome told (λ kept. IsPlanned kept run.whole (next_links kept) (delta_of kept) planned)
-        → ((s : ReplicaState) → (all_happen s events).state.durable ≡ (all_happen s (plan_events planned.plan)).state.durable)
+        → ((s : ReplicaState) → (all_happen s events).state.durable ≡ (all_happen s (uptake_events planned.uptake)).state.durable)
         → Told (state_of told fuse (run_of false run)) new (Goes events) → Told (state_of told fuse (run_of false run)) new (IsAdded delta_of)
     over None fuse run new planned sound is same goes = tt
     over (Some kept) fuse run None planned sound is same goes = absurd goes
@@ -71,7 +71,7 @@ module _ (back : BackLaw) (sound_law : SoundLaw) (stored_law : StoredLaw) (same_
     -- after reads, a planned block was taken up
     made_after : (told mid : Option Kept) (fuse fuse_mid : Option Fuse) (stop : Bool) (run : Running) (new : Option ReplicaState) (planned : Planned) → stop ≡ false → mid ≡ told → fuse_mid ≡ fuse
         → IfSome told IsKept → IfSome told (λ kept. IsPlanned kept run.whole (next_links kept) (delta_of kept) planned)
-        → ((s : ReplicaState) → (all_happen s events).state.durable ≡ (all_happen s (plan_events planned.plan)).state.durable)
+        → ((s : ReplicaState) → (all_happen s events).state.durable ≡ (all_happen s (uptake_events planned.uptake)).state.durable)
         → Told (state_of mid fuse_mid (run_of stop run)) new (Goes events) → Told (state_of told fuse (run_of stop run)) new (IsAdded delta_of)
     made_after told mid fuse fuse_mid stop run new planned up e f sound is same goes =
         subst (λ b. Told (state_of told fuse (run_of b run)) new (IsAdded delta_of)) (sym up)
@@ -82,18 +82,18 @@ module _ (back : BackLaw) (sound_law : SoundLaw) (stored_law : StoredLaw) (same_
 
   pub put_made : {T : Type 0} (delta_of : Kept → Delta) (told mid : Option Kept) (fuse fuse_mid : Option Fuse) (stop : Bool) (run : Running) (new : Option ReplicaState) (rose : Type 0) (planned : Planned) (result : Result T CoreError)
       → stop ≡ false → mid ≡ told → fuse_mid ≡ fuse → IfSome told IsKept → IfSome told (λ kept. IsPlanned kept run.whole (next_links kept) (delta_of kept) planned)
-      → Told (state_of mid fuse_mid (run_of stop run)) new (Part (plan_events planned.plan) rose result)
+      → Told (state_of mid fuse_mid (run_of stop run)) new (Part (uptake_events planned.uptake) rose result)
       → IfOk result (λ written. Told (state_of told fuse (run_of stop run)) new (IsAdded delta_of))
   put_made delta_of told mid fuse fuse_mid stop run new rose planned (Err error) up e f sound is part = tt
   put_made delta_of told mid fuse fuse_mid stop run new rose planned (Ok written) up e f sound is part =
-      made_after delta_of (plan_events planned.plan) told mid fuse fuse_mid stop run new planned up e f sound is (λ s. refl) part
+      made_after delta_of (uptake_events planned.uptake) told mid fuse fuse_mid stop run new planned up e f sound is (λ s. refl) part
 
   -- the same of an open batch
   pub commit_made : (told mid : Option Kept) (fuse fuse_mid : Option Fuse) (stop : Bool) (run : Running) (after : Option OpenBatch) (batch : OpenBatch) (new : Option ReplicaState) (rose : Type 0) (planned : Planned)
       (result : Result (Option Written) CoreError) → stop ≡ false → run.batch ≡ Some batch → mid ≡ told → fuse_mid ≡ fuse → IfSome told IsKept
       → IfSome told (λ kept. IsPlanned kept run.whole (next_links kept) (delta_of_batch kept batch) planned)
       → IfOk result (λ answer. answer ≡ Some planned.written)
-      → Told (state_of mid fuse_mid (run_of stop run)) new (Part (plan_events planned.plan ++ Batch after ∷ []) rose result)
+      → Told (state_of mid fuse_mid (run_of stop run)) new (Part (uptake_events planned.uptake ++ Batch after ∷ []) rose result)
       → IfOk result (λ answer. Told (state_of told fuse (run_of stop run)) new (AddsBatch answer))
   commit_made told mid fuse fuse_mid stop run after batch new rose planned (Err error) up is e f sound plans says part = tt
   commit_made told mid fuse fuse_mid stop run after batch new rose planned (Ok answer) up is e f sound plans says part =
@@ -101,7 +101,7 @@ module _ (back : BackLaw) (sound_law : SoundLaw) (stored_law : StoredLaw) (same_
       (subst (λ a. Told (state_of told fuse (run_of false run)) new (AddsBatch a)) (sym says)
       (of_batch told new
       (subst (λ b. Told (state_of told fuse (run_of b run)) new (IsAdded (λ kept. delta_of_batch kept batch))) up
-      (made_after (λ kept. delta_of_batch kept batch) (plan_events planned.plan ++ Batch after ∷ []) told mid fuse fuse_mid stop run new planned up e f sound plans (λ s. closed_after (plan_events planned.plan) s after) part))))
+      (made_after (λ kept. delta_of_batch kept batch) (uptake_events planned.uptake ++ Batch after ∷ []) told mid fuse fuse_mid stop run new planned up e f sound plans (λ s. closed_after (uptake_events planned.uptake) s after) part))))
     where
       of_batch : (told : Option Kept) (new : Option ReplicaState) → Told (state_of told fuse (run_of false run)) new (IsAdded (λ kept. delta_of_batch kept batch))
           → Told (state_of told fuse (run_of false run)) new (AddsBatch (Some planned.written))

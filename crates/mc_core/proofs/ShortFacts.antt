@@ -25,14 +25,14 @@ use Rattle.mc_core.specs.declared.deletes.MadeBlock.{MadeBlock}
 use Rattle.mc_core.specs.declared.error.CoreError.{CoreError}
 use Rattle.mc_core.specs.Deletes.{AreMade, AreNext, IsDelete, ShortKeeps, Takes, all_events, chain_blocks, with_all, with_block, with_made}
 use Rattle.mc_core.specs.Events.{ReplicaState, state_of, Goes}
-use Rattle.mc_core.specs.Plans.{IsNew}
+use Rattle.mc_core.specs.Uptakes.{IsNew}
 use Rattle.mc_core.specs.Puts.{next_links}
 use Rattle.mc_core.specs.Refusals.{kind_of}
 use Rattle.mc_core.specs.Counted.{run_of}
 use Rattle.mc_core.proofs.DeletedFacts.{HeadsLaw}
 use Rattle.mc_core.proofs.IdFacts.{AreApart, are_apart}
 use Rattle.mc_core.proofs.KindFacts.{kinds, by_kind}
-use Rattle.mc_core.proofs.PlanFacts.{SoundLaw, SameLaw, StoredLaw, one_block, one_stored, stored_now}
+use Rattle.mc_core.proofs.UptakeFacts.{SoundLaw, SameLaw, StoredLaw, one_block, one_stored, stored_now}
 use Rattle.mc_core.proofs.PutFacts.{BackLaw}
 use Rattle.mc_core.proofs.TakenFacts.{Follows, running, goes_follow, made_length, made_take, next_all}
 use Rattle.mc_core.proofs.ValueFacts.{AreOwn, HaveIds, value_of_part}

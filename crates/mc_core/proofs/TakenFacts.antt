@@ -27,11 +27,11 @@ use Rattle.mc_keep.specs.declared.fuse.Fuse.{Fuse}
 use Rattle.mc_core.specs.declared.deletes.Deleted.{Deleted}
 use Rattle.mc_core.specs.declared.deletes.MadeBlock.{MadeBlock}
 use Rattle.mc_core.specs.declared.error.CoreError.{CoreError}
-use Rattle.mc_core.specs.declared.plan.Plan.{Plan}
+use Rattle.mc_core.specs.declared.uptake.Uptake.{Uptake}
 use Rattle.mc_core.specs.declared.error.CoreError.TheVariants.{BlockTooLarge, Clash, KeeperFault}
 use Rattle.mc_core.specs.Deletes.{with_made, with_block, with_all, chain_events, IsMade, AreMade, AreNext, block_events, all_events, OutsideIs, EndsOne, Takes}
 use Rattle.mc_core.specs.Events.{ReplicaState, state_of, all_happen, Goes, Breaks}
-use Rattle.mc_core.specs.Plans.{IsNew, IsNoOther, IsPlan, plan_events, store_change, with_store}
+use Rattle.mc_core.specs.Uptakes.{IsNew, IsNoOther, IsUptake, uptake_events, store_change, with_store}
 use Rattle.mc_core.specs.Refusals.{kind_of, clash_refusal, other_refusal, size_refusal}
 use Rattle.mc_core.specs.Counted.{run_of}
 use Rattle.mc_core.proofs.DeleteFacts.{is_cid, among_here}
@@ -304,39 +304,39 @@ taken_none (Some kept) fuse run = goes_nowhere _
 
 -- the commits of one block
 
-pub plan_is_block : (kept : Kept) (whole : Bool) (made : MadeBlock) (plan : Plan) → IsPlan kept whole made.block made.bytes plan → plan_events plan ≡ block_events kept made
-plan_is_block kept whole made plan is =
-    ap (λ store. with_store store (Process plan.process.marks ∷ [])) is.store
+pub plan_is_block : (kept : Kept) (whole : Bool) (made : MadeBlock) (uptake : Uptake) → IsUptake kept whole made.block made.bytes uptake → uptake_events uptake ≡ block_events kept made
+plan_is_block kept whole made uptake is =
+    ap (λ store. with_store store (Process uptake.process.marks ∷ [])) is.store
     ∙ ap (λ marks. with_store (store_change kept.graph made.block.cid made.bytes) (Process marks ∷ [])) is.process.marks
 
-one_events : (back : BackLaw) (kept : Kept) (whole : Bool) (made : MadeBlock) (plan : Plan) → IsPlan kept whole made.block made.bytes plan → plan_events plan ≡ block_events (kept_of (durable_of kept)) made
-one_events back kept whole made plan is = plan_is_block kept whole made plan is ∙ ap (λ k. block_events k made) (sym (back kept))
+one_events : (back : BackLaw) (kept : Kept) (whole : Bool) (made : MadeBlock) (uptake : Uptake) → IsUptake kept whole made.block made.bytes uptake → uptake_events uptake ≡ block_events (kept_of (durable_of kept)) made
+one_events back kept whole made uptake is = plan_is_block kept whole made uptake is ∙ ap (λ k. block_events k made) (sym (back kept))
 
-pub one_failed : (back : BackLaw) (told mid : Option Kept) (fuse fuse_mid : Option Fuse) (run : Option Running) (whole : Bool) (new : Option ReplicaState) (made : MadeBlock) (plan : Plan) (own own_mid own_new : ℕ)
-    → mid ≡ told → fuse_mid ≡ fuse → own ≤ own_mid → IfSome told (λ kept. IsPlan kept whole made.block made.bytes plan)
-    → Told (state_of mid fuse_mid run) new (λ s after. Breaks (plan_events plan) (Rose own_mid own_new) s after)
+pub one_failed : (back : BackLaw) (told mid : Option Kept) (fuse fuse_mid : Option Fuse) (run : Option Running) (whole : Bool) (new : Option ReplicaState) (made : MadeBlock) (uptake : Uptake) (own own_mid own_new : ℕ)
+    → mid ≡ told → fuse_mid ≡ fuse → own ≤ own_mid → IfSome told (λ kept. IsUptake kept whole made.block made.bytes uptake)
+    → Told (state_of mid fuse_mid run) new (λ s after. Breaks (uptake_events uptake) (Rose own_mid own_new) s after)
     → Told (state_of told fuse run) new (EndsOne made (Rose own own_new) KeeperFault)
-one_failed back told mid fuse fuse_mid run whole new made plan own own_mid own_new e f later is breaks =
-    over told new is (subst (λ x. Told (state_of told x run) new (λ s after. Breaks (plan_events plan) (Rose own_mid own_new) s after)) f
-    (subst (λ t. Told (state_of t fuse_mid run) new (λ s after. Breaks (plan_events plan) (Rose own_mid own_new) s after)) e breaks))
+one_failed back told mid fuse fuse_mid run whole new made uptake own own_mid own_new e f later is breaks =
+    over told new is (subst (λ x. Told (state_of told x run) new (λ s after. Breaks (uptake_events uptake) (Rose own_mid own_new) s after)) f
+    (subst (λ t. Told (state_of t fuse_mid run) new (λ s after. Breaks (uptake_events uptake) (Rose own_mid own_new) s after)) e breaks))
   where
-    over : (told : Option Kept) (new : Option ReplicaState) → IfSome told (λ kept. IsPlan kept whole made.block made.bytes plan)
-        → Told (state_of told fuse run) new (λ s after. Breaks (plan_events plan) (Rose own_mid own_new) s after) → Told (state_of told fuse run) new (EndsOne made (Rose own own_new) KeeperFault)
+    over : (told : Option Kept) (new : Option ReplicaState) → IfSome told (λ kept. IsUptake kept whole made.block made.bytes uptake)
+        → Told (state_of told fuse run) new (λ s after. Breaks (uptake_events uptake) (Rose own_mid own_new) s after) → Told (state_of told fuse run) new (EndsOne made (Rose own own_new) KeeperFault)
     over None new is breaks = tt
     over (Some kept) None is breaks = absurd breaks
     over (Some kept) (Some after) is breaks =
-        subst (λ events. Breaks events (Rose own own_new) (record { state = record { durable = durable_of kept; run = run }; fuse = fuse }) after) (one_events back kept whole made plan is)
-        (breaks_rose (plan_events plan) (Rose own_mid own_new) (Rose own own_new) (record { state = record { durable = durable_of kept; run = run }; fuse = fuse }) after (λ r. omega (arith, r, later)) breaks)
+        subst (λ events. Breaks events (Rose own own_new) (record { state = record { durable = durable_of kept; run = run }; fuse = fuse }) after) (one_events back kept whole made uptake is)
+        (breaks_rose (uptake_events uptake) (Rose own_mid own_new) (Rose own own_new) (record { state = record { durable = durable_of kept; run = run }; fuse = fuse }) after (λ r. omega (arith, r, later)) breaks)
 
-pub one_done : (back : BackLaw) (told mid : Option Kept) (fuse fuse_mid : Option Fuse) (run : Option Running) (whole : Bool) (new : Option ReplicaState) (made : MadeBlock) (plan : Plan)
-    → mid ≡ told → fuse_mid ≡ fuse → IfSome told (λ kept. IsPlan kept whole made.block made.bytes plan) → Told (state_of mid fuse_mid run) new (Goes (plan_events plan)) → Told (state_of told fuse run) new (DoesOne made)
-one_done back told mid fuse fuse_mid run whole new made plan e f is goes =
-    over told new is (subst (λ x. Told (state_of told x run) new (Goes (plan_events plan))) f (subst (λ t. Told (state_of t fuse_mid run) new (Goes (plan_events plan))) e goes))
+pub one_done : (back : BackLaw) (told mid : Option Kept) (fuse fuse_mid : Option Fuse) (run : Option Running) (whole : Bool) (new : Option ReplicaState) (made : MadeBlock) (uptake : Uptake)
+    → mid ≡ told → fuse_mid ≡ fuse → IfSome told (λ kept. IsUptake kept whole made.block made.bytes uptake) → Told (state_of mid fuse_mid run) new (Goes (uptake_events uptake)) → Told (state_of told fuse run) new (DoesOne made)
+one_done back told mid fuse fuse_mid run whole new made uptake e f is goes =
+    over told new is (subst (λ x. Told (state_of told x run) new (Goes (uptake_events uptake))) f (subst (λ t. Told (state_of t fuse_mid run) new (Goes (uptake_events uptake))) e goes))
   where
-    over : (told : Option Kept) (new : Option ReplicaState) → IfSome told (λ kept. IsPlan kept whole made.block made.bytes plan) → Told (state_of told fuse run) new (Goes (plan_events plan)) → Told (state_of told fuse run) new (DoesOne made)
+    over : (told : Option Kept) (new : Option ReplicaState) → IfSome told (λ kept. IsUptake kept whole made.block made.bytes uptake) → Told (state_of told fuse run) new (Goes (uptake_events uptake)) → Told (state_of told fuse run) new (DoesOne made)
     over None new is goes = tt
     over (Some kept) None is goes = absurd goes
-    over (Some kept) (Some after) is goes = subst (λ events. Goes events (record { state = record { durable = durable_of kept; run = run }; fuse = fuse }) after) (one_events back kept whole made plan is) goes
+    over (Some kept) (Some after) is goes = subst (λ events. Goes events (record { state = record { durable = durable_of kept; run = run }; fuse = fuse }) after) (one_events back kept whole made uptake is) goes
 
 -- both parts of what is told
 

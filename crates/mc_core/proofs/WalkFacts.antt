@@ -27,10 +27,10 @@ use Rattle.mc_core.specs.declared.walks.WalkStep.TheVariants.{Begun}
 use Rattle.mc_core.specs.Calls.{Call, Stays}
 use Rattle.mc_core.specs.Counted.{capped, is_count, is_counted, is_mark, run_of}
 use Rattle.mc_core.specs.Events.{ReplicaState, state_of, commits, burnt_by, fires_by, Goes, Breaks}
-use Rattle.mc_core.specs.Plans.{wants}
+use Rattle.mc_core.specs.Uptakes.{wants}
 use Rattle.mc_core.specs.Reads.{read_refusal}
 use Rattle.mc_core.specs.Refusals.{Is}
-use Rattle.mc_core.specs.Walks.{WalkPlan, clearing, clears, gap_count, open_links_at, step_due, step_events, step_to}
+use Rattle.mc_core.specs.Walks.{WalkEvents, clearing, clears, gap_count, open_links_at, step_due, step_events, step_to}
 use Rattle.mc_core.proofs.CallFacts.{at}
 use Rattle.mc_core.proofs.CommitFacts.{breaks_at, fails_as}
 use Rattle.mc_core.proofs.JobFacts.{becomes, stored_good, told_both, told_with}
@@ -185,7 +185,7 @@ cleared_count law (Some kept) (Some now) stop numbers up counted silent told =
 -- a step as a call
 
 abbrev StepCall : WalkStep → Type 0 → ReplicaState → ReplicaState → Type 0
-StepCall step rose s new = Call (Is (read_refusal s)) (WalkPlan s) (Stays s) rose (Ok step) s new
+StepCall step rose s new = Call (Is (read_refusal s)) (WalkEvents s) (Stays s) rose (Ok step) s new
 
 pub step_done : (told : Option Kept) (fuse : Option Fuse) (stop : Bool) (run : Running) (new : Option ReplicaState) (rose : Type 0) (step : WalkStep) → stop ≡ false → step ≡ step_due run.whole run.walk
     → Told (state_of told fuse (run_of stop run)) new (Goes (step_events step)) → Told (state_of told fuse (run_of stop run)) new (StepCall step rose)
@@ -193,15 +193,15 @@ step_done None fuse stop run new rose step up due goes = tt
 step_done (Some kept) fuse stop run None rose step up due goes = absurd goes
 step_done (Some kept) fuse stop run (Some after) rose step up due goes =
     subst (λ b. Goes (step_events step) (at kept fuse (run_of b run)) after → StepCall step rose (at kept fuse (run_of b run)) after) (sym up)
-    (λ p. record { allowed = refl; events = step_events step; plan = (due, refl); goes = p }) goes
+    (λ p. record { allowed = refl; events = step_events step; uptake = (due, refl); goes = p }) goes
 
 pub step_failed : (told : Option Kept) (fuse : Option Fuse) (stop : Bool) (run : Running) (new : Option ReplicaState) (rose : Type 0) (step : WalkStep) → stop ≡ false → step ≡ step_due run.whole run.walk
     → Told (state_of told fuse (run_of stop run)) new (Breaks (step_events step) rose)
-    → Told (state_of told fuse (run_of stop run)) new (λ s after. Call (Is (read_refusal s)) (WalkPlan s) (Stays s) rose (Err KeeperFault) s after)
+    → Told (state_of told fuse (run_of stop run)) new (λ s after. Call (Is (read_refusal s)) (WalkEvents s) (Stays s) rose (Err KeeperFault) s after)
 step_failed None fuse stop run new rose step up due breaks = tt
 step_failed (Some kept) fuse stop run None rose step up due breaks = absurd breaks
 step_failed (Some kept) fuse stop run (Some after) rose step up due breaks =
-    subst (λ b. Breaks (step_events step) rose (at kept fuse (run_of b run)) after → Call (Is (read_refusal (at kept fuse (run_of b run)))) (WalkPlan (at kept fuse (run_of b run))) (Stays (at kept fuse (run_of b run))) rose (Err KeeperFault) (at kept fuse (run_of b run)) after) (sym up)
+    subst (λ b. Breaks (step_events step) rose (at kept fuse (run_of b run)) after → Call (Is (read_refusal (at kept fuse (run_of b run)))) (WalkEvents (at kept fuse (run_of b run))) (Stays (at kept fuse (run_of b run))) rose (Err KeeperFault) (at kept fuse (run_of b run)) after) (sym up)
     (λ p. record { events = step_events step; begins = inr (step, (due, refl)); breaks = p }) breaks
 
 -- where nothing was committed

@@ -32,22 +32,22 @@ OfRun (Some run) P = OfBatch run.batch P
 abbrev pub begin_refusal : ReplicaState → Option CoreError
 begin_refusal s = running_refusal s.state.run (λ run. open_batch_refusal run.batch)
 
-abbrev pub BeginPlan : {T : Type 0} → List Event → T → Type 0
-BeginPlan events answer = events ≡ Batch (Some empty_batch) ∷ []
+abbrev pub BeginEvents : {T : Type 0} → List Event → T → Type 0
+BeginEvents events answer = events ≡ Batch (Some empty_batch) ∷ []
 
 -- a put comes into the batch
 abbrev pub batch_put_refusal : ReplicaState → List ℕ → List ℕ → Option CoreError
 batch_put_refusal s key value = running_refusal s.state.run (λ run. no_batch_refusal run.batch (λ batch. option_or (key_refusal key) (value_refusal value)))
 
-abbrev pub BatchPutPlan : {T : Type 0} → ReplicaState → List ℕ → List ℕ → List Event → T → Type 0
-BatchPutPlan s key value events answer = OfRun s.state.run (λ batch. events ≡ Batch (Some (batch_put key value batch)) ∷ [])
+abbrev pub BatchPutEvents : {T : Type 0} → ReplicaState → List ℕ → List ℕ → List Event → T → Type 0
+BatchPutEvents s key value events answer = OfRun s.state.run (λ batch. events ≡ Batch (Some (batch_put key value batch)) ∷ [])
 
 -- a delete comes into the batch
 abbrev pub batch_delete_refusal : ReplicaState → List ℕ → Option CoreError
 batch_delete_refusal s key = running_refusal s.state.run (λ run. no_batch_refusal run.batch (λ batch. key_refusal key))
 
-abbrev pub BatchDeletePlan : {T : Type 0} → ReplicaState → List ℕ → List Event → T → Type 0
-BatchDeletePlan s key events answer = OfRun s.state.run (λ batch. events ≡ Batch (Some (batch_delete key (pairs (processed (kept_of s.state.durable)) key) batch)) ∷ [])
+abbrev pub BatchDeleteEvents : {T : Type 0} → ReplicaState → List ℕ → List Event → T → Type 0
+BatchDeleteEvents s key events answer = OfRun s.state.run (λ batch. events ≡ Batch (Some (batch_delete key (pairs (processed (kept_of s.state.durable)) key) batch)) ∷ [])
 
 -- the batch becomes one block, or none where it is empty
 abbrev pub delta_of_batch : Kept → OpenBatch → Delta
@@ -67,8 +67,8 @@ BatchBecomes kept batch true events answer = (events ≡ Batch None ∷ []) × (
 BatchBecomes kept batch false events answer =
     (events ≡ made_events kept (next_links kept) (delta_of_batch kept batch) ++ Batch None ∷ []) × (answer ≡ Some (written_of kept (next_links kept) (delta_of_batch kept batch)))
 
-abbrev pub CommitPlan : ReplicaState → List Event → Option Written → Type 0
-CommitPlan s events answer = OfRun s.state.run (λ batch. BatchBecomes (kept_of s.state.durable) batch (is_empty_batch batch) events answer)
+abbrev pub CommitEvents : ReplicaState → List Event → Option Written → Type 0
+CommitEvents s events answer = OfRun s.state.run (λ batch. BatchBecomes (kept_of s.state.durable) batch (is_empty_batch batch) events answer)
 
 -- a batch adds its block, and an empty one none
 abbrev pub AddsBatch : Option Written → ReplicaState → ReplicaState → Type 0

@@ -18,7 +18,7 @@ use Rattle.mc_core.specs.declared.deletes.MadeBlock.{MadeBlock}
 use Rattle.mc_core.specs.declared.error.CoreError.{CoreError}
 use Rattle.mc_core.specs.declared.error.CoreError.TheVariants.{BlockTooLarge, PriorityFull, Stopped}
 use Rattle.mc_core.specs.Events.{ReplicaState, Goes, Breaks}
-use Rattle.mc_core.specs.Plans.{IsNew, store_change, with_store}
+use Rattle.mc_core.specs.Uptakes.{IsNew, store_change, with_store}
 use Rattle.mc_core.specs.Puts.{Adds, made_block, made_events, next_links}
 use Rattle.mc_core.specs.Refusals.{ByKind, kind_of, key_refusal, clash_refusal}
 
@@ -73,8 +73,8 @@ abbrev pub DeleteRefusal : ReplicaState → List ℕ → Option CoreError → Ty
 DeleteRefusal s key = RunRefusal s.state.run (DeleteKeptRefusal (kept_of s.state.durable) key (key_refusal key))
 
 -- the blocks of a delete, one after another, and their number
-abbrev pub DeletePlan : ReplicaState → List ℕ → List Event → Deleted → Type 0
-DeletePlan s key events deleted =
+abbrev pub DeleteEvents : ReplicaState → List ℕ → List Event → Deleted → Type 0
+DeleteEvents s key events deleted =
     (deltas : List Delta) × IsDeltas (kept_of s.state.durable) key deltas
     × (events ≡ chain_events (kept_of s.state.durable) (next_links (kept_of s.state.durable)) deltas) × (deleted.blocks ≡ length deltas)
 

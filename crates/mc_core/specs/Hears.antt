@@ -69,7 +69,7 @@ abbrev pub IsQueued : Queue → Queue → ℕ → Type 0
 IsQueued q left queued = length q.waiting + queued ≡ length left.waiting
 
 -- the blocks that the message names are heard, and those that came to waiting are counted
-pub record HearPlan (s : ReplicaState) (text : List ℕ) (events : List Event) (heard : Heard) : Type 0 where
+pub record HearEvents (s : ReplicaState) (text : List ℕ) (events : List Event) (heard : Heard) : Type 0 where
   pub cids : List Cid
   pub named : IsCast text (digests_of cids)
   pub only : events ≡ Hear cids ∷ []

@@ -18,10 +18,10 @@ use Rattle.mc_fetch.specs.declared.job.Delivered.TheVariants.{Processed, Missing
 use Rattle.mc_queue.specs.Tickets.{first_of}
 use Rattle.mc_core.specs.declared.deliveries.Taken.{Taken}
 use Rattle.mc_core.specs.declared.error.CoreError.{CoreError}
-use Rattle.mc_core.specs.declared.plan.Plan.{Plan}
+use Rattle.mc_core.specs.declared.uptake.Uptake.{Uptake}
 use Rattle.mc_core.specs.Deletes.{OutsideIs}
 use Rattle.mc_core.specs.Events.{ReplicaState, Goes, Breaks}
-use Rattle.mc_core.specs.Plans.{plan_events, wants}
+use Rattle.mc_core.specs.Uptakes.{uptake_events, wants}
 use Rattle.mc_core.specs.Refusals.{ByKind, kind_of}
 
 -- what waits first in a replica
@@ -29,9 +29,9 @@ abbrev pub first_waiting : ReplicaState → Option Cid
 first_waiting s = first_of (queue_in s.state.run).waiting
 
 -- A job begins for the first block that waits, with the bytes that are stored under it; none does where nothing waits.
-abbrev pub NextPlan : ReplicaState → List Event → Option Job → Type 0
-NextPlan s events None = (first_waiting s ≡ None) × (events ≡ [])
-NextPlan s events (Some job) =
+abbrev pub NextEvents : ReplicaState → List Event → Option Job → Type 0
+NextEvents s events None = (first_waiting s ≡ None) × (events ≡ [])
+NextEvents s events (Some job) =
     (first_waiting s ≡ Some job.cid) × (job.own ≡ bytes_at (kept_of s.state.durable).graph job.cid) × (events ≡ Want ∷ [])
 
 -- a want of memory leaves that block at the back of those that wait
@@ -67,8 +67,8 @@ abbrev pub DeliversIn : Bool → Durable → Cid → Option (List ℕ) → List 
 DeliversIn false durable cid found events answer = (answer ≡ Known) × (events ≡ [])
 DeliversIn true durable cid found events answer = (events ≡ delivery durable.graph cid found) × IsDelivered durable cid found answer
 
-abbrev pub DeliverPlan : ReplicaState → Cid → Option (List ℕ) → List Event → Delivered → Type 0
-DeliverPlan s cid found = DeliversIn (has cid (queue_in s.state.run).flight) s.state.durable cid found
+abbrev pub DeliverEvents : ReplicaState → Cid → Option (List ℕ) → List Event → Delivered → Type 0
+DeliverEvents s cid found = DeliversIn (has cid (queue_in s.state.run).flight) s.state.durable cid found
 
 -- a want of memory leaves the block, which was in flight, at the back of those that wait
 abbrev pub DeliverShort : ReplicaState → Cid → ReplicaState → Type 0
@@ -93,10 +93,10 @@ DeliverWants (Ok delivered) q left cid = WantsAfter delivered q left cid
 DeliverWants (Err error) q left cid = ByKind (left ≡ q) ⊤ (left ≡ give_back q cid) (kind_of error)
 
 -- the commits of a block that was found
-abbrev pub TakesArrival : {T : Type 0} → Plan → Type 0 → Result T CoreError → ReplicaState → ReplicaState → Type 0
-TakesArrival plan rose (Ok done) s new = Goes (plan_events plan) s new
-TakesArrival plan rose (Err error) s new =
-    OutsideIs (Breaks (plan_events plan) rose s new) (Goes (GiveBack plan.after.cid ∷ []) s new) error
+abbrev pub TakesArrival : {T : Type 0} → Uptake → Type 0 → Result T CoreError → ReplicaState → ReplicaState → Type 0
+TakesArrival uptake rose (Ok done) s new = Goes (uptake_events uptake) s new
+TakesArrival uptake rose (Err error) s new =
+    OutsideIs (Breaks (uptake_events uptake) rose s new) (Goes (GiveBack uptake.after.cid ∷ []) s new) error
 
 -- the bytes are this block under the identifier
 abbrev pub IsTaken : Cid → Taken → Type 0

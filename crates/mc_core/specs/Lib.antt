@@ -8,7 +8,7 @@ pub mod Events
 pub mod Exact
 pub mod Hears
 pub mod Jobs
-pub mod Plans
+pub mod Uptakes
 pub mod Puts
 pub mod Reads
 pub mod Refusals

@@ -12,7 +12,7 @@ use Rattle.mc_core.specs.declared.error.CoreError.{CoreError}
 use Rattle.mc_core.specs.declared.made.Planned.{Planned}
 use Rattle.mc_core.specs.declared.made.Written.{Written}
 use Rattle.mc_core.specs.Events.{ReplicaState}
-use Rattle.mc_core.specs.Plans.{IsPlan, store_change, with_store}
+use Rattle.mc_core.specs.Uptakes.{IsUptake, store_change, with_store}
 use Rattle.mc_core.specs.Refusals.{key_refusal, value_refusal, priority_refusal, made_refusal, running_refusal}
 
 -- the block that is made with these links and this delta
@@ -30,9 +30,9 @@ written_of kept links delta = record { cid = made_cid links delta; priority = de
 -- its commits are planned, and nothing refuses it
 pub record IsPlanned (kept : Kept) (whole : Bool) (links : List Cid) (delta : Delta) (planned : Planned) : Type 0 where
   pub allowed : made_refusal kept links delta ≡ None
-  pub plan : IsPlan kept whole (made_block links delta) (made_bytes links delta) planned.plan
+  pub uptake : IsUptake kept whole (made_block links delta) (made_bytes links delta) planned.uptake
   pub written : planned.written ≡ written_of kept links delta
-  pub no_links : planned.plan.after.links ≡ []
+  pub no_links : planned.uptake.after.links ≡ []
 
 -- the links and the priority of the next block
 abbrev pub next_links : Kept → List Cid
@@ -53,12 +53,12 @@ abbrev pub put_refusal : ReplicaState → List ℕ → List ℕ → Option CoreE
 put_refusal s key value = running_refusal s.state.run (λ run. put_kept_refusal (kept_of s.state.durable) key value)
 
 -- the events of a block that is made over what is processed, and its answer
-abbrev pub MadePlan : Kept → Delta → List Event → Written → Type 0
-MadePlan kept delta events written = (events ≡ made_events kept (next_links kept) delta) × (written ≡ written_of kept (next_links kept) delta)
+abbrev pub MadeEvents : Kept → Delta → List Event → Written → Type 0
+MadeEvents kept delta events written = (events ≡ made_events kept (next_links kept) delta) × (written ≡ written_of kept (next_links kept) delta)
 
 -- those of a put
-abbrev pub PutPlan : ReplicaState → List ℕ → List ℕ → List Event → Written → Type 0
-PutPlan s key value = MadePlan (kept_of s.state.durable) (delta_of_put (kept_of s.state.durable) key value)
+abbrev pub PutEvents : ReplicaState → List ℕ → List ℕ → List Event → Written → Type 0
+PutEvents s key value = MadeEvents (kept_of s.state.durable) (delta_of_put (kept_of s.state.durable) key value)
 
 -- the processed blocks are those before, and then these
 abbrev pub Adds : List Block → ReplicaState → ReplicaState → Type 0

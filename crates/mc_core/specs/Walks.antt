@@ -22,7 +22,7 @@ use Rattle.mc_core.specs.declared.walks.Settled.TheVariants.{Clean, Open}
 use Rattle.mc_core.specs.declared.walks.WalkStep.{WalkStep}
 use Rattle.mc_core.specs.declared.walks.WalkStep.TheVariants.{Idle, Begun, Visited, Ended}
 use Rattle.mc_core.specs.Events.{ReplicaState}
-use Rattle.mc_core.specs.Plans.{wants}
+use Rattle.mc_core.specs.Uptakes.{wants}
 
 -- a step of a walk that goes on: it visits its next position, or ends where all are visited
 abbrev pub step_to : Option ℕ → WalkStep
@@ -47,8 +47,8 @@ abbrev pub RunStep : Option Running → List Event → WalkStep → Type 0
 RunStep None events step = ⊥
 RunStep (Some run) events step = (step ≡ step_due run.whole run.walk) × (events ≡ step_events step)
 
-abbrev pub WalkPlan : ReplicaState → List Event → WalkStep → Type 0
-WalkPlan s = RunStep s.state.run
+abbrev pub WalkEvents : ReplicaState → List Event → WalkStep → Type 0
+WalkEvents s = RunStep s.state.run
 
 -- what becomes of the walk, over every keeper: one that begins has the keeper's number of processed blocks as its length
 abbrev pub WalkGoes : WalkStep → Option Walk → Option Walk → Type 0

@@ -6,13 +6,13 @@ ghost use Rattle.mc_keep.specs.Causes.{IfTold};
 ghost use Rattle.mc_model.specs.Batch.{batch_put, empty_batch};
 ghost use Rattle.mc_model.specs.Events.{Batch as Closed};
 ghost use Rattle.mc_core.specs.declared.error.CoreError.{CoreError as Refused};
-ghost use Rattle.mc_core.specs.Batches.{AddsBatch, BeginPlan, BatchDeletePlan, BatchPutPlan, CommitPlan, batch_once};
+ghost use Rattle.mc_core.specs.Batches.{AddsBatch, BeginEvents, BatchDeleteEvents, BatchPutEvents, CommitEvents, batch_once};
 ghost use Rattle.mc_core.specs.Batches.{batch_delete_refusal, batch_made_refusal, batch_put_refusal, begin_refusal};
 ghost use Rattle.mc_core.specs.Batches.{commit_refusal, delta_of_batch};
 ghost use Rattle.mc_core.specs.Calls.{Stays};
 ghost use Rattle.mc_core.specs.Events.{Part};
 ghost use Rattle.mc_core.specs.Exact.{IfRefusedOrShort, NoMemory, front_of, put_front, stop_front};
-ghost use Rattle.mc_core.specs.Plans.{IsShaped, IsSomePlan, plan_events, plan_rows};
+ghost use Rattle.mc_core.specs.Uptakes.{IsShaped, IsSomeUptake, uptake_events, uptake_rows};
 ghost use Rattle.mc_core.specs.Puts.{IsPlanned, next_links};
 ghost use Rattle.mc_core.specs.Refusals.{Is, IsDue, is_fault, key_refusal, no_batch_refusal, open_batch_refusal};
 ghost use Rattle.mc_core.specs.Words.{Acts, Becomes, Continues, TellsSame};
@@ -30,7 +30,7 @@ use std::alloc::Global;
 impl<K: Keeper> Replica<K> {
     /// Opens a batch, with nothing in it. Takes no memory. Refusals in their order: `Stopped`, `BatchOpen`.
     pub fn batch_begin(&mut self, alloc: Global) -> Result<(), CoreError>
-        ensures call { Acts K.Keeper (λ s. Is (begin_refusal s)) (λ s. BeginPlan) Stays result self.old self.new }
+        ensures call { Acts K.Keeper (λ s. Is (begin_refusal s)) (λ s. BeginEvents) Stays result self.old self.new }
         ensures keeps { Continues K.Keeper (is_fault result) self.old self.new }
         ensures front { front_of result ≡ stop_front self.old.stopped (open_batch_refusal self.old.batch) }
         ensures no_memory { NoMemory result }
@@ -53,7 +53,7 @@ impl<K: Keeper> Replica<K> {
     /// `Stopped`, `NoBatch`, `BadKey`, `ValueTooLong`; these and `Memory` leave the replica as it was.
     pub fn batch_put(&mut self, key: &str, value: &[u8]) -> Result<(), CoreError>
         ensures call { Acts K.Keeper (λ s. Is (batch_put_refusal s key.now value.now))
-            (λ s. BatchPutPlan s key.now value.now) Stays result self.old self.new }
+            (λ s. BatchPutEvents s key.now value.now) Stays result self.old self.new }
         ensures keeps { Continues K.Keeper (is_fault result) self.old self.new }
         ensures front { front_of result ≡ stop_front self.old.stopped
             (no_batch_refusal self.old.batch (λ batch. put_front key.now value.now)) }
@@ -80,7 +80,7 @@ impl<K: Keeper> Replica<K> {
     /// Drops the batch's element of a key, and adds the blocks with a live element of it that a delete would take now.
     /// Refusals in their order: `Stopped`, `NoBatch`, `BadKey`; these and `Memory` leave the replica as it was.
     pub fn batch_delete(&mut self, key: &str) -> Result<(), CoreError>
-        ensures call { Acts K.Keeper (λ s. Is (batch_delete_refusal s key.now)) (λ s. BatchDeletePlan s key.now)
+        ensures call { Acts K.Keeper (λ s. Is (batch_delete_refusal s key.now)) (λ s. BatchDeleteEvents s key.now)
             Stays result self.old self.new }
         ensures keeps { Continues K.Keeper (is_fault result) self.old self.new }
         ensures front { front_of result ≡ stop_front self.old.stopped
@@ -113,7 +113,7 @@ impl<K: Keeper> Replica<K> {
     /// order: `Stopped`, `NoBatch`, `PriorityFull`, `BlockTooLarge`, `Clash`; these and `Memory` leave the batch open
     /// and the replica as it was.
     pub fn batch_commit(&mut self, alloc: Global) -> Result<Option<Written>, CoreError>
-        ensures call { Acts K.Keeper (λ s. Is (commit_refusal s)) CommitPlan Stays result self.old self.new }
+        ensures call { Acts K.Keeper (λ s. Is (commit_refusal s)) CommitEvents Stays result self.old self.new }
         ensures keeps { Continues K.Keeper (is_fault result) self.old self.new }
         ensures front { front_of result ≡ stop_front self.old.stopped
             (no_batch_refusal self.old.batch (λ batch. None)) }
@@ -148,13 +148,13 @@ impl<K: Keeper> Replica<K> {
     // The commits of the batch's block, and then no batch is open.
     fn take_up_batch(&mut self, planned: Planned) -> Result<Option<Written>, CoreError>
         requires up { self.old.stopped ≡ false }
-        requires room { plan_rows planned.plan ≤ K.spare self.old.keeper }
-        requires shape { IsShaped planned.plan }
-        requires links { planned.plan.after.links ≡ [] }
-        requires same { planned.plan.after.cid ≡ planned.written.cid }
-        requires plan { IfSome (K.told self.old.keeper) (λ kept. IsSomePlan kept self.old.whole planned.plan) }
+        requires room { uptake_rows planned.uptake ≤ K.spare self.old.keeper }
+        requires shape { IsShaped planned.uptake }
+        requires links { planned.uptake.after.links ≡ [] }
+        requires same { planned.uptake.after.cid ≡ planned.written.cid }
+        requires uptake { IfSome (K.told self.old.keeper) (λ kept. IsSomeUptake kept self.old.whole planned.uptake) }
         ensures part { Becomes K.Keeper (λ rose.
-            Part (plan_events planned.plan ++ Closed None ∷ []) rose result) self.old self.new }
+            Part (uptake_events planned.uptake ++ Closed None ∷ []) rose result) self.old self.new }
         ensures answer { IfOk result (λ written. written ≡ Some planned.written) }
         ensures only { IfErr result (λ error. error ≡ Refused.KeeperFault) }
         ensures closed { self.new.batch ≡ batch_once result None self.old.batch }
@@ -184,10 +184,10 @@ fn plan_batch<K: Keeper>(
     ensures front { front_of result ≡ None }
     ensures refused { IfSome (K.told keeper.old) (λ kept.
         IfErr result (IsDue (Is (batch_made_refusal kept batch.now)))) }
-    ensures shape { IfOk result (λ planned. IsShaped planned.plan) }
-    ensures links { IfOk result (λ planned. planned.plan.after.links ≡ []) }
-    ensures same { IfOk result (λ planned. planned.plan.after.cid ≡ planned.written.cid) }
-    ensures room { IfOk result (λ planned. plan_rows planned.plan ≤ K.spare keeper.new) }
+    ensures shape { IfOk result (λ planned. IsShaped planned.uptake) }
+    ensures links { IfOk result (λ planned. planned.uptake.after.links ≡ []) }
+    ensures same { IfOk result (λ planned. planned.uptake.after.cid ≡ planned.written.cid) }
+    ensures room { IfOk result (λ planned. uptake_rows planned.uptake ≤ K.spare keeper.new) }
     ensures reads { Reads K.Keeper (is_fault result) keeper.old keeper.new }
 {
     is_sound(keeper);

@@ -10,12 +10,12 @@ ghost use Rattle.mc_keep.specs.Tables.{ChangesFit};
 ghost use Rattle.mc_core.specs.Events.{Part};
 ghost use Rattle.mc_model.specs.Wanted.{without};
 ghost use Rattle.mc_queue.specs.Views.{shown, spare};
-ghost use Rattle.mc_core.specs.Plans.{IsReady, IsShaped, IsSomePlan, plan_rows, plan_events, wants};
+ghost use Rattle.mc_core.specs.Uptakes.{IsReady, IsShaped, IsSomeUptake, uptake_rows, uptake_events, wants};
 ghost use Rattle.mc_core.specs.Words.{Becomes, CommitKeeps};
 
-use crate::plan::{After, Plan};
 use crate::replica::Replica;
 use crate::report::numbers_after;
+use crate::uptake::{After, Uptake};
 use crate::wanting::want_links;
 use mc_base::Failed;
 use mc_keep::{Changes, Keeper, changes_fit, commits_are_events};
@@ -106,16 +106,16 @@ impl<K: Keeper> Replica<K> {
         }
     }
 
-    // The commits of a plan. They take no memory.
-    pub(crate) fn carry_out(&mut self, plan: Plan) -> Result<(), Failed>
+    // The commits of a uptake. They take no memory.
+    pub(crate) fn carry_out(&mut self, uptake: Uptake) -> Result<(), Failed>
         requires up { self.old.stopped ≡ false }
-        requires room { plan_rows plan ≤ K.spare self.old.keeper }
-        requires links { length plan.after.links ≤ spare self.old.queue }
-        requires shape { IsShaped plan }
-        requires plan { IfSome (K.told self.old.keeper) (λ kept. IsSomePlan kept self.old.whole plan) }
-        ensures part { Becomes K.Keeper (λ rose. Part (plan_events plan) rose result) self.old self.new }
+        requires room { uptake_rows uptake ≤ K.spare self.old.keeper }
+        requires links { length uptake.after.links ≤ spare self.old.queue }
+        requires shape { IsShaped uptake }
+        requires uptake { IfSome (K.told self.old.keeper) (λ kept. IsSomeUptake kept self.old.whole uptake) }
+        ensures part { Becomes K.Keeper (λ rose. Part (uptake_events uptake) rose result) self.old self.new }
         ensures queue { OnOk result (shown self.new.queue
-            ≡ wants (without (shown self.old.queue) (plan.after.cid ∷ [])) plan.after.links) }
+            ≡ wants (without (shown self.old.queue) (uptake.after.cid ∷ [])) uptake.after.links) }
         ensures up { OnOk result (self.new.stopped ≡ false) }
         ensures keeps { CommitKeeps K.Keeper (is_err result) self.old self.new }
     {
@@ -124,11 +124,11 @@ impl<K: Keeper> Replica<K> {
         kept_is_durable();
         kept_changes_are_events();
         is_sound(&self.keeper);
-        let Plan {
+        let Uptake {
             store,
             process,
             after,
-        } = plan;
+        } = uptake;
         match store {
             Some(store) => self.commit_both(store, process, after),
             None => self.commit_process(process, after),

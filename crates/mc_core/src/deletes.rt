@@ -6,11 +6,11 @@ ghost use Rattle.mc_model.specs.Kept.{is_stored};
 ghost use Rattle.mc_model.specs.Made.{made_bytes, made_cid};
 ghost use Rattle.mc_keep.specs.Causes.{IfTold};
 ghost use Rattle.mc_keep.specs.Plan.{is_fault as keeper_failed};
-ghost use Rattle.mc_core.specs.Deletes.{AddsDeleted, AreMade, AreNext, DeleteKeptRefusal, DeletePlan, DeleteRefusal};
+ghost use Rattle.mc_core.specs.Deletes.{AddsDeleted, AreMade, AreNext, DeleteKeptRefusal, DeleteEvents, DeleteRefusal};
 ghost use Rattle.mc_core.specs.Deletes.{DeleteShort, DeltasRefusal, IsDelete, IsMade, IsNextMade, IsOutside, ShortKeeps};
 ghost use Rattle.mc_core.specs.Deletes.{Takes, TakesOne, chain_clash, has_made, is_left, with_all};
 ghost use Rattle.mc_core.specs.Exact.{IfRefused, RestSame, front_of, stop_front};
-ghost use Rattle.mc_core.specs.Plans.{IsNew, IsPlan, IsShaped, plan_rows};
+ghost use Rattle.mc_core.specs.Uptakes.{IsNew, IsUptake, IsShaped, uptake_rows};
 ghost use Rattle.mc_core.specs.Puts.{next_links};
 ghost use Rattle.mc_core.specs.Refusals.{Is, IsDue, clash_refusal, is_fault, key_refusal};
 ghost use Rattle.mc_core.specs.Words.{Acts, Becomes, CommitKeeps, Continues, TellsSame};
@@ -18,8 +18,8 @@ ghost use Rattle.mc_core.specs.Words.{Acts, Becomes, CommitKeeps, Continues, Tel
 use crate::commits::is_sound;
 use crate::error::stops;
 use crate::made::{check_clash, cids_of};
-use crate::plan::{Plan, plan_block};
 use crate::puts::check_key;
+use crate::uptake::{Uptake, uptake_of};
 use crate::{CoreError, Replica};
 use mc_base::{Bytes, Cid, Failed, List};
 use mc_block::write_block;
@@ -51,7 +51,7 @@ impl<K: Keeper> Replica<K> {
     /// `BlockTooLarge`, `Clash`; these leave the replica as it was. After `Memory` some first blocks, but not all, may
     /// have been processed, and the key has the value that it had.
     pub fn delete(&mut self, alloc: Global, key: &str) -> Result<Deleted, CoreError>
-        ensures call { Acts K.Keeper (λ s. DeleteRefusal s key.now) (λ s. DeletePlan s key.now)
+        ensures call { Acts K.Keeper (λ s. DeleteRefusal s key.now) (λ s. DeleteEvents s key.now)
             (λ s. DeleteShort s key.now) result self.old self.new }
         ensures keeps { Continues K.Keeper (is_fault result) self.old self.new }
         ensures front { front_of result ≡ stop_front self.old.stopped (key_refusal key.now) }
@@ -107,7 +107,7 @@ impl<K: Keeper> Replica<K> {
     {
         kept_is_durable();
         match plan_one(&mut self.keeper, alloc, made, self.whole) {
-            Ok(plan) => match self.carry_out(plan) {
+            Ok(uptake) => match self.carry_out(uptake) {
                 Ok(()) => Ok(()),
                 Err(Failed) => Err(CoreError::KeeperFault),
             },
@@ -125,14 +125,14 @@ fn plan_one<K: Keeper>(
     alloc: Global,
     made: MadeBlock,
     whole: bool,
-) -> Result<Plan, CoreError>
+) -> Result<Uptake, CoreError>
     requires new { IfSome (K.told keeper.old) (λ kept. IsNew kept made.block made.bytes []) }
     requires stored { IfSome (K.told keeper.old) (λ kept. made.known ≡ is_stored kept.graph made.block.cid) }
-    ensures plan { IfTold (K.told keeper.old) result (λ kept plan. IsPlan kept whole made.block made.bytes plan) }
+    ensures uptake { IfTold (K.told keeper.old) result (λ kept uptake. IsUptake kept whole made.block made.bytes uptake) }
     ensures only { IfErr result IsOutside }
     ensures shape { IfOk result IsShaped }
-    ensures links { IfOk result (λ plan. plan.after.links ≡ []) }
-    ensures room { IfOk result (λ plan. plan_rows plan ≤ K.spare keeper.new) }
+    ensures links { IfOk result (λ uptake. uptake.after.links ≡ []) }
+    ensures room { IfOk result (λ uptake. uptake_rows uptake ≤ K.spare keeper.new) }
     ensures reads { Reads K.Keeper (is_fault result) keeper.old keeper.new }
 {
     let MadeBlock {
@@ -140,8 +140,8 @@ fn plan_one<K: Keeper>(
         bytes,
         known,
     } = made;
-    let plan = plan_block(keeper, alloc, &block, bytes, known, List::new(alloc), whole)?;
-    Ok(plan)
+    let uptake = uptake_of(keeper, alloc, &block, bytes, known, List::new(alloc), whole)?;
+    Ok(uptake)
 }
 
 // The blocks of a delete of a key, none of which clashes.

@@ -13,15 +13,15 @@ ghost use Rattle.mc_queue.specs.Views.{shown, spare};
 ghost use Rattle.mc_core.specs.Exact.{RestSame, front_of, stop_front};
 ghost use Rattle.mc_fetch.specs.declared.job.Delivered.{Delivered};
 ghost use Rattle.mc_core.specs.Deletes.{IsOutside};
-ghost use Rattle.mc_core.specs.Jobs.{DeliverPlan, DeliverShort, DeliverWants, IsTaken, TakesArrival, found_in, is_known};
+ghost use Rattle.mc_core.specs.Jobs.{DeliverEvents, DeliverShort, DeliverWants, IsTaken, TakesArrival, found_in, is_known};
 ghost use Rattle.mc_model.specs.Events.{Process};
-ghost use Rattle.mc_core.specs.Plans.{IsNoOther, IsShaped, IsSomePlan, plan_events, plan_rows, store_change, with_store};
+ghost use Rattle.mc_core.specs.Uptakes.{IsNoOther, IsShaped, IsSomeUptake, uptake_events, uptake_rows, store_change, with_store};
 ghost use Rattle.mc_core.specs.Reads.{read_refusal};
 ghost use Rattle.mc_core.specs.Refusals.{Is, is_fault};
 ghost use Rattle.mc_core.specs.Words.{Acts, Becomes, Continues};
 
 use crate::commits::is_sound;
-use crate::plan::{Plan, plan_block};
+use crate::uptake::{Uptake, uptake_of};
 use crate::wanting::open_links;
 use crate::{CoreError, Replica};
 use mc_base::{Bytes, Cid, Failed};
@@ -35,7 +35,7 @@ use std::alloc::Global;
 // and the position that it will have.
 #[derive(Drop)]
 struct Arrival {
-    plan: Plan,
+    uptake: Uptake,
     position: u64,
 }
 
@@ -47,7 +47,7 @@ impl<K: Keeper> Replica<K> {
     /// `Stopped`; after `Memory` the block is at the back of those that wait.
     pub fn deliver(&mut self, alloc: Global, job: Job, found: Found) -> Result<Delivered, CoreError>
         requires digest { FoundHas job.cid found }
-        ensures call { Acts K.Keeper (λ s. Is (read_refusal s)) (λ s. DeliverPlan s job.cid (found_in found))
+        ensures call { Acts K.Keeper (λ s. Is (read_refusal s)) (λ s. DeliverEvents s job.cid (found_in found))
             (λ s. DeliverShort s job.cid) result self.old self.new }
         ensures keeps { Continues K.Keeper (is_fault result) self.old self.new }
         ensures front { front_of result ≡ stop_front self.old.stopped None }
@@ -76,7 +76,7 @@ impl<K: Keeper> Replica<K> {
         requires up { self.old.stopped ≡ false }
         requires flight { has cid (shown self.old.queue).flight ≡ true }
         requires digest { FoundHas cid found }
-        ensures call { Acts K.Keeper (λ s. Is (read_refusal s)) (λ s. DeliverPlan s cid (found_in found))
+        ensures call { Acts K.Keeper (λ s. Is (read_refusal s)) (λ s. DeliverEvents s cid (found_in found))
             (λ s. DeliverShort s cid) result self.old self.new }
         ensures keeps { Continues K.Keeper (is_fault result) self.old self.new }
         ensures only { front_of result ≡ None }
@@ -103,7 +103,7 @@ impl<K: Keeper> Replica<K> {
         requires up { self.old.stopped ≡ false }
         requires flight { has cid (shown self.old.queue).flight ≡ true }
         requires digest { digest_of bytes ≡ cid.0 }
-        ensures call { Acts K.Keeper (λ s. Is (read_refusal s)) (λ s. DeliverPlan s cid (Some bytes))
+        ensures call { Acts K.Keeper (λ s. Is (read_refusal s)) (λ s. DeliverEvents s cid (Some bytes))
             (λ s. DeliverShort s cid) result self.old self.new }
         ensures keeps { Continues K.Keeper (is_fault result) self.old self.new }
         ensures only { front_of result ≡ None }
@@ -136,7 +136,7 @@ impl<K: Keeper> Replica<K> {
         requires up { self.old.stopped ≡ false }
         requires flight { has cid (shown self.old.queue).flight ≡ true }
         requires good { (offer cid bytes ≡ Ok block) × (block.cid ≡ cid) }
-        ensures call { Acts K.Keeper (λ s. Is (read_refusal s)) (λ s. DeliverPlan s cid (Some bytes))
+        ensures call { Acts K.Keeper (λ s. Is (read_refusal s)) (λ s. DeliverEvents s cid (Some bytes))
             (λ s. DeliverShort s cid) result self.old self.new }
         ensures keeps { Continues K.Keeper (is_fault result) self.old self.new }
         ensures only { front_of result ≡ None }
@@ -162,25 +162,25 @@ impl<K: Keeper> Replica<K> {
     // The commits of a block that was found.
     fn take_up_arrival(&mut self, arrival: Arrival) -> Result<Delivered, CoreError>
         requires up { self.old.stopped ≡ false }
-        requires flight { has arrival.plan.after.cid (shown self.old.queue).flight ≡ true }
-        requires room { plan_rows arrival.plan ≤ K.spare self.old.keeper }
-        requires shape { IsShaped arrival.plan }
-        requires plan { IfSome (K.told self.old.keeper) (λ kept. IsSomePlan kept self.old.whole arrival.plan) }
-        ensures takes { Becomes K.Keeper (λ rose. TakesArrival arrival.plan rose result) self.old self.new }
+        requires flight { has arrival.uptake.after.cid (shown self.old.queue).flight ≡ true }
+        requires room { uptake_rows arrival.uptake ≤ K.spare self.old.keeper }
+        requires shape { IsShaped arrival.uptake }
+        requires uptake { IfSome (K.told self.old.keeper) (λ kept. IsSomeUptake kept self.old.whole arrival.uptake) }
+        ensures takes { Becomes K.Keeper (λ rose. TakesArrival arrival.uptake rose result) self.old self.new }
         ensures answer { IfOk result (λ delivered. delivered ≡ Delivered.Processed arrival.position) }
         ensures only { IfErr result IsOutside }
         ensures keeps { Continues K.Keeper (is_fault result) self.old self.new }
         ensures rest { RestSame self.old self.new }
-        ensures wants { DeliverWants result (shown self.old.queue) (shown self.new.queue) arrival.plan.after.cid }
+        ensures wants { DeliverWants result (shown self.old.queue) (shown self.new.queue) arrival.uptake.after.cid }
     {
-        let Arrival { plan, position } = arrival;
-        match self.queue.reserve(plan.after.links.len() as u64) {
-            Ok(()) => match self.carry_out(plan) {
+        let Arrival { uptake, position } = arrival;
+        match self.queue.reserve(uptake.after.links.len() as u64) {
+            Ok(()) => match self.carry_out(uptake) {
                 Ok(()) => Ok(Delivered::Processed { position }),
                 Err(Failed) => Err(CoreError::KeeperFault),
             },
             Err(_error) => {
-                self.queue.back(&plan.after.cid);
+                self.queue.back(&uptake.after.cid);
                 Err(CoreError::Memory)
             }
         }
@@ -198,13 +198,13 @@ fn plan_arrival<K: Keeper>(
 ) -> Result<Arrival, KeepError>
     requires good { (offer cid.now bytes ≡ Ok block) × (block.cid ≡ cid.now) }
     requires new { IfSome (K.told keeper.old) (λ kept. is_among kept.order cid.now ≡ false) }
-    ensures plan { IfTold (K.told keeper.old) result (λ kept arrival. IsSomePlan kept whole arrival.plan) }
-    ensures events { IfTold (K.told keeper.old) result (λ kept arrival. plan_events arrival.plan
+    ensures uptake { IfTold (K.told keeper.old) result (λ kept arrival. IsSomeUptake kept whole arrival.uptake) }
+    ensures events { IfTold (K.told keeper.old) result (λ kept arrival. uptake_events arrival.uptake
         ≡ with_store (store_change kept.graph cid.now bytes) (Process (cid.now ∷ []) ∷ [])) }
     ensures position { IfTold (K.told keeper.old) result (λ kept arrival. arrival.position ≡ length kept.order) }
-    ensures shape { IfOk result (λ arrival. IsShaped arrival.plan) }
-    ensures same { IfOk result (λ arrival. arrival.plan.after.cid ≡ cid.now) }
-    ensures room { IfOk result (λ arrival. plan_rows arrival.plan ≤ K.spare keeper.new) }
+    ensures shape { IfOk result (λ arrival. IsShaped arrival.uptake) }
+    ensures same { IfOk result (λ arrival. arrival.uptake.after.cid ≡ cid.now) }
+    ensures room { IfOk result (λ arrival. uptake_rows arrival.uptake ≤ K.spare keeper.new) }
     ensures reads { Reads K.Keeper (keeper_failed result) keeper.old keeper.new }
 {
     let known = keeper.stored(cid)?;
@@ -212,8 +212,8 @@ fn plan_arrival<K: Keeper>(
     let links = open_links(keeper, alloc, &taken.block)?;
     let position = keeper.summary()?.processed;
     let Taken { block, bytes } = taken;
-    let plan = plan_block(keeper, alloc, &block, bytes, known, links, whole)?;
-    Ok(Arrival { plan, position })
+    let uptake = uptake_of(keeper, alloc, &block, bytes, known, links, whole)?;
+    Ok(Arrival { uptake, position })
 }
 
 // A block, and the bytes that it was read from.

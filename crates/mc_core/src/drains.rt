@@ -11,7 +11,7 @@ ghost use Rattle.mc_core.specs.declared.error.CoreError.{CoreError};
 ghost use Rattle.mc_core.specs.Calls.{Call};
 ghost use Rattle.mc_core.specs.Drained.{CallDrains, DrainsOn};
 ghost use Rattle.mc_core.specs.Events.{ReplicaState, HappensIn};
-ghost use Rattle.mc_core.specs.Jobs.{DeliverPlan, DeliverShort, NextPlan, NextShort};
+ghost use Rattle.mc_core.specs.Jobs.{DeliverEvents, DeliverShort, NextEvents, NextShort};
 ghost use Rattle.mc_core.specs.Reads.{read_refusal};
 ghost use Rattle.mc_core.specs.Refusals.{Is};
 
@@ -22,11 +22,11 @@ use mc_model::{deliveries_are_drains, found_drains_go_on, recall_gives_back};
 /// the bytes which were handed over are those that are found for the block.
 pub fn calls_on_jobs_drain()
     ensures next { (bytes_of : FoundBytes) (before now : ℕ) (result : Result (Option Job) CoreError)
-        (s new : ReplicaState) → Call (Is (read_refusal s)) (NextPlan s) (NextShort s) (Rose before now) result s new →
+        (s new : ReplicaState) → Call (Is (read_refusal s)) (NextEvents s) (NextShort s) (Rose before now) result s new →
         CallDrains bytes_of result s new }
     ensures delivered { (bytes_of : FoundBytes) (cid : Cid) (found : Option (List ℕ)) (before now : ℕ)
         (result : Result Delivered CoreError) (s new : ReplicaState) → IsFoundFor bytes_of cid found →
-        Call (Is (read_refusal s)) (DeliverPlan s cid found) (DeliverShort s cid) (Rose before now) result s new →
+        Call (Is (read_refusal s)) (DeliverEvents s cid found) (DeliverShort s cid) (Rose before now) result s new →
         CallDrains bytes_of result s new }
     ensures given_back { (bytes_of : FoundBytes) (cid : Cid) (s new : ReplicaState) →
         HappensIn s.state.run (λ run. cond (has cid run.queue.flight) (GiveBack cid ∷ []) []) s new →

@@ -9,7 +9,7 @@ ghost use Rattle.mc_model.specs.Wanted.{hear_all};
 ghost use Rattle.mc_queue.specs.Views.{shown, spare};
 ghost use Rattle.mc_core.specs.Calls.{Stays};
 ghost use Rattle.mc_core.specs.Exact.{RestSame, front_of, stop_front};
-ghost use Rattle.mc_core.specs.Hears.{HearPlan, HearWants, IsQueued, IsRefusalOf, NamesNew};
+ghost use Rattle.mc_core.specs.Hears.{HearEvents, HearWants, IsQueued, IsRefusalOf, NamesNew};
 ghost use Rattle.mc_core.specs.Hears.{cast_refusal, hear_refusal, unless_short, written_cast};
 ghost use Rattle.mc_core.specs.Refusals.{Is, IsDue, is_fault};
 ghost use Rattle.mc_core.specs.Words.{Acts, Answers, Continues, StillTells, TellsSame};
@@ -59,7 +59,7 @@ impl<K: Keeper> Replica<K> {
     /// missing or bad, unless it waits or is in flight. The keeper is only read. All memory is taken before the first
     /// change. Refusals in their order: `Stopped`, `BadCast`. After every error the same blocks are wanted as before.
     pub fn hear(&mut self, alloc: Global, message: &[u8]) -> Result<Heard, CoreError>
-        ensures call { Acts K.Keeper (λ s. Is (hear_refusal s message.now)) (λ s. HearPlan s message.now)
+        ensures call { Acts K.Keeper (λ s. Is (hear_refusal s message.now)) (λ s. HearEvents s message.now)
             Stays result self.old self.new }
         ensures keeps { Continues K.Keeper (is_fault result) self.old self.new }
         ensures front { front_of result ≡ stop_front self.old.stopped (unless_short result (cast_refusal message.now)) }

@@ -13,7 +13,7 @@ ghost use Rattle.mc_model.specs.Wanted.{give_back, requeue, recall};
 ghost use Rattle.mc_queue.specs.Tickets.{first_of};
 ghost use Rattle.mc_queue.specs.Views.{shown};
 ghost use Rattle.mc_core.specs.Exact.{RestSame, front_of, stop_front};
-ghost use Rattle.mc_core.specs.Jobs.{NextPlan, NextShort, NextWants};
+ghost use Rattle.mc_core.specs.Jobs.{NextEvents, NextShort, NextWants};
 ghost use Rattle.mc_core.specs.Reads.{read_refusal};
 ghost use Rattle.mc_core.specs.Refusals.{Is, is_fault};
 ghost use Rattle.mc_core.specs.Words.{Acts, Continues, HappensTo, StillTells};
@@ -31,7 +31,7 @@ impl<K: Keeper> Replica<K> {
     /// has stored under it, where their SHA-256 is its digest. `None` exactly where no block waits. Refusals: `Stopped`;
     /// after `Memory` the block is at the back of those that wait.
     pub fn next_job(&mut self, alloc: Global) -> Result<Option<Job>, CoreError>
-        ensures call { Acts K.Keeper (λ s. Is (read_refusal s)) NextPlan NextShort result self.old self.new }
+        ensures call { Acts K.Keeper (λ s. Is (read_refusal s)) NextEvents NextShort result self.old self.new }
         ensures keeps { Continues K.Keeper (is_fault result) self.old self.new }
         ensures front { front_of result ≡ stop_front self.old.stopped None }
         ensures rest { RestSame self.old self.new }

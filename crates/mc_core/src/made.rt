@@ -7,14 +7,14 @@ ghost use Rattle.mc_model.specs.Front.{is_among};
 ghost use Rattle.mc_model.specs.Kept.{processed, is_stored};
 ghost use Rattle.mc_model.specs.Made.{next_priority};
 ghost use Rattle.mc_keep.specs.Causes.{IfTold};
-ghost use Rattle.mc_write.specs.Seen.{row_cids};
+ghost use Rattle.mc_write.specs.Pairs.{row_cids};
 ghost use Rattle.mc_core.specs.Exact.{front_of};
-ghost use Rattle.mc_core.specs.Plans.{IsShaped, plan_rows};
+ghost use Rattle.mc_core.specs.Uptakes.{IsShaped, uptake_rows};
 ghost use Rattle.mc_core.specs.Puts.{IsPlanned, next_links};
 ghost use Rattle.mc_core.specs.Refusals.{Is, IsDue, clash_refusal, is_fault, made_refusal, other_refusal, priority_refusal, size_refusal};
 
 use crate::CoreError;
-use crate::plan::{Plan, plan_block};
+use crate::uptake::{Uptake, uptake_of};
 use mc_base::{Cid, Failed, List};
 use mc_block::write_block;
 use mc_keep::{HeadRow, Keeper};
@@ -38,7 +38,7 @@ pub struct Written {
 // The commits of a made block, with all their memory taken, and the answer for it.
 #[derive(Drop)]
 pub(crate) struct Planned {
-    pub(crate) plan: Plan,
+    pub(crate) uptake: Uptake,
     pub(crate) written: Written,
 }
 
@@ -147,10 +147,10 @@ pub(crate) fn plan_made<K: Keeper>(
     ensures planned { IfTold (K.told keeper.old) result (λ kept planned. IsPlanned kept whole links delta planned) }
     ensures front { front_of result ≡ None }
     ensures refused { IfSome (K.told keeper.old) (λ kept. IfErr result (IsDue (Is (made_refusal kept links delta)))) }
-    ensures shape { IfOk result (λ planned. IsShaped planned.plan) }
-    ensures links { IfOk result (λ planned. planned.plan.after.links ≡ []) }
-    ensures same { IfOk result (λ planned. planned.plan.after.cid ≡ planned.written.cid) }
-    ensures room { IfOk result (λ planned. plan_rows planned.plan ≤ K.spare keeper.new) }
+    ensures shape { IfOk result (λ planned. IsShaped planned.uptake) }
+    ensures links { IfOk result (λ planned. planned.uptake.after.links ≡ []) }
+    ensures same { IfOk result (λ planned. planned.uptake.after.cid ≡ planned.written.cid) }
+    ensures room { IfOk result (λ planned. uptake_rows planned.uptake ≤ K.spare keeper.new) }
     ensures reads { Reads K.Keeper (is_fault result) keeper.old keeper.new }
 {
     let made = write_block(alloc, links.as_slice(), &delta)?;
@@ -170,7 +170,7 @@ pub(crate) fn plan_made<K: Keeper>(
         links,
         delta,
     };
-    let plan = plan_block(
+    let uptake = uptake_of(
         keeper,
         alloc,
         &block,
@@ -179,5 +179,5 @@ pub(crate) fn plan_made<K: Keeper>(
         List::new(alloc),
         whole,
     )?;
-    Ok(Planned { plan, written })
+    Ok(Planned { uptake, written })
 }

@@ -3,7 +3,7 @@ ghost use Rattle.mc_keep.specs.Calls.{Reads};
 ghost use Rattle.std.specs.Prelude.{◌≡◌, ◌≤◌, [], None, Some, false, IfOk, IfSome, IfErr, OnOk};
 ghost use Rattle.mc_keep.specs.Causes.{IfTold};
 ghost use Rattle.mc_core.specs.Exact.{front_of, put_front};
-ghost use Rattle.mc_core.specs.Plans.{IsShaped, plan_rows};
+ghost use Rattle.mc_core.specs.Uptakes.{IsShaped, uptake_rows};
 ghost use Rattle.mc_core.specs.Puts.{IsPlanned, next_links, delta_of_put, put_made_refusal, put_kept_refusal};
 ghost use Rattle.mc_core.specs.Refusals.{Is, IsDue, is_fault, key_refusal, value_refusal};
 
@@ -59,10 +59,10 @@ fn plan_made_put<K: Keeper>(
     ensures front { front_of result ≡ None }
     ensures refused { IfSome (K.told keeper.old) (λ kept.
         IfErr result (IsDue (Is (put_made_refusal kept key.now value.now)))) }
-    ensures shape { IfOk result (λ planned. IsShaped planned.plan) }
-    ensures links { IfOk result (λ planned. planned.plan.after.links ≡ []) }
-    ensures same { IfOk result (λ planned. planned.plan.after.cid ≡ planned.written.cid) }
-    ensures room { IfOk result (λ planned. plan_rows planned.plan ≤ K.spare keeper.new) }
+    ensures shape { IfOk result (λ planned. IsShaped planned.uptake) }
+    ensures links { IfOk result (λ planned. planned.uptake.after.links ≡ []) }
+    ensures same { IfOk result (λ planned. planned.uptake.after.cid ≡ planned.written.cid) }
+    ensures room { IfOk result (λ planned. uptake_rows planned.uptake ≤ K.spare keeper.new) }
     ensures reads { Reads K.Keeper (is_fault result) keeper.old keeper.new }
 {
     is_sound(keeper);
@@ -87,10 +87,10 @@ pub(crate) fn plan_put<K: Keeper>(
     ensures front { front_of result ≡ put_front key.now value.now }
     ensures refused { IfSome (K.told keeper.old) (λ kept.
         IfErr result (IsDue (Is (put_kept_refusal kept key.now value.now)))) }
-    ensures shape { IfOk result (λ planned. IsShaped planned.plan) }
-    ensures links { IfOk result (λ planned. planned.plan.after.links ≡ []) }
-    ensures same { IfOk result (λ planned. planned.plan.after.cid ≡ planned.written.cid) }
-    ensures room { IfOk result (λ planned. plan_rows planned.plan ≤ K.spare keeper.new) }
+    ensures shape { IfOk result (λ planned. IsShaped planned.uptake) }
+    ensures links { IfOk result (λ planned. planned.uptake.after.links ≡ []) }
+    ensures same { IfOk result (λ planned. planned.uptake.after.cid ≡ planned.written.cid) }
+    ensures room { IfOk result (λ planned. uptake_rows planned.uptake ≤ K.spare keeper.new) }
     ensures reads { Reads K.Keeper (is_fault result) keeper.old keeper.new }
 {
     let key = check_key(key)?;

@@ -12,10 +12,10 @@ ghost use Rattle.mc_core.specs.declared.error.CoreError.{CoreError as Refused};
 ghost use Rattle.mc_core.specs.declared.walks.WalkStep.{WalkStep as Step};
 ghost use Rattle.mc_core.specs.Calls.{Stays};
 ghost use Rattle.mc_core.specs.Exact.{IfRefusedOrShort, RestSame, front_of, stop_front};
-ghost use Rattle.mc_core.specs.Plans.{wants};
+ghost use Rattle.mc_core.specs.Uptakes.{wants};
 ghost use Rattle.mc_core.specs.Reads.{read_refusal};
 ghost use Rattle.mc_core.specs.Refusals.{Is, is_fault};
-ghost use Rattle.mc_core.specs.Walks.{WalkPlan, clearing, clears, gap_count, open_links_at, settled_with, step_due};
+ghost use Rattle.mc_core.specs.Walks.{WalkEvents, clearing, clears, gap_count, open_links_at, settled_with, step_due};
 ghost use Rattle.mc_core.specs.Words.{Acts, Continues, StillTells, StepsOn};
 
 use crate::commits::is_sound;
@@ -65,7 +65,7 @@ impl<K: Keeper> Replica<K> {
     /// is cleared where no gap is left. Only the end commits, once at most. Refusals: `Stopped`; `Memory` leaves the
     /// replica as it was.
     pub fn walk_step(&mut self, alloc: Global) -> Result<WalkStep, CoreError>
-        ensures call { Acts K.Keeper (λ s. Is (read_refusal s)) WalkPlan Stays result self.old self.new }
+        ensures call { Acts K.Keeper (λ s. Is (read_refusal s)) WalkEvents Stays result self.old self.new }
         ensures keeps { Continues K.Keeper (is_fault result) self.old self.new }
         ensures front { front_of result ≡ stop_front self.old.stopped None }
         ensures step { IfOk result (λ step. StepsOn K.Keeper step self.old self.new) }
@@ -86,7 +86,7 @@ impl<K: Keeper> Replica<K> {
     fn go_on(&mut self, alloc: Global) -> Result<WalkStep, CoreError>
         requires up { self.old.stopped ≡ false }
         requires whole { self.old.whole ≡ false }
-        ensures call { Acts K.Keeper (λ s. Is (read_refusal s)) WalkPlan Stays result self.old self.new }
+        ensures call { Acts K.Keeper (λ s. Is (read_refusal s)) WalkEvents Stays result self.old self.new }
         ensures keeps { Continues K.Keeper (is_fault result) self.old self.new }
         ensures only { front_of result ≡ None }
         ensures step { IfOk result (λ step. StepsOn K.Keeper step self.old self.new) }
@@ -118,7 +118,7 @@ impl<K: Keeper> Replica<K> {
         requires up { self.old.stopped ≡ false }
         requires whole { self.old.whole ≡ false }
         requires walk { self.old.walk ≡ None }
-        ensures call { Acts K.Keeper (λ s. Is (read_refusal s)) WalkPlan Stays result self.old self.new }
+        ensures call { Acts K.Keeper (λ s. Is (read_refusal s)) WalkEvents Stays result self.old self.new }
         ensures keeps { Continues K.Keeper (is_fault result) self.old self.new }
         ensures only { front_of result ≡ None }
         ensures step { IfOk result (λ step. StepsOn K.Keeper step self.old self.new) }
@@ -144,7 +144,7 @@ impl<K: Keeper> Replica<K> {
         requires whole { self.old.whole ≡ false }
         requires due { step_due self.old.whole self.old.walk ≡ Step.Ended }
         requires visited { IsVisited self.old.walk }
-        ensures call { Acts K.Keeper (λ s. Is (read_refusal s)) WalkPlan Stays result self.old self.new }
+        ensures call { Acts K.Keeper (λ s. Is (read_refusal s)) WalkEvents Stays result self.old self.new }
         ensures keeps { Continues K.Keeper (is_fault result) self.old self.new }
         ensures only { front_of result ≡ None }
         ensures step { IfOk result (λ step. StepsOn K.Keeper step self.old self.new) }
@@ -169,7 +169,7 @@ impl<K: Keeper> Replica<K> {
         requires due { step_due self.old.whole self.old.walk ≡ Step.Ended }
         requires visited { IsVisited self.old.walk }
         requires clears { clears self.old.numbers ≡ true }
-        ensures call { Acts K.Keeper (λ s. Is (read_refusal s)) WalkPlan Stays result self.old self.new }
+        ensures call { Acts K.Keeper (λ s. Is (read_refusal s)) WalkEvents Stays result self.old self.new }
         ensures keeps { Continues K.Keeper (is_fault result) self.old self.new }
         ensures only { front_of result ≡ None }
         ensures step { IfOk result (λ step. StepsOn K.Keeper step self.old self.new) }

@@ -6,7 +6,7 @@ ghost use Rattle.mc_keep.specs.Causes.{IfTold};
 ghost use Rattle.mc_keep.specs.Plan.{is_fault};
 ghost use Rattle.mc_model.specs.Graph.{has};
 ghost use Rattle.mc_queue.specs.Views.{shown, spare};
-ghost use Rattle.mc_core.specs.Plans.{open_links, wants};
+ghost use Rattle.mc_core.specs.Uptakes.{open_links, wants};
 
 use crate::made::is_processed;
 use mc_base::{Cid, Failed, List};

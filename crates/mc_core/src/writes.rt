@@ -6,8 +6,8 @@ ghost use Rattle.mc_core.specs.declared.error.CoreError.{CoreError as Refused};
 ghost use Rattle.mc_core.specs.Calls.{Stays};
 ghost use Rattle.mc_core.specs.Events.{Part};
 ghost use Rattle.mc_core.specs.Exact.{IfRefusedOrShort, RestSame, front_of, put_front, stop_front};
-ghost use Rattle.mc_core.specs.Plans.{IsShaped, IsSomePlan, plan_events, plan_rows};
-ghost use Rattle.mc_core.specs.Puts.{AddsPut, PutPlan, put_refusal};
+ghost use Rattle.mc_core.specs.Uptakes.{IsShaped, IsSomeUptake, uptake_events, uptake_rows};
+ghost use Rattle.mc_core.specs.Puts.{AddsPut, PutEvents, put_refusal};
 ghost use Rattle.mc_core.specs.Refusals.{Is, is_fault};
 ghost use Rattle.mc_core.specs.Words.{Acts, Becomes, CommitKeeps, Continues, TellsSame};
 
@@ -26,7 +26,7 @@ impl<K: Keeper> Replica<K> {
     /// memory is taken before the first commit. Refusals in their order: `Stopped`, `BadKey`, `ValueTooLong`,
     /// `PriorityFull`, `BlockTooLarge`, `Clash`; these and `Memory` leave the replica as it was.
     pub fn put(&mut self, alloc: Global, key: &str, value: &[u8]) -> Result<Written, CoreError>
-        ensures call { Acts K.Keeper (λ s. Is (put_refusal s key.now value.now)) (λ s. PutPlan s key.now value.now)
+        ensures call { Acts K.Keeper (λ s. Is (put_refusal s key.now value.now)) (λ s. PutEvents s key.now value.now)
             Stays result self.old self.new }
         ensures keeps { Continues K.Keeper (is_fault result) self.old self.new }
         ensures front { front_of result ≡ stop_front self.old.stopped (put_front key.now value.now) }
@@ -56,12 +56,12 @@ impl<K: Keeper> Replica<K> {
     // The commits of a planned block.
     pub(crate) fn take_up(&mut self, planned: Planned) -> Result<Written, CoreError>
         requires up { self.old.stopped ≡ false }
-        requires room { plan_rows planned.plan ≤ K.spare self.old.keeper }
-        requires shape { IsShaped planned.plan }
-        requires links { planned.plan.after.links ≡ [] }
-        requires same { planned.plan.after.cid ≡ planned.written.cid }
-        requires plan { IfSome (K.told self.old.keeper) (λ kept. IsSomePlan kept self.old.whole planned.plan) }
-        ensures part { Becomes K.Keeper (λ rose. Part (plan_events planned.plan) rose result) self.old self.new }
+        requires room { uptake_rows planned.uptake ≤ K.spare self.old.keeper }
+        requires shape { IsShaped planned.uptake }
+        requires links { planned.uptake.after.links ≡ [] }
+        requires same { planned.uptake.after.cid ≡ planned.written.cid }
+        requires uptake { IfSome (K.told self.old.keeper) (λ kept. IsSomeUptake kept self.old.whole planned.uptake) }
+        ensures part { Becomes K.Keeper (λ rose. Part (uptake_events planned.uptake) rose result) self.old self.new }
         ensures answer { IfOk result (λ written. written ≡ planned.written) }
         ensures only { IfErr result (λ error. error ≡ Refused.KeeperFault) }
         ensures up { IfOk result (λ written. self.new.stopped ≡ false) }
@@ -69,8 +69,8 @@ impl<K: Keeper> Replica<K> {
             shown self.new.queue ≡ without (shown self.old.queue) (written.cid ∷ [])) }
         ensures keeps { CommitKeeps K.Keeper (is_fault result) self.old self.new }
     {
-        let Planned { plan, written } = planned;
-        match self.carry_out(plan) {
+        let Planned { uptake, written } = planned;
+        match self.carry_out(uptake) {
             Ok(()) => Ok(written),
             Err(Failed) => Err(CoreError::KeeperFault),
         }

@@ -2,9 +2,9 @@
 use Rattle.std.proofs.Common.{◌≡◌, ℕ, ◌≤◌, List, length, Option}
 use Rattle.std.specs.Option.{option_map, option_or}
 use Rattle.mc_base.specs.NodeRead.{link_fault, parts_in, first_of}
-use Rattle.mc_wire.specs.Seen.{fronts_at}
+use Rattle.mc_wire.specs.Named.{fronts_at}
 use Rattle.mc_dagpb.specs.declared.link.Span.{Span}
-use Rattle.mc_dagpb.specs.Seen.{IsSpan, span_bytes}
+use Rattle.mc_dagpb.specs.Named.{IsSpan, span_bytes}
 use Rattle.std.specs.Prelude.{IfSome}
 
 -- the fields up to an offset are fine, and this is the Hash among them

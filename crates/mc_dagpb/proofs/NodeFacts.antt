@@ -9,10 +9,10 @@ use Rattle.std.specs.Option.{option_or}
 use Rattle.std.specs.Prelude.{is_some}
 use Rattle.mc_base.specs.NodeRead.{NodeFault, NodeText, node_fault, node_key_fault, node_of, part_in, parts_in, first_of, link_hashes}
 use Rattle.mc_base.specs.WireRead.{Front, Placed, Whole}
-use Rattle.mc_wire.specs.Seen.{fronts_at}
+use Rattle.mc_wire.specs.Named.{fronts_at}
 use Rattle.mc_dagpb.specs.Before.{IsAfter, has_data}
 use Rattle.mc_dagpb.specs.Reads.{with_field}
-use Rattle.mc_dagpb.specs.Seen.{span_bytes}
+use Rattle.mc_dagpb.specs.Named.{span_bytes}
 use Rattle.mc_dagpb.specs.Step.{StepAt, Says, number_of_field}
 use Rattle.mc_dagpb.specs.declared.step.NodeField.{NodeField}
 use Rattle.mc_dagpb.specs.declared.step.NodeField.TheVariants.{Data, Link}

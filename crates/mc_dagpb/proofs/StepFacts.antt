@@ -4,10 +4,10 @@ use Rattle.std.proofs.lemmas.List.{length-take-le, length-drop, drop-take, take-
 use Rattle.std.specs.List.{cons_option}
 use Rattle.mc_base.specs.WireRead.{front_of, is_whole, len_of, fronts_past, fronts_from}
 use Rattle.mc_base.specs.NodeRead.{NodeFault, link_of, link_fault, unless, hash_or, fault_in, body_fault, part_in, parts_in, first_of}
-use Rattle.mc_wire.specs.Seen.{FieldAt, field_at}
+use Rattle.mc_wire.specs.Named.{FieldAt, field_at}
 use Rattle.mc_wire.specs.declared.field.Content.TheVariants.{Part as PartAt}
 use Rattle.mc_wire.specs.declared.field.Field.{Field as PlacedField}
-use Rattle.mc_dagpb.specs.Seen.{IsSpan, span_bytes}
+use Rattle.mc_dagpb.specs.Named.{IsSpan, span_bytes}
 use Rattle.mc_dagpb.specs.Step.{StepOf}
 use Rattle.mc_dagpb.specs.declared.link.Span.{Span}
 use Rattle.mc_dagpb.specs.declared.step.NodeField.TheVariants.{Link}

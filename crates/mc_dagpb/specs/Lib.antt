@@ -1,5 +1,5 @@
 pub mod Before
 pub mod Reads
-pub mod Seen
+pub mod Named
 pub mod Step
 pub mod Written

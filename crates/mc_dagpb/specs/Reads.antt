@@ -2,7 +2,7 @@
 use Rattle.std.specs.Prelude.{◌≡◌, ℕ, List, [], ◌∷◌, ◌++◌, map, Some, Err, ⊤}
 use Rattle.std.specs.Option.{option_map}
 use Rattle.mc_base.specs.NodeRead.{NodeText, node_of}
-use Rattle.mc_dagpb.specs.Seen.{fault_named, span_bytes}
+use Rattle.mc_dagpb.specs.Named.{fault_named, span_bytes}
 use Rattle.mc_dagpb.specs.declared.fault.NodeError.{NodeError}
 use Rattle.mc_dagpb.specs.declared.fault.NodeError.TheVariants.{Memory, Fault}
 use Rattle.mc_dagpb.specs.declared.node.Node.{Node}

@@ -3,10 +3,10 @@ use Rattle.std.specs.Prelude.{◌≡◌, ℕ, ◌-◌, ◌<◌, ◌≤◌, List,
 use Rattle.mc_base.specs.Wire.{Field}
 use Rattle.mc_base.specs.WireRead.{Front, Whole, fronts_from}
 use Rattle.mc_base.specs.NodeRead.{node_front_fault, node_key_fault, body_fault, part_in, parts_in, first_of}
-use Rattle.mc_wire.specs.Seen.{field_at, fronts_at}
+use Rattle.mc_wire.specs.Named.{field_at, fronts_at}
 use Rattle.mc_wire.specs.declared.field.Field.{Field as PlacedField}
 use Rattle.mc_dagpb.specs.Before.{IsAfter}
-use Rattle.mc_dagpb.specs.Seen.{IsSpan, span_bytes}
+use Rattle.mc_dagpb.specs.Named.{IsSpan, span_bytes}
 use Rattle.mc_dagpb.specs.declared.order.Order.{Order}
 use Rattle.mc_dagpb.specs.declared.step.NodeField.{NodeField}
 use Rattle.mc_dagpb.specs.declared.step.NodeField.TheVariants.{Data, Link}

@@ -1,8 +1,8 @@
 // Why a text is no node.
 ghost use Rattle.std.specs.Prelude.{◌≡◌};
 ghost use Rattle.mc_base.specs.NodeRead.{wire_kind};
-ghost use Rattle.mc_wire.specs.Seen.{fault_named};
-ghost use Rattle.mc_dagpb.specs.Seen.{kind_named};
+ghost use Rattle.mc_wire.specs.Named.{fault_named};
+ghost use Rattle.mc_dagpb.specs.Named.{kind_named};
 ghost use Rattle.mc_dagpb.specs.declared.fault.NodeError.TheVariants.{Memory, Fault};
 
 use mc_wire::{WireFault, WireFaultAt};

@@ -3,9 +3,9 @@ ghost use Rattle.std.specs.Prelude.{◌≡◌, ◌≤◌, ◌↔◌, [], length,
 ghost use Rattle.std.specs.Option.{option_map};
 ghost use Rattle.std.specs.Str.{is_utf8};
 ghost use Rattle.mc_base.specs.NodeRead.{link_key_fault, link_front_fault, link_fault, name_fault, link_of, part_in};
-ghost use Rattle.mc_wire.specs.Seen.{fronts_at, content_at, field_at, EndsAt, FieldAt};
+ghost use Rattle.mc_wire.specs.Named.{fronts_at, content_at, field_at, EndsAt, FieldAt};
 ghost use Rattle.mc_base.specs.NodeRead as read;
-ghost use Rattle.mc_dagpb.specs.Seen.{kind_named, fault_named, IsSpan, span_bytes, whole_front, LinkFieldAt};
+ghost use Rattle.mc_dagpb.specs.Named.{kind_named, fault_named, IsSpan, span_bytes, whole_front, LinkFieldAt};
 
 use crate::fault::kind_of;
 use crate::{NodeFault, NodeFaultKind};

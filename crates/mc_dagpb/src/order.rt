@@ -2,7 +2,7 @@
 ghost use Rattle.std.specs.Prelude.{◌≡◌, ◌⊎◌, IfNone, List, ℕ, ◌++◌, ◌∷◌, [], drop, false, None};
 ghost use Rattle.std.specs.Option.{option_map};
 ghost use Rattle.mc_base.specs.NodeRead.{node_key_fault};
-ghost use Rattle.mc_dagpb.specs.Seen.{kind_named};
+ghost use Rattle.mc_dagpb.specs.Named.{kind_named};
 ghost use Rattle.mc_dagpb.specs.Before.{IsAfter, has_data};
 ghost use Rattle.mc_dagpb.specs.Step.{number_of_field};
 

@@ -2,9 +2,9 @@
 ghost use Rattle.std.specs.Prelude.{◌≡◌, ◌≤◌, ◌-◌, ◌⊎◌, List, ℕ, [], length, Ok, Err, None, Some, IfOk, IfSome, IfErr, IfNone};
 ghost use Rattle.mc_base.specs.NodeRead.{node_fault, body_fault, part_in};
 ghost use Rattle.mc_base.specs.Wire.{wire_type};
-ghost use Rattle.mc_wire.specs.Seen.{fronts_at, content_at, field_at, EndsAt, FieldAt};
+ghost use Rattle.mc_wire.specs.Named.{fronts_at, content_at, field_at, EndsAt, FieldAt};
 ghost use Rattle.mc_dagpb.specs.Before.{IsAfter};
-ghost use Rattle.mc_dagpb.specs.Seen.{fault_named};
+ghost use Rattle.mc_dagpb.specs.Named.{fault_named};
 ghost use Rattle.mc_dagpb.specs.Step.{StepAt, StepOf};
 
 use crate::fault::kind_of;

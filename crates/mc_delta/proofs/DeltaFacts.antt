@@ -6,13 +6,13 @@ use Rattle.mc_base.specs.NodeRead.{parts_in}
 use Rattle.mc_model.specs.DeltaText as model
 use Rattle.mc_model.specs.DeltaText.{DeltaFault, delta_of, delta_fault, delta_fault_in, delta_read, element_in, tomb_in, last_or, varints_in}
 use Rattle.mc_model.specs.declared.delta.Delta.{Delta}
-use Rattle.mc_wire.specs.Seen as wire
-use Rattle.mc_wire.specs.Seen.{FaultAt, FieldAt, fronts_at}
+use Rattle.mc_wire.specs.Named as wire
+use Rattle.mc_wire.specs.Named.{FaultAt, FieldAt, fronts_at}
 use Rattle.mc_wire.specs.declared.fault.WireFaultAt.{WireFaultAt}
 use Rattle.mc_wire.specs.declared.field.Field.{Field as PlacedField}
 use Rattle.mc_wire.proofs.AllFields.{none_is_no}
 use Rattle.mc_delta.specs.Deltas.{IsFault, IsFieldFault}
-use Rattle.mc_delta.specs.Seen.{fault_named, of_wire}
+use Rattle.mc_delta.specs.Faults.{fault_named, of_wire}
 use Rattle.mc_delta.specs.declared.fault.DeltaError.{DeltaError}
 use Rattle.mc_delta.specs.declared.fault.DeltaError.TheVariants.{Memory, Fault}
 use Rattle.mc_delta.proofs.DeltaLaw.{none_of_fault}

@@ -9,7 +9,7 @@ use Rattle.mc_delta.proofs.FrontFields.{parts_of_fields}
 use Rattle.mc_delta.proofs.ReadLaw.{last_of_fields}
 use Rattle.mc_delta.specs.Entries.{EntryAt}
 use Rattle.mc_model.specs.DeltaText.{entry_fault, last_or, last_part, last_in}
-use Rattle.mc_wire.specs.Seen.{fronts_at}
+use Rattle.mc_wire.specs.Named.{fronts_at}
 use Rattle.mc_delta.specs.declared.entry.Entry.{Entry}
 
 -- the fields up to an offset are fine, and this is what they hold

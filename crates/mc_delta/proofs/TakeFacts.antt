@@ -5,7 +5,7 @@ use Rattle.mc_model.specs.DeltaText.{entry_fault, element_in, tomb_in}
 use Rattle.mc_model.specs.declared.delta.Delta.{Delta}
 use Rattle.mc_model.specs.declared.delta.Element.{Element}
 use Rattle.mc_model.specs.declared.delta.Tomb.{Tomb}
-use Rattle.mc_wire.specs.Seen.{EndsAt, fronts_at, field_at}
+use Rattle.mc_wire.specs.Named.{EndsAt, fronts_at, field_at}
 use Rattle.mc_wire.specs.declared.field.Content.TheVariants.{Part as PartAt}
 use Rattle.mc_wire.specs.declared.field.Field.{Field as PlacedField}
 use Rattle.mc_delta.specs.Deltas.{IsEntryFault, IsFieldFault, TakesField, field_fault}

@@ -5,9 +5,9 @@ use Rattle.mc_model.specs.DeltaText.{DeltaFault, delta_of, delta_read, element_i
 use Rattle.mc_model.specs.declared.delta.Delta.{Delta}
 use Rattle.mc_model.specs.declared.delta.Element.{Element}
 use Rattle.mc_model.specs.declared.delta.Tomb.{Tomb}
-use Rattle.mc_wire.specs.Seen.{fronts_at, field_at}
+use Rattle.mc_wire.specs.Named.{fronts_at, field_at}
 use Rattle.mc_wire.specs.declared.field.Field.{Field as PlacedField}
-use Rattle.mc_delta.specs.Seen.{fault_named}
+use Rattle.mc_delta.specs.Faults.{fault_named}
 use Rattle.mc_delta.specs.declared.fault.DeltaError.{DeltaError}
 use Rattle.mc_delta.specs.declared.fault.DeltaError.TheVariants.{Memory, Fault}
 

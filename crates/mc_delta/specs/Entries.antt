@@ -1,7 +1,7 @@
 -- What an entry holds.
 use Rattle.std.specs.Prelude.{◌≡◌, ℕ, List, drop, None, unwrap_or}
 use Rattle.mc_model.specs.DeltaText.{entry_fault, text_fault, part_of, last_in}
-use Rattle.mc_wire.specs.Seen.{fronts_at, field_at}
+use Rattle.mc_wire.specs.Named.{fronts_at, field_at}
 use Rattle.mc_wire.specs.declared.field.Field.{Field as PlacedField}
 use Rattle.mc_delta.specs.declared.entry.Entry.{Entry}
 

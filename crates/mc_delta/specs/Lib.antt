@@ -1,5 +1,5 @@
 pub mod Deltas
 pub mod Entries
 pub mod Lengths
-pub mod Seen
+pub mod Faults
 pub mod Written

@@ -2,9 +2,9 @@
 ghost use Rattle.std.specs.Prelude.{◌≡◌, ◌≤◌, length, true, false, Some, IfOk, IfErr};
 ghost use Rattle.std.specs.Str.{is_utf8};
 ghost use Rattle.mc_model.specs.DeltaText.{entry_fault, text_fault};
-ghost use Rattle.mc_wire.specs.Seen.{fronts_at, field_at, EndsAt};
+ghost use Rattle.mc_wire.specs.Named.{fronts_at, field_at, EndsAt};
 ghost use Rattle.mc_model.specs.DeltaText as model;
-ghost use Rattle.mc_delta.specs.Seen.{fault_named};
+ghost use Rattle.mc_delta.specs.Faults.{fault_named};
 ghost use Rattle.mc_delta.specs.Entries.{EntryAt, TakesField};
 
 use crate::{DeltaFault, DeltaFaultKind};

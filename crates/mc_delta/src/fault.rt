@@ -2,7 +2,7 @@
 ghost use Rattle.std.specs.Prelude.{◌≡◌};
 ghost use Rattle.mc_wire.specs.declared.fault.WireFaultAt.{WireFaultAt as Told};
 ghost use Rattle.mc_delta.specs.declared.fault.DeltaError.TheVariants.{Memory, Fault};
-ghost use Rattle.mc_delta.specs.Seen.{of_wire};
+ghost use Rattle.mc_delta.specs.Faults.{of_wire};
 
 use mc_wire::{WireFault, WireFaultAt};
 use std::alloc::{AllocError, AllocFailed};

@@ -1,7 +1,7 @@
 // Reading a delta.
 ghost use Rattle.std.specs.Prelude.{◌≡◌, ◌≤◌, ◌++◌, ◌∷◌, [], length, drop, Some, None, Ok, IfOk, IfErr, OnOk};
 ghost use Rattle.mc_model.specs.DeltaText.{delta_of, delta_read, element_in, tomb_in, entry_fault};
-ghost use Rattle.mc_wire.specs.Seen.{fronts_at, EndsAt};
+ghost use Rattle.mc_wire.specs.Named.{fronts_at, EndsAt};
 ghost use Rattle.mc_delta.specs.Deltas.{IsFault, IsEntryFault, IsFieldFault, TakesField};
 
 use crate::DeltaError;

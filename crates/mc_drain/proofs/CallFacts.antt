@@ -24,7 +24,7 @@ use Rattle.mc_model.proofs.Prefix.{goes_on_then}
 use Rattle.mc_core.specs.declared.error.CoreError.{CoreError}
 use Rattle.mc_core.specs.Calls.{Call, Faults, IsRefused}
 use Rattle.mc_core.specs.Events.{ReplicaState, Goes, HappensIn}
-use Rattle.mc_core.specs.Jobs.{DeliverPlan, DeliverShort, DeliversIn, NextPlan, NextShort}
+use Rattle.mc_core.specs.Jobs.{DeliverEvents, DeliverShort, DeliversIn, NextEvents, NextShort}
 use Rattle.mc_core.specs.Reads.{read_refusal}
 use Rattle.mc_core.specs.Refusals.{ByKind, Is, is_fault, kind_of}
 use Rattle.mc_core.proofs.GrowthFacts.{GrowLaw}
@@ -145,7 +145,7 @@ module _ (grow_law : GrowLaw) (goes_law : GoesLaw) (stay_law : StayLaw) where
   next_asked : (s : ReplicaState) → is_some s.state.run ≡ true → Asked Always s.state (Want ∷ [])
   next_asked s up known kept p = ((takes_want known s.state.run up, tt), (tt, tt))
 
-  next_fault : (rose : Type 0) (s new : ReplicaState) → is_some s.state.run ≡ true → IsSound s.state → Faults (NextPlan s) rose s new → Leads true (count s) Always s new
+  next_fault : (rose : Type 0) (s new : ReplicaState) → is_some s.state.run ≡ true → IsSound s.state → Faults (NextEvents s) rose s new → Leads true (count s) Always s new
   next_fault rose s new up sound faults = elim faults.begins [
     | inl none ↦ nothing none
     | inr (answer, plan) ↦ some answer plan
@@ -154,16 +154,16 @@ module _ (grow_law : GrowLaw) (goes_law : GoesLaw) (stay_law : StayLaw) where
       nothing : faults.events ≡ [] → Leads true (count s) Always s new
       nothing e = breaks_leads grow_law goes_law stay_law Always faults.events rose s new (count s) faults.breaks sound (let l = ap all_processes e in omega (arith, l)) (subst IsPaced (sym e) none_paced) (λ known kept p. subst (λ events. TakesAll known s.state events × AllSayRight (offers_of known) events) (sym e) (tt, tt))
 
-      some : (answer : Option Job) → NextPlan s faults.events answer → Leads true (count s) Always s new
+      some : (answer : Option Job) → NextEvents s faults.events answer → Leads true (count s) Always s new
       some None plan = nothing plan.1
       some (Some job) plan = breaks_leads grow_law goes_law stay_law Always faults.events rose s new (count s) faults.breaks sound (let l = ap all_processes plan.2 in omega (arith, l)) (subst IsPaced (sym plan.2) want_paced) (subst (Asked Always s.state) (sym plan.2) (next_asked s up))
 
-  pub next_leads : (rose : Type 0) (result : Result (Option Job) CoreError) (s new : ReplicaState) → is_some s.state.run ≡ true → IsSound s.state → Call (Is (read_refusal s)) (NextPlan s) (NextShort s) rose result s new → Leads (is_fault result) (count s) Always s new
+  pub next_leads : (rose : Type 0) (result : Result (Option Job) CoreError) (s new : ReplicaState) → is_some s.state.run ≡ true → IsSound s.state → Call (Is (read_refusal s)) (NextEvents s) (NextShort s) rose result s new → Leads (is_fault result) (count s) Always s new
   next_leads rose (Ok None) s new up sound call = goes_leads grow_law goes_law stay_law Always [] s new (count s) (subst (λ events. Goes events s new) call.plan.1 call.goes) sound (omega arith) none_paced (λ known kept p. (tt, tt))
   next_leads rose (Ok (Some job)) s new up sound call = goes_leads grow_law goes_law stay_law Always (Want ∷ []) s new (count s) (subst (λ events. Goes events s new) call.plan.2 call.goes) sound (omega arith) want_paced (next_asked s up)
   next_leads rose (Err error) s new up sound call = over (kind_of error) call
     where
-      over : (kind : Kind) → ByKind (IsRefused (Is (read_refusal s)) error s new) (Faults (NextPlan s) rose s new) (NextShort s new) kind → Leads (is_fault_kind kind) (count s) Always s new
+      over : (kind : Kind) → ByKind (IsRefused (Is (read_refusal s)) error s new) (Faults (NextEvents s) rose s new) (NextShort s new) kind → Leads (is_fault_kind kind) (count s) Always s new
       over Refusal refused = stays_leads grow_law goes_law stay_law Always s new (count s) refused.1 (omega arith)
       over Fault faults = next_fault rose s new up sound faults
       over Shortage short = goes_leads grow_law goes_law stay_law Always (Want ∷ GiveBack short.0 ∷ []) s new (count s) short.2 sound (omega arith) (tried_paced short.0)
@@ -223,13 +223,13 @@ module _ (grow_law : GrowLaw) (goes_law : GoesLaw) (stay_law : StayLaw) where
         ] refl plan
 
     pub deliver_by : (c : Cid) (found : Option (List ℕ)) (more : ℕ) (rose : Type 0) (result : Result Delivered CoreError) (s new : ReplicaState) → IsSound s.state → all_processes (delivery s.state.durable.graph c found) ≤ more
-        → Call (Is (read_refusal s)) (DeliverPlan s c found) (DeliverShort s c) rose result s new → LeadsBy (is_fault result) (count s + more) (λ known kept. IsFoundFor known c found) (λ known kept. known c ≡ found) s new
+        → Call (Is (read_refusal s)) (DeliverEvents s c found) (DeliverShort s c) rose result s new → LeadsBy (is_fault result) (count s + more) (λ known kept. IsFoundFor known c found) (λ known kept. known c ≡ found) s new
     deliver_by c found more rose (Ok answer) s new sound few call =
         let asked = delivers_asked c found s.state.durable s.state.run call.events answer call.plan in
         goes_by grow_law goes_law stay_law (λ known kept. IsFoundFor known c found) (λ known kept. known c ≡ found) call.events s new (count s + more) call.goes sound (omega (arith, asked.1, few)) (delivers_paced (has c (queue_in s.state.run).flight) s.state.durable c found call.events answer call.plan) asked.0
     deliver_by c found more rose (Err error) s new sound few call = over (kind_of error) call
       where
-        over : (kind : Kind) → ByKind (IsRefused (Is (read_refusal s)) error s new) (Faults (DeliverPlan s c found) rose s new) (DeliverShort s c new) kind → LeadsBy (is_fault_kind kind) (count s + more) (λ known kept. IsFoundFor known c found) (λ known kept. known c ≡ found) s new
+        over : (kind : Kind) → ByKind (IsRefused (Is (read_refusal s)) error s new) (Faults (DeliverEvents s c found) rose s new) (DeliverShort s c new) kind → LeadsBy (is_fault_kind kind) (count s + more) (λ known kept. IsFoundFor known c found) (λ known kept. known c ≡ found) s new
         over Refusal refused = stays_by grow_law goes_law stay_law (λ known kept. IsFoundFor known c found) (λ known kept. known c ≡ found) s new (count s + more) refused.1 (omega arith)
         over Fault faults = elim faults.begins [
           | inl none ↦ breaks_by grow_law goes_law stay_law (λ known kept. IsFoundFor known c found) (λ known kept. known c ≡ found) faults.events rose s new (count s + more) faults.breaks sound (let l = ap all_processes none in omega (arith, l)) (subst IsPaced (sym none) none_paced)

@@ -11,7 +11,7 @@ use Rattle.mc_model.specs.Wanted.{Queue, others, start_first, to_waiting, want, 
 use Rattle.mc_model.proofs.Counts.{cid_itself}
 use Rattle.mc_queue.specs.Tickets.{first_of}
 use Rattle.mc_core.specs.Jobs.{WantsAfter, is_known}
-use Rattle.mc_core.specs.Plans.{wants}
+use Rattle.mc_core.specs.Uptakes.{wants}
 use Rattle.mc_drain.specs.Words.{Begins}
 
 pub has_alone : (c : Cid) → has c (c ∷ []) ≡ true

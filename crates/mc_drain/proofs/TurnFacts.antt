@@ -28,7 +28,7 @@ use Rattle.mc_core.specs.declared.report.Report.{Report}
 use Rattle.mc_core.specs.Calls.{Call}
 use Rattle.mc_core.specs.Counted.{capped, run_of}
 use Rattle.mc_core.specs.Events.{ReplicaState, state_of}
-use Rattle.mc_core.specs.Jobs.{DeliverPlan, DeliverShort, DeliversIn, NextPlan, NextShort, WantsAfter, found_in}
+use Rattle.mc_core.specs.Jobs.{DeliverEvents, DeliverShort, DeliversIn, NextEvents, NextShort, WantsAfter, found_in}
 use Rattle.mc_core.specs.Reads.{read_refusal}
 use Rattle.mc_core.specs.Refusals.{Is, is_fault}
 use Rattle.mc_core.specs.Reports.{IsReport}
@@ -107,13 +107,13 @@ job_told failed low high offers cid cid_now own found a b more same looks t =
 -- the calls of a replica, where the keeper tells
 
 pub next_told : (grow_law : GrowLaw) (goes_law : GoesLaw) (stay_law : StayLaw) (rose : Type 0) (result : Result (Option Job) CoreError) (failed : Bool) (a b : Option ReplicaState) → is_fault result ≡ failed → IfSome a (λ s. IsSound s.state) → IfSome a (λ s. is_some s.state.run ≡ true)
-    → Told a b (λ s new. Call (Is (read_refusal s)) (NextPlan s) (NextShort s) rose result s new) → Told a b (λ s new. Leads failed (count s) Always s new)
+    → Told a b (λ s new. Call (Is (read_refusal s)) (NextEvents s) (NextShort s) rose result s new) → Told a b (λ s new. Leads failed (count s) Always s new)
 next_told grow_law goes_law stay_law rose result failed None b flag sound up t = tt
 next_told grow_law goes_law stay_law rose result failed (Some s) None flag sound up t = absurd t
 next_told grow_law goes_law stay_law rose result failed (Some s) (Some new) flag sound up t = subst (λ (f : Bool). Leads f (count s) Always s new) flag (next_leads grow_law goes_law stay_law rose result s new up sound t)
 
 pub deliver_told : (grow_law : GrowLaw) (goes_law : GoesLaw) (stay_law : StayLaw) (takes_law : TakesLaw) (says_law : SaysLaw) (cid : Cid) (found : Option (List ℕ)) (rose : Type 0) (result : Result Delivered CoreError) (failed : Bool) (a b : Option ReplicaState) → is_fault result ≡ failed
-    → IfSome a (λ s. IsSound s.state) → Told a b (λ s new. Call (Is (read_refusal s)) (DeliverPlan s cid found) (DeliverShort s cid) rose result s new)
+    → IfSome a (λ s. IsSound s.state) → Told a b (λ s new. Call (Is (read_refusal s)) (DeliverEvents s cid found) (DeliverShort s cid) rose result s new)
     → Told a b (λ s new. LeadsBy failed (count s + all_processes (delivery s.state.durable.graph cid found)) (TakenFor cid found) (FoundFor cid found) s new)
 deliver_told grow_law goes_law stay_law takes_law says_law cid found rose result failed None b flag sound t = tt
 deliver_told grow_law goes_law stay_law takes_law says_law cid found rose result failed (Some s) None flag sound t = absurd t
@@ -132,7 +132,7 @@ pub plain_told : (P : ReplicaState → ReplicaState → Type 0) (a b : Option Re
 plain_told P a b each sound t = told_with P (λ s. IsSound s.state) (λ s new. Leads false (count s) Always s new) (λ s new p q. each s new p q) a b t sound
 
 -- own bytes are the stored ones
-pub own_told : (job : Option Job) (a b : Option ReplicaState) → Told a b (λ s new. Call (Is (read_refusal s)) (NextPlan s) (NextShort s) ⊤ (Ok job) s new) → IfSome a (λ s. IfSome job (λ (j : Job). j.own ≡ bytes_in s.state.durable.graph j.cid))
+pub own_told : (job : Option Job) (a b : Option ReplicaState) → Told a b (λ s new. Call (Is (read_refusal s)) (NextEvents s) (NextShort s) ⊤ (Ok job) s new) → IfSome a (λ s. IfSome job (λ (j : Job). j.own ≡ bytes_in s.state.durable.graph j.cid))
 own_told job None b t = tt
 own_told job (Some s) None t = absurd t
 own_told None (Some s) (Some new) t = tt
@@ -147,7 +147,7 @@ not_processed : (inside : Bool) (durable : Durable) (cid : Cid) (found : Option 
 not_processed true durable cid found events position plan none = no_block_found cid found plan.1.0 plan.1.1 plan.1.2 plan.1.3 none
 not_processed false durable cid found events position plan none = cc plan.0
 
-pub stuck_told : (cid : Cid) (found : Option (List ℕ)) (delivered : Delivered) (q left : Queue) (a b : Option ReplicaState) → Told a b (λ s new. Call (Is (read_refusal s)) (DeliverPlan s cid found) (DeliverShort s cid) ⊤ (Ok delivered) s new) → WantsAfter delivered q left cid
+pub stuck_told : (cid : Cid) (found : Option (List ℕ)) (delivered : Delivered) (q left : Queue) (a b : Option ReplicaState) → Told a b (λ s new. Call (Is (read_refusal s)) (DeliverEvents s cid found) (DeliverShort s cid) ⊤ (Ok delivered) s new) → WantsAfter delivered q left cid
     → IfSome a (λ s. IsNoBlock cid found → left.waiting ≡ q.waiting)
 stuck_told cid found delivered q left None b t after = tt
 stuck_told cid found delivered q left (Some s) None t after = absurd t

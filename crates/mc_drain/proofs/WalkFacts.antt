@@ -22,7 +22,7 @@ use Rattle.mc_core.specs.Calls.{Call, Faults, IsRefused, Stays}
 use Rattle.mc_core.specs.Events.{Breaks, CommitBreaks, Goes, IsCutShort, MayHappen, ReplicaState, all_happen, burnt_by, fires_by, goes_on, stopped}
 use Rattle.mc_core.specs.Reads.{read_refusal}
 use Rattle.mc_core.specs.Refusals.{ByKind, Is, is_fault, kind_of}
-use Rattle.mc_core.specs.Walks.{RunStep, StepWants, WalkPlan, is_whole_after, step_events}
+use Rattle.mc_core.specs.Walks.{RunStep, StepWants, WalkEvents, is_whole_after, step_events}
 use Rattle.mc_core.proofs.GrowthFacts.{GrowLaw, breaks_grows, goes_grows, same_goes}
 use Rattle.mc_drain.specs.Leads.{FuseGoes, HasBrokenOff, count, processes}
 use Rattle.mc_drain.specs.Repairs.{Walks, step_commits}
@@ -171,11 +171,11 @@ module _ (grow_law : GrowLaw) (walks : WalksLaw) where
   plan_events_are None events step plan = absurd plan
   plan_events_are (Some run) events step plan = plan.1
 
-  step_walks : (rose : Type 0) (result : Result WalkStep CoreError) (s new : ReplicaState) → IsSound s.state → Call (Is (read_refusal s)) (WalkPlan s) (Stays s) rose result s new → Walks (is_fault result) (walk_commits result) s new
+  step_walks : (rose : Type 0) (result : Result WalkStep CoreError) (s new : ReplicaState) → IsSound s.state → Call (Is (read_refusal s)) (WalkEvents s) (Stays s) rose result s new → Walks (is_fault result) (walk_commits result) s new
   step_walks rose (Ok step) s new sound call = step_goes step s new sound (subst (λ (events : List Event). Goes events s new) (plan_events_are s.state.run call.events step call.plan) call.goes)
   step_walks rose (Err error) s new sound call = over (kind_of error) call
     where
-      over : (kind : Kind) → ByKind (IsRefused (Is (read_refusal s)) error s new) (Faults (WalkPlan s) rose s new) (Stays s new) kind → Walks (is_fault_kind kind) 1 s new
+      over : (kind : Kind) → ByKind (IsRefused (Is (read_refusal s)) error s new) (Faults (WalkEvents s) rose s new) (Stays s new) kind → Walks (is_fault_kind kind) 1 s new
       over Refusal refused = walks_stay 1 s new refused.1
       over Fault faults = elim faults.begins [
         | inl none ↦ none_breaks rose s new (subst (λ (events : List Event). Breaks events rose s new) none faults.breaks)
@@ -184,7 +184,7 @@ module _ (grow_law : GrowLaw) (walks : WalksLaw) where
       over Shortage same = walks_stay 1 s new same
 
   pub walk_told : (rose : Type 0) (result : Result WalkStep CoreError) (failed : Bool) (most : ℕ) (a b : Option ReplicaState) → is_fault result ≡ failed → walk_commits result ≡ most → IfSome a (λ s. IsSound s.state)
-      → Told a b (λ s new. Call (Is (read_refusal s)) (WalkPlan s) (Stays s) rose result s new) → Told a b (λ s new. Walks failed most s new)
+      → Told a b (λ s new. Call (Is (read_refusal s)) (WalkEvents s) (Stays s) rose result s new) → Told a b (λ s new. Walks failed most s new)
   walk_told rose result failed most None b flag many sound t = tt
   walk_told rose result failed most (Some s) None flag many sound t = absurd t
   walk_told rose result failed most (Some s) (Some new) flag many sound t = subst (λ (f : Bool). Walks f most s new) flag (subst (λ (n : ℕ). Walks (is_fault result) n s new) many (step_walks rose result s new sound t))

@@ -13,7 +13,7 @@ use Rattle.mc_model.specs.Id.{id_text}
 use Rattle.mc_model.specs.Rank.{Ranked}
 use Rattle.mc_model.specs.Live.{has_tomb, is_hidden, ranked_in, live_among, ranked_elements}
 use Rattle.mc_keep.specs.declared.rows.ElementRow.{ElementRow}
-use Rattle.mc_keep.specs.Live.{ranked_of, live_row, live_rows}
+use Rattle.mc_keep.specs.LiveRows.{ranked_of, live_row, live_rows}
 use Rattle.mc_keep.specs.Tables.{element_row, element_rows, element_rows_of}
 
 -- the rows of one block's elements have what lives of that block

@@ -10,4 +10,4 @@ pub mod New
 pub mod Next
 pub mod Plan
 pub mod Tables
-pub mod Live
+pub mod LiveRows

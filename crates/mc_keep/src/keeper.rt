@@ -15,7 +15,7 @@ ghost use Rattle.mc_keep.specs.Frame.{ReadsAt, ReservesAt, CommitsAt};
 ghost use Rattle.mc_keep.specs.Changes.{row_count, changed, heads_in_rows};
 ghost use Rattle.mc_keep.specs.Next.{AreNext};
 ghost use Rattle.mc_keep.specs.ElementOrder.{element_cmp};
-ghost use Rattle.mc_keep.specs.Live.{IsHolder, live_element_rows};
+ghost use Rattle.mc_keep.specs.LiveRows.{IsHolder, live_element_rows};
 ghost use Rattle.mc_keep.specs.Plan.{
   Schedule,
   DeskSchedule,

@@ -20,7 +20,7 @@ use Rattle.mc_keep.specs.declared.changes.ValueChange.{ValueChange}
 use Rattle.mc_keep.specs.declared.rows.ElementRow.{ElementRow}
 use Rattle.mc_keep.specs.declared.rows.ValueRow.{ValueRow}
 use Rattle.mc_keep.specs.Changes.{has_tomb_row, newly_processed, ranked_row, value_after, values_after}
-use Rattle.mc_keep.specs.Live.{is_shown, ranked_of}
+use Rattle.mc_keep.specs.LiveRows.{is_shown, ranked_of}
 use Rattle.mc_keep.specs.Tables.{element_rows, element_rows_of, ChangesFit}
 use Rattle.mc_keep_mem.specs.Places.{last_in, value_in}
 use Rattle.mc_keep_mem.specs.declared.tables.Tables.{Tables}

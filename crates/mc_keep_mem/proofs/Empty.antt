@@ -12,7 +12,7 @@ use Rattle.std.specs.declared.hash.Hasher as hash
 use Rattle.mc_model.specs.Front.{same_cid, is_among, is_gap, head_at}
 use Rattle.mc_model.specs.Live.{has_tomb, value_row}
 use Rattle.mc_model.specs.Kept.{Kept, IsKept, processed}
-use Rattle.mc_keep.specs.Live.{live_element_rows, ranked_of}
+use Rattle.mc_keep.specs.LiveRows.{live_element_rows, ranked_of}
 use Rattle.mc_keep_mem.specs.Places.{last_in, value_in}
 use Rattle.mc_keep_mem.specs.declared.places.Places.{Places}
 use Rattle.mc_keep_mem.specs.declared.tables.Tables.{Tables}

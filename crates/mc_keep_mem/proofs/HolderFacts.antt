@@ -20,7 +20,7 @@ use Rattle.mc_model.proofs.Members.{any_agree, list_any-filter}
 use Rattle.mc_keep.specs.declared.rows.ElementRow.{ElementRow}
 use Rattle.mc_keep.specs.declared.rows.TombRow.{TombRow}
 use Rattle.mc_keep.specs.Changes.{has_tomb_row}
-use Rattle.mc_keep.specs.Live.{ranked_of, is_row_of, live_element_rows, HoldsValue, IsHolder}
+use Rattle.mc_keep.specs.LiveRows.{ranked_of, is_row_of, live_element_rows, HoldsValue, IsHolder}
 use Rattle.mc_keep.specs.Tables.{element_rows_of}
 use Rattle.mc_keep.proofs.Lives.{live_rows-element_rows_of, live_rows_any}
 use Rattle.mc_keep_mem.specs.declared.elements.Node.{Node}

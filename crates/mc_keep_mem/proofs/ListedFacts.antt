@@ -28,7 +28,7 @@ use Rattle.mc_base.proofs.Orders.{less_is}
 use Rattle.mc_model.specs.Rank.{Ranked}
 use Rattle.mc_keep.specs.Next.{is_past, AreNextOf}
 use Rattle.mc_keep.specs.declared.rows.ValueRow.{ValueRow}
-use Rattle.mc_keep.specs.Live.{ranked_of}
+use Rattle.mc_keep.specs.LiveRows.{ranked_of}
 use Rattle.mc_keep.specs.declared.rows.ElementRow.{ElementRow}
 use Rattle.mc_keep_mem.specs.Chains.{row_at}
 use Rattle.mc_keep_mem.specs.declared.elements.Node.{Node}

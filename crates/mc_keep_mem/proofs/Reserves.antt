@@ -16,7 +16,7 @@ use Rattle.mc_model.specs.Live.{has_tomb, value_row}
 use Rattle.mc_model.proofs.Members.{any_agree, list_any-filter}
 use Rattle.mc_model.specs.Kept.{Kept, IsKept, processed}
 use Rattle.mc_keep.specs.declared.rows.ElementRow.{ElementRow}
-use Rattle.mc_keep.specs.Live.{live_element_rows, ranked_of}
+use Rattle.mc_keep.specs.LiveRows.{live_element_rows, ranked_of}
 use Rattle.mc_keep_mem.specs.Places.{last_in, value_in, texts_in}
 use Rattle.mc_keep_mem.specs.declared.elements.Elements.{Elements}
 use Rattle.mc_keep_mem.specs.declared.tables.Tables.{Tables}

@@ -10,7 +10,7 @@ use Rattle.std.proofs.lemmas.Bool.{or_right, or_left, or_cases}
 use Rattle.std.proofs.lemmas.Slice.Eq.{bytes_eq-Decides}
 use Rattle.mc_model.specs.Rank.{Ranked}
 use Rattle.mc_keep.specs.declared.rows.ElementRow.{ElementRow}
-use Rattle.mc_keep.specs.Live.{ranked_of}
+use Rattle.mc_keep.specs.LiveRows.{ranked_of}
 use Rattle.mc_keep_mem.specs.declared.elements.Node.{Node}
 use Rattle.mc_keep_mem.specs.Chains.{row_at, KeepsRows}
 use Rattle.mc_keep_mem.specs.Holder.{row_with}

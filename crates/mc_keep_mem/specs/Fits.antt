@@ -14,7 +14,7 @@ use Rattle.mc_model.specs.Live.{has_tomb, value_row}
 use Rattle.mc_model.specs.Kept.{Kept, IsKept, processed, is_stored, cids_of}
 use Rattle.mc_keep.specs.declared.changes.Changes.{Changes}
 use Rattle.mc_keep.specs.Changes.{head_after, values_after}
-use Rattle.mc_keep.specs.Live.{live_element_rows}
+use Rattle.mc_keep.specs.LiveRows.{live_element_rows}
 use Rattle.mc_keep_mem.specs.declared.tables.Tables.{Tables}
 use Rattle.mc_keep_mem.specs.Chains.{is_live, rows_in, with_element, KeepsRows}
 use Rattle.mc_keep_mem.specs.Front.{are_fresh, closed_by, opened_by}

@@ -7,7 +7,7 @@ use Rattle.mc_model.specs.Id.{id_text}
 use Rattle.mc_model.specs.Rank.{Ranked, same_ranked}
 use Rattle.mc_keep.specs.declared.rows.ElementRow.{ElementRow}
 use Rattle.mc_keep.specs.declared.changes.ValueChange.{ValueChange}
-use Rattle.mc_keep.specs.Live.{ranked_of, is_row_of}
+use Rattle.mc_keep.specs.LiveRows.{ranked_of, is_row_of}
 use Rattle.mc_keep_mem.specs.declared.elements.Node.{Node}
 use Rattle.mc_keep_mem.specs.Chains.{row_at, rows_in}
 

@@ -5,7 +5,7 @@ use Rattle.std.specs.Option.{option_map, option_and_then}
 use Rattle.std.specs.BTreeSet.{BTreeSet, contains_text}
 use Rattle.std.specs.declared.string.String.{String}
 use Rattle.mc_model.specs.Rank.{Ranked}
-use Rattle.mc_keep.specs.Live.{ranked_of}
+use Rattle.mc_keep.specs.LiveRows.{ranked_of}
 use Rattle.mc_keep_mem.specs.declared.elements.Node.{Node}
 use Rattle.mc_keep_mem.specs.Chains.{row_at}
 use Rattle.mc_keep_mem.specs.Places.{stands_at}

@@ -6,7 +6,7 @@ ghost use Rattle.mc_model.specs.Front.{same_cid, is_linked, heads};
 ghost use Rattle.mc_model.specs.Live.{has_tomb, value_row};
 ghost use Rattle.mc_model.specs.Kept.{processed, bytes_at, is_stored, nothing_kept};
 ghost use Rattle.mc_keep.specs.Changes.{row_count, changed, heads_in_rows};
-ghost use Rattle.mc_keep.specs.Live.{IsHolder, live_element_rows};
+ghost use Rattle.mc_keep.specs.LiveRows.{IsHolder, live_element_rows};
 ghost use Rattle.mc_keep.specs.Next.{AreNext};
 ghost use Rattle.mc_keep.specs.ElementOrder.{element_cmp};
 ghost use Rattle.mc_keep.specs.Tables.{ChangesFit, IsSummary, IsSmall, IsValueRow};

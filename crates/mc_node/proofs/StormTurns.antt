@@ -15,7 +15,7 @@ use Rattle.mc_core.specs.Calls.{Call, Faults, Stays}
 use Rattle.mc_core.specs.Counted.{run_of}
 use Rattle.mc_core.specs.Events.{ReplicaState, Breaks, state_of}
 use Rattle.mc_core.specs.Exact.{seen_of, stop_front}
-use Rattle.mc_core.specs.Puts.{AddsPut, PutPlan, put_refusal}
+use Rattle.mc_core.specs.Puts.{AddsPut, PutEvents, put_refusal}
 use Rattle.mc_core.specs.Reads.{OnlyReads, read_refusal}
 use Rattle.mc_core.specs.Refusals.{ByKind, Is, kind_of}
 use Rattle.mc_node.specs.declared.node.Seen.{Seen}
@@ -80,7 +80,7 @@ put_made writer number same written old new d =
       acts = λ a.
           subst (λ (o : Option ReplicaState). Told (last_state old) o (PutMakes (storm_key writer) (storm_value number))) (ap state_in (sym (noted_state old new Made d.after d.notes)))
           (subst (λ (o : Option ReplicaState). Told o (state_in d.after) (PutMakes (storm_key writer) (storm_value number))) (moment_state old d.before d.was a)
-          (told_both (λ s now. Call (Is (put_refusal s (storm_key writer) (storm_value number))) (PutPlan s (storm_key writer) (storm_value number)) (Stays s) (Rose d.before.own d.after.own) (Ok written) s now)
+          (told_both (λ s now. Call (Is (put_refusal s (storm_key writer) (storm_value number))) (PutEvents s (storm_key writer) (storm_value number)) (Stays s) (Rose d.before.own d.after.own) (Ok written) s now)
           (AddsPut (storm_key writer) (storm_value number)) (PutMakes (storm_key writer) (storm_value number)) (λ s now done adds. record { written = written; done = done; adds = adds })
           (state_in d.before) (state_in d.after) d.acts.call d.acts.more));
     }
@@ -114,7 +114,7 @@ put_unmade writer number same error old new is d =
         open_after = open_old;
         acts = λ a.
             subst (λ (o : Option ReplicaState). Told o o (PutRefused (storm_key writer) (storm_value number))) (moment_state old d.before d.was a)
-            (told_still (λ s now. Call (Is (put_refusal s (storm_key writer) (storm_value number))) (PutPlan s (storm_key writer) (storm_value number)) (Stays s) (Rose d.before.own d.after.own) (Err error) s now)
+            (told_still (λ s now. Call (Is (put_refusal s (storm_key writer) (storm_value number))) (PutEvents s (storm_key writer) (storm_value number)) (Stays s) (Rose d.before.own d.after.own) (Err error) s now)
             (PutRefused (storm_key writer) (storm_value number))
             (λ s now call. record { cause = error; due = sym (of_refusal _ _ _ (kind_of error) kind.0 call).0; of_block = is; same = refl })
             (state_in d.before) (state_in d.after) d.acts.call);
@@ -132,10 +132,10 @@ put_failed writer number write old new is d =
         open_before = open_old;
         halts = noted_has is_halt old new Halted d.after d.notes ∙ ap (λ b. b || true) open_old;
         fails = λ a.
-            subst (λ (n : ℕ). Told (last_state old) (last_state new) (λ s now. Faults (PutPlan s (storm_key writer) (storm_value n)) (Rose (root old).own (last new).own) s now)) (sym is)
-            (subst (λ (x : Shown). Told (last_state old) (state_in x) (λ s now. Faults (PutPlan s (storm_key writer) (storm_value number)) (Rose (root old).own x.own) s now)) (sym (noted_state old new Halted d.after d.notes))
-            (subst (λ (n : ℕ). Told (last_state old) (state_in d.after) (λ s now. Faults (PutPlan s (storm_key writer) (storm_value number)) (Rose n d.after.own) s now)) own
-            (subst (λ (o : Option ReplicaState). Told o (state_in d.after) (λ s now. Faults (PutPlan s (storm_key writer) (storm_value number)) (Rose d.before.own d.after.own) s now)) (moment_state old d.before d.was a) d.acts.call)));
+            subst (λ (n : ℕ). Told (last_state old) (last_state new) (λ s now. Faults (PutEvents s (storm_key writer) (storm_value n)) (Rose (root old).own (last new).own) s now)) (sym is)
+            (subst (λ (x : Shown). Told (last_state old) (state_in x) (λ s now. Faults (PutEvents s (storm_key writer) (storm_value number)) (Rose (root old).own x.own) s now)) (sym (noted_state old new Halted d.after d.notes))
+            (subst (λ (n : ℕ). Told (last_state old) (state_in d.after) (λ s now. Faults (PutEvents s (storm_key writer) (storm_value number)) (Rose n d.after.own) s now)) own
+            (subst (λ (o : Option ReplicaState). Told o (state_in d.after) (λ s now. Faults (PutEvents s (storm_key writer) (storm_value number)) (Rose d.before.own d.after.own) s now)) (moment_state old d.before d.was a) d.acts.call)));
       },
     )
 

@@ -11,13 +11,13 @@ use Rattle.mc_core.specs.declared.deletes.Deleted.{Deleted}
 use Rattle.mc_core.specs.declared.hears.Heard.{Heard}
 use Rattle.mc_core.specs.declared.made.Written.{Written}
 use Rattle.mc_core.specs.Calls.{Call, Stays}
-use Rattle.mc_core.specs.Deletes.{AddsDeleted, DeletePlan, DeleteRefusal, DeleteShort, ShortKeeps}
-use Rattle.mc_core.specs.Puts.{AddsPut, PutPlan, put_refusal}
+use Rattle.mc_core.specs.Deletes.{AddsDeleted, DeleteEvents, DeleteRefusal, DeleteShort, ShortKeeps}
+use Rattle.mc_core.specs.Puts.{AddsPut, PutEvents, put_refusal}
 use Rattle.mc_core.specs.Reads.{OnlyReads, read_refusal}
 use Rattle.mc_core.specs.Counted.{capped}
 use Rattle.mc_core.specs.Events.{ReplicaState}
 use Rattle.mc_core.specs.Exact.{front_of, put_front, stop_front}
-use Rattle.mc_core.specs.Hears.{HearPlan, cast_refusal, hear_refusal, unless_short}
+use Rattle.mc_core.specs.Hears.{HearEvents, cast_refusal, hear_refusal, unless_short}
 use Rattle.mc_core.specs.Refusals.{ByKind, Is, is_fault, key_refusal, kind_of}
 use Rattle.mc_node.specs.declared.node.Seen.{Seen}
 use Rattle.mc_node.specs.declared.note.Note.{Note}
@@ -110,7 +110,7 @@ PutAdds key value (Err error) s new = ⊤
 
 abbrev pub PutDoes : List ℕ → List ℕ → Result Written CoreError → List Item → List Item → Type 0
 PutDoes key value result =
-    Does (Some Made) None (λ s. Is (put_refusal s key value)) (λ s. PutPlan s key value) Stays
+    Does (Some Made) None (λ s. Is (put_refusal s key value)) (λ s. PutEvents s key value) Stays
     (PutAdds key value result) (put_front key value) result
 
 -- a delete has added its blocks, or some of them; a want of memory leaves the value of the key
@@ -119,12 +119,12 @@ DeleteAdds key result s new = AddsDeleted key result s new × ShortKeeps key res
 
 abbrev pub DeleteDoes : List ℕ → Result Deleted CoreError → List Item → List Item → Type 0
 DeleteDoes key result =
-    Does (Some Made) (Some Made) (λ s. DeleteRefusal s key) (λ s. DeletePlan s key) (λ s. DeleteShort s key)
+    Does (Some Made) (Some Made) (λ s. DeleteRefusal s key) (λ s. DeleteEvents s key) (λ s. DeleteShort s key)
     (DeleteAdds key result) (key_refusal key) result
 
 abbrev pub HearDoes : List ℕ → Result Heard CoreError → List Item → List Item → Type 0
 HearDoes message result =
-    Does (Some note.Heard) None (λ s. Is (hear_refusal s message)) (λ s. HearPlan s message) Stays NoMore
+    Does (Some note.Heard) None (λ s. Is (hear_refusal s message)) (λ s. HearEvents s message) Stays NoMore
     (cast_refusal message) result
 
 -- a read over what is kept

@@ -7,7 +7,7 @@ use Rattle.mc_model.specs.Live.{value}
 use Rattle.mc_model.specs.State.{blocks_of}
 use Rattle.mc_core.specs.Calls.{Faults, Does as Done}
 use Rattle.mc_core.specs.Events.{ReplicaState, Breaks}
-use Rattle.mc_core.specs.Puts.{AddsPut, PutPlan, put_refusal}
+use Rattle.mc_core.specs.Puts.{AddsPut, PutEvents, put_refusal}
 use Rattle.mc_core.specs.Refusals.{Is}
 use Rattle.mc_core.specs.declared.error.CoreError.{CoreError}
 use Rattle.mc_core.specs.declared.error.CoreError.TheVariants.{BadKey, ValueTooLong, BlockTooLarge, PriorityFull, Clash, KeeperFault, Stopped, BadCast, NoBatch, BatchOpen, Memory}
@@ -41,7 +41,7 @@ is_block_refusal Memory = false
 -- a put makes its block, by the plan of a put over the blocks before it, and nothing refuses it there
 pub record PutMakes (key bytes : List ℕ) (s new : ReplicaState) : Type 0 where
   pub written : Written
-  pub done : Done (Is (put_refusal s key bytes)) (PutPlan s key bytes) written s new
+  pub done : Done (Is (put_refusal s key bytes)) (PutEvents s key bytes) written s new
   pub adds : AddsPut key bytes s new
 
 -- a put is refused there for its block, and changes nothing
@@ -79,7 +79,7 @@ CallsRun = InTurn CallActs
 
 -- a call that the keeper fails: the events of a put are cut short, and a get has none; the replica has stopped
 abbrev pub FailsBy : Bool → List ℕ → List ℕ → Type 0 → ReplicaState → ReplicaState → Type 0
-FailsBy false key bytes rose s new = Faults (PutPlan s key bytes) rose s new
+FailsBy false key bytes rose s new = Faults (PutEvents s key bytes) rose s new
 FailsBy true key bytes rose s new = Breaks [] rose s new
 
 abbrev pub CallFails : StormCall → Type 0 → ReplicaState → ReplicaState → Type 0

@@ -22,7 +22,7 @@ use Rattle.mc_keep.specs.Changes.{is_tomb_row, has_tomb_row}
 use Rattle.mc_rows.specs.declared.elements.NewElement.{NewElement}
 use Rattle.mc_rows.specs.declared.tombs.NewTomb.{NewTomb}
 use Rattle.mc_rows.specs.Rows.{row_of, rows_of, tomb_of, tombs_of, new_element_cmp, new_tomb_cmp, new_tomb_total}
-use Rattle.mc_rows.specs.Live.{has_tomb_of, rows_with}
+use Rattle.mc_rows.specs.Hiding.{has_tomb_of, rows_with}
 
 module _ {X : Type 0} where
   -- what an order tells of neighbours, a part of it tells too

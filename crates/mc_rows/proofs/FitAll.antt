@@ -28,7 +28,7 @@ use Rattle.mc_keep.specs.Tables.{RowsFit, element_rows, same_element, same_tomb}
 use Rattle.mc_rows.specs.declared.elements.NewElement.{NewElement}
 use Rattle.mc_rows.specs.declared.tombs.NewTomb.{NewTomb}
 use Rattle.mc_rows.specs.Rows.{rows_of, tombs_of, tomb_row, tomb_rows, new_element_cmp, new_tomb_cmp}
-use Rattle.mc_rows.specs.Live.{is_unknown, hides, has_element_of, has_tomb_of, new_row}
+use Rattle.mc_rows.specs.Hiding.{is_unknown, hides, has_element_of, has_tomb_of, new_row}
 use Rattle.mc_rows.specs.Values.{has_key, ValuesFit}
 use Rattle.mc_rows.proofs.Lives.{new_row_is, new_row_untouched}
 use Rattle.mc_rows.proofs.OnceRows.{tombs_stand_once, elements_stand_once}

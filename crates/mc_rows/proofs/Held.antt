@@ -7,9 +7,9 @@ use Rattle.mc_model.specs.Kept.{Kept, processed}
 use Rattle.mc_keep.specs.declared.rows.TombRow.{TombRow}
 use Rattle.mc_keep.specs.declared.rows.ValueRow.{ValueRow}
 use Rattle.mc_keep.specs.Changes.{has_tomb_row}
-use Rattle.mc_keep.specs.Live.{IsHolder}
+use Rattle.mc_keep.specs.LiveRows.{IsHolder}
 use Rattle.mc_keep.specs.Tables.{IsValueRow}
-use Rattle.mc_rows.specs.Live.{has_tomb_of, HidesValue, Stands}
+use Rattle.mc_rows.specs.Hiding.{has_tomb_of, HidesValue, Stands}
 use Rattle.mc_rows.proofs.Lives.{untouched_row_stands, no_row_stands, held_row_stands}
 
 -- the key has no value

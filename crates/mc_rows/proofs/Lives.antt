@@ -23,9 +23,9 @@ use Rattle.mc_keep.specs.declared.rows.ElementRow.{ElementRow}
 use Rattle.mc_keep.specs.declared.rows.TombRow.{TombRow}
 use Rattle.mc_keep.specs.Changes.{has_tomb_row}
 use Rattle.mc_keep.specs.Tables.{element_row, element_rows, element_rows_of}
-use Rattle.mc_keep.specs.Live.{ranked_of, is_row_of, is_shown, live_element_rows, live_row, live_rows, HoldsValue}
+use Rattle.mc_keep.specs.LiveRows.{ranked_of, is_row_of, is_shown, live_element_rows, live_row, live_rows, HoldsValue}
 use Rattle.mc_keep.proofs.Lives.{live_rows-element_rows_of, live_rows_any}
-use Rattle.mc_rows.specs.Live.{hides, rows_with, has_element_of, has_tomb_of, new_row, row_from, Stands}
+use Rattle.mc_rows.specs.Hiding.{hides, rows_with, has_element_of, has_tomb_of, new_row, row_from, Stands}
 
 rows_of_key-append : (blocks more : List Block) (key : List ℕ) → element_rows_of (blocks ++ more) key ≡ element_rows_of blocks key ++ element_rows_of more key
 rows_of_key-append blocks more key =

@@ -16,8 +16,8 @@ use Rattle.mc_keep.specs.declared.changes.ValueChange.{ValueChange}
 use Rattle.mc_keep.specs.Changes.{has_tomb_row, ranked_row}
 use Rattle.mc_keep.specs.ElementOrder.{element_cmp}
 use Rattle.mc_keep.specs.Tables.{IsValueRow}
-use Rattle.mc_keep.specs.Live.{live_element_rows, live_row, live_rows}
-use Rattle.mc_rows.specs.Live.{hides, row_from, Stands}
+use Rattle.mc_keep.specs.LiveRows.{live_element_rows, live_row, live_rows}
+use Rattle.mc_rows.specs.Hiding.{hides, row_from, Stands}
 use Rattle.mc_rows.specs.Values.{IsChange}
 use Rattle.mc_rows.proofs.Lives.{row_anew, row_on}
 

@@ -24,7 +24,7 @@ use Rattle.mc_keep.specs.declared.rows.ElementRow.{ElementRow}
 use Rattle.mc_keep.specs.declared.rows.TombRow.{TombRow}
 use Rattle.mc_rows.specs.declared.tombs.NewTomb.{NewTomb}
 use Rattle.mc_rows.specs.Rows.{key_cmp, tomb_cmp, new_tomb_cmp, row_of, rows_of, tomb_of, tombs_of, tomb_row, tomb_rows}
-use Rattle.mc_rows.specs.Live.{is_unknown, has_element_of, has_tomb_of}
+use Rattle.mc_rows.specs.Hiding.{is_unknown, has_element_of, has_tomb_of}
 use Rattle.mc_rows.specs.Values.{has_key}
 use Rattle.mc_rows.specs.declared.elements.NewElement.{NewElement}
 use Rattle.std.specs.Str.{bytes_eq}

@@ -26,7 +26,7 @@ use Rattle.mc_keep.specs.declared.rows.TombRow.{TombRow}
 use Rattle.mc_keep.specs.declared.changes.ValueChange.{ValueChange}
 use Rattle.mc_keep.specs.Changes.{ranked_row, value_after, values_after}
 use Rattle.mc_keep.specs.Tables.{is_named}
-use Rattle.mc_rows.specs.Live.{new_row}
+use Rattle.mc_rows.specs.Hiding.{new_row}
 use Rattle.mc_rows.specs.Values.{IsChange, change_list, has_key, has_change_of, ValuesFit}
 
 itself : (a : List ℕ) → bytes_eq a a ≡ true

@@ -1,4 +1,4 @@
 pub mod Rows
-pub mod Live
-pub mod Seen
+pub mod Hiding
+pub mod LastBlock
 pub mod Values

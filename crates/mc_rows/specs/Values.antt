@@ -14,7 +14,7 @@ use Rattle.mc_keep.specs.declared.changes.ValueChange.{ValueChange}
 use Rattle.mc_keep.specs.Changes.{ranked_row, values_after}
 use Rattle.mc_keep.specs.Tables.{is_named}
 use Rattle.mc_rows.specs.declared.best.Best.{Best}
-use Rattle.mc_rows.specs.Live.{new_row}
+use Rattle.mc_rows.specs.Hiding.{new_row}
 
 -- what a borrowed value stands for
 abbrev pub ranked_best : Option Best → Option Ranked

@@ -6,7 +6,7 @@ ghost use Rattle.std.specs.List.Sorted.{IsStrictlySortedBy};
 ghost use Rattle.mc_rows.specs.declared.elements.NewElement.{NewElement};
 ghost use Rattle.mc_rows.specs.declared.tombs.NewTomb.{NewTomb};
 ghost use Rattle.mc_rows.specs.Rows.{rows_of, tombs_of};
-ghost use Rattle.mc_rows.specs.Live.{has_element_of, has_tomb_of};
+ghost use Rattle.mc_rows.specs.Hiding.{has_element_of, has_tomb_of};
 ghost use Rattle.mc_rows.specs.Values.{has_key};
 
 use crate::elements::NewElement;

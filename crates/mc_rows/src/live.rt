@@ -9,9 +9,9 @@ ghost use Rattle.mc_keep.specs.Causes.{IfTold};
 ghost use Rattle.mc_keep.specs.Changes.{has_tomb_row};
 ghost use Rattle.mc_keep.specs.Plan.{is_fault};
 ghost use Rattle.mc_rows.specs.Rows.{new_tomb_cmp, row_of, rows_of, tombs_of};
-ghost use Rattle.mc_keep.specs.Live.{live_row, live_rows};
-ghost use Rattle.mc_rows.specs.Live.{hides};
-ghost use Rattle.mc_rows.specs.Seen.{SeenFits};
+ghost use Rattle.mc_keep.specs.LiveRows.{live_row, live_rows};
+ghost use Rattle.mc_rows.specs.Hiding.{hides};
+ghost use Rattle.mc_rows.specs.LastBlock.{LastFits};
 ghost use Rattle.mc_rows.specs.Values.{ranked_best};
 
 use crate::best::{Best, is_above};
@@ -44,7 +44,7 @@ fn is_hidden<K: Keeper>(
 
 // Whether a tombstone of the group hides the elements of the key in a block.
 #[derive(Clone, Copy)]
-pub(crate) struct Seen {
+pub(crate) struct LastBlock {
     pub(crate) cid: Cid,
     pub(crate) hidden: bool,
 }
@@ -56,16 +56,16 @@ fn see(
     key: &str,
     cid: &Cid,
     tombs: &[NewTomb<'_>],
-    last: Option<Seen>,
-) -> Result<Seen, AllocError>
+    last: Option<LastBlock>,
+) -> Result<LastBlock, AllocError>
     requires sorted { IsStrictlySortedBy new_tomb_cmp tombs.now }
-    requires last { SeenFits (tombs_of tombs.now) key.now last }
-    ensures seen { IfOk result (λ seen. SeenFits (tombs_of tombs.now) key.now (Some seen)) }
+    requires last { LastFits (tombs_of tombs.now) key.now last }
+    ensures seen { IfOk result (λ seen. LastFits (tombs_of tombs.now) key.now (Some seen)) }
     ensures cid { IfOk result (λ seen. seen.cid ≡ cid.now) }
 {
     if let Some(seen) = last {
         if seen.cid == *cid {
-            return Ok(Seen {
+            return Ok(LastBlock {
                 cid: *cid,
                 hidden: seen.hidden,
             });
@@ -73,7 +73,7 @@ fn see(
     }
     let id = id_of(alloc, cid)?;
     let hidden = has_tomb(tombs, key, id.as_str());
-    Ok(Seen { cid: *cid, hidden })
+    Ok(LastBlock { cid: *cid, hidden })
 }
 
 // The greatest of these live rows of the key, which are of processed blocks, that no tombstone of the group hides. Just
@@ -102,14 +102,14 @@ fn with_old<'a>(
     key: &str,
     row: &'a ElementRow,
     tombs: &[NewTomb<'_>],
-    last: &mut Option<Seen>,
+    last: &mut Option<LastBlock>,
     best: Option<Best<'a>>,
 ) -> Result<Option<Best<'a>>, AllocError>
     requires sorted { IsStrictlySortedBy new_tomb_cmp tombs.now }
-    requires last { SeenFits (tombs_of tombs.now) key.now last.old }
+    requires last { LastFits (tombs_of tombs.now) key.now last.old }
     ensures best { IfOk result (λ found. ranked_best found ≡ fold greater (ranked_best best.entry)
         (live_row (has_tomb_row (tombs_of tombs.now) key.now) row.now)) }
-    ensures last { SeenFits (tombs_of tombs.now) key.now last.new }
+    ensures last { LastFits (tombs_of tombs.now) key.now last.new }
 {
     let next = Best {
         priority: row.priority,

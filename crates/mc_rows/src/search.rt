@@ -5,7 +5,7 @@ ghost use Rattle.std.specs.Cmp.Lexicographic.{slice_cmp};
 ghost use Rattle.std.specs.List.Sorted.{IsStrictlySortedBy};
 ghost use Rattle.mc_keep.specs.Changes.{has_tomb_row};
 ghost use Rattle.mc_rows.specs.Rows.{new_element_cmp, new_tomb_cmp, rows_of, tombs_of};
-ghost use Rattle.mc_rows.specs.Live.{has_tomb_of, rows_with};
+ghost use Rattle.mc_rows.specs.Hiding.{has_tomb_of, rows_with};
 
 use crate::elements::NewElement;
 use crate::tombs::NewTomb;

@@ -11,7 +11,7 @@ ghost use Rattle.mc_keep.specs.Calls.{Reads};
 ghost use Rattle.mc_keep.specs.Causes.{IfTold};
 ghost use Rattle.mc_keep.specs.Plan.{is_fault};
 ghost use Rattle.mc_rows.specs.Rows.{new_tomb_cmp, new_tomb_total, tomb_of, tombs_of, tomb_row, tomb_rows};
-ghost use Rattle.mc_rows.specs.Live.{is_unknown};
+ghost use Rattle.mc_rows.specs.Hiding.{is_unknown};
 
 use mc_base::{List, Text};
 use mc_keep::{KeepError, Keeper, TombRow};

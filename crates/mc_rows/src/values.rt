@@ -9,7 +9,7 @@ ghost use Rattle.mc_keep.specs.Plan.{is_fault};
 ghost use Rattle.mc_keep.specs.Changes.{ranked_row};
 ghost use Rattle.mc_keep.specs.Tables.{IsValueRow};
 ghost use Rattle.mc_rows.specs.Rows.{new_element_cmp, new_tomb_cmp, rows_of, tombs_of};
-ghost use Rattle.mc_rows.specs.Live.{new_row, row_from, HidesValue, Stands};
+ghost use Rattle.mc_rows.specs.Hiding.{new_row, row_from, HidesValue, Stands};
 ghost use Rattle.mc_rows.specs.Values.{ranked_best, ChangesTo, IsChange};
 
 use crate::best::{Best, best_of, is_unchanged};

@@ -18,7 +18,7 @@ use Rattle.mc_core.specs.Batches.{BatchBecomes, OfBatch, OfRun, delta_of_batch}
 use Rattle.mc_core.specs.Deletes.{IsDeltas, chain_events, with_made}
 use Rattle.mc_core.specs.Events.{ReplicaState, Goes, MayHappen, all_happen, goes_on, state_of}
 use Rattle.mc_core.specs.Exact.{stop_front}
-use Rattle.mc_core.specs.Plans.{with_store}
+use Rattle.mc_core.specs.Uptakes.{with_store}
 use Rattle.mc_core.specs.Puts.{made_events, next_links, delta_of_put}
 use Rattle.mc_core.specs.Refusals.{no_batch_refusal}
 use Rattle.mc_core.specs.declared.error.CoreError.{CoreError}

@@ -15,7 +15,7 @@ use Rattle.mc_keep.specs.declared.changes.Changes.{Changes}
 use Rattle.mc_keep.specs.Changes.{no_changes}
 use Rattle.mc_keep.specs.New.{AreNew}
 use Rattle.mc_keep.specs.Tables.{ChangesFit}
-use Rattle.mc_core.specs.Plans.{Processes}
+use Rattle.mc_core.specs.Uptakes.{Processes}
 use Rattle.mc_core.proofs.PlanFacts.{StoringLaw, FitLaw}
 
 -- bytes that are a block may be stored

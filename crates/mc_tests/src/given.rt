@@ -10,7 +10,7 @@ ghost use Rattle.mc_keep.specs.Changes.{no_changes};
 ghost use Rattle.mc_keep.specs.New.{AreNew};
 ghost use Rattle.mc_keep.specs.Plan.{is_fault};
 ghost use Rattle.mc_keep_mem.specs.Fits.{kept_in};
-ghost use Rattle.mc_core.specs.Plans.{Processes};
+ghost use Rattle.mc_core.specs.Uptakes.{Processes};
 
 use mc_base::{Bytes, Cid};
 use mc_front::front_changes;

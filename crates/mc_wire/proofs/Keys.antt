@@ -5,7 +5,7 @@ use Rattle.std.proofs.lemmas.Bool.{ne_eqb, eqb-true}
 use Rattle.mc_base.specs.Wire.{Content}
 use Rattle.std.proofs.lemmas.List.{drop-drop, length-drop}
 use Rattle.mc_base.specs.WireRead.{front_varint, front_of, front_field, front_keyed, front_content, WireFault, NoKey, NoContent, Whole, after_key}
-use Rattle.mc_wire.specs.Seen.{KeyAt, FieldAt, FaultAt, KeyFaultAt, IsKeyed, FieldOf, FaultOf, ContentAt, content_at, fault_named, field_at, fronts_at}
+use Rattle.mc_wire.specs.Named.{KeyAt, FieldAt, FaultAt, KeyFaultAt, IsKeyed, FieldOf, FaultOf, ContentAt, content_at, fault_named, field_at, fronts_at}
 use Rattle.mc_wire.specs.declared.fault.WireFault.{WireFault as Fault}
 use Rattle.mc_wire.specs.declared.fault.WireFault.TheVariants.{FieldZero}
 use Rattle.mc_wire.specs.declared.fault.WireFaultAt.{WireFaultAt}

@@ -3,7 +3,7 @@ ghost use Rattle.std.specs.Prelude.{◌≡◌, ◌+◌, ◌*◌, ◌^◌, ◌<�
 ghost use Rattle.mc_base.specs.Wire.{varint_bytes};
 ghost use Rattle.mc_base.specs.WireRead.{front_varint};
 ghost use Rattle.mc_base.specs.WireRead as read;
-ghost use Rattle.mc_wire.specs.Seen.{reading};
+ghost use Rattle.mc_wire.specs.Named.{reading};
 
 use crate::WireFault;
 

@@ -12,7 +12,7 @@ use Rattle.mc_core.specs.Calls.{Call, Faults, IsRefused}
 use Rattle.mc_core.specs.Counted.{run_of}
 use Rattle.mc_core.specs.Events.{ReplicaState, state_of, Goes}
 use Rattle.mc_core.specs.Exact.{RestSame, seen_of, stop_front}
-use Rattle.mc_core.specs.Jobs.{NextPlan, NextShort, NextWants, first_waiting}
+use Rattle.mc_core.specs.Jobs.{NextEvents, NextShort, NextWants, first_waiting}
 use Rattle.mc_core.specs.Reads.{read_refusal}
 use Rattle.mc_core.specs.Refusals.{Is, kind_of}
 use Rattle.mc_core.specs.Replica.{running_of}
@@ -158,19 +158,19 @@ abbrev pub broken : Result Reply ActError → Result (Result Job Reply) ActError
 broken (Ok reply) = Ok (Err reply)
 broken (Err error) = Err error
 
-job_stored : (rose : Type 0) (job : Job) (x y : Option ReplicaState) → Told x y (λ s after. Call (Is (read_refusal s)) (NextPlan s) (NextShort s) rose (Ok (Some job)) s after)
+job_stored : (rose : Type 0) (job : Job) (x y : Option ReplicaState) → Told x y (λ s after. Call (Is (read_refusal s)) (NextEvents s) (NextShort s) rose (Ok (Some job)) s after)
     → IfSome x (λ s. job.own ≡ bytes_at (kept_of s.state.durable).graph job.cid)
 job_stored rose job None y call = tt
 job_stored rose job (Some s) None call = absurd call
 job_stored rose job (Some s) (Some after) call = call.plan.1
 
-idle_happens : (w : WorldState) (r : ℕ) (rose : Type 0) (p q : Place) → Told (state_at p) (state_at q) (λ s after. Call (Is (read_refusal s)) (NextPlan s) (NextShort s) rose (Ok None) s after) → Happens w (Step r) p q Idle
-idle_happens w r rose p q call = told_weaker (λ s after. Call (Is (read_refusal s)) (NextPlan s) (NextShort s) rose (Ok None) s after) (λ s after. (events : List Event) × EventsOf w s (Step r) events Idle × Goes events s after)
+idle_happens : (w : WorldState) (r : ℕ) (rose : Type 0) (p q : Place) → Told (state_at p) (state_at q) (λ s after. Call (Is (read_refusal s)) (NextEvents s) (NextShort s) rose (Ok None) s after) → Happens w (Step r) p q Idle
+idle_happens w r rose p q call = told_weaker (λ s after. Call (Is (read_refusal s)) (NextEvents s) (NextShort s) rose (Ok None) s after) (λ s after. (events : List Event) × EventsOf w s (Step r) events Idle × Goes events s after)
     (λ s after does. (does.events, does.plan, does.goes)) (state_at p) (state_at q) call
 
 module _ {K D : Type 0} {g : keeper.Ghosts K D} {h : counted.Ghosts K} {i : counted.Ghosts D} (k : Members K D) (planted : List Planted) (old new : Replica K D g h i) where
   abbrev Calls : Result (Option Job) CoreError → Type 0
-  Calls result = Acts k (λ s. Is (read_refusal s)) NextPlan NextShort result old new
+  Calls result = Acts k (λ s. Is (read_refusal s)) NextEvents NextShort result old new
 
   abbrev Ends : Result (Result Job Reply) ActError → Type 0
   Ends result = BeginsAt k result (up k planted old) (up k planted new) old.keeper new.keeper

@@ -10,7 +10,7 @@ use Rattle.mc_core.specs.Calls.{Call, Faults, IsRefused}
 use Rattle.mc_core.specs.Counted.{run_of}
 use Rattle.mc_core.specs.Events.{ReplicaState, state_of, all_happen, Goes, HappensIn, IsCutShort, stopped}
 use Rattle.mc_core.specs.Exact.{RestSame, seen_of, stop_front}
-use Rattle.mc_core.specs.Jobs.{DeliverPlan, DeliverShort, DeliversIn, IsDelivered, first_waiting, tried_first}
+use Rattle.mc_core.specs.Jobs.{DeliverEvents, DeliverShort, DeliversIn, IsDelivered, first_waiting, tried_first}
 use Rattle.mc_core.specs.Reads.{read_refusal}
 use Rattle.mc_core.specs.Refusals.{Is, kind_of}
 use Rattle.mc_core.specs.Replica.{running_of}
@@ -38,7 +38,7 @@ use Rattle.mc_script.specs.declared.command.Command.TheVariants.{Step}
 use Rattle.mc_script.specs.declared.reply.Reply.{Reply}
 use Rattle.mc_script.specs.declared.reply.Reply.TheVariants as reply
 use Rattle.mc_world.specs.declared.acting.ActError.{ActError}
-use Rattle.mc_world.specs.Fetching.{IsFound, IsStepReply, StepPlan, StepsWith}
+use Rattle.mc_world.specs.Fetching.{IsFound, IsStepReply, StepEvents, StepsWith}
 use Rattle.mc_world.specs.Effects.{IsIdle, Leaves, RunOn, SameBatch}
 use Rattle.mc_world.specs.Step.{ShortAt, StillRuns, answers_fault}
 use Rattle.mc_world.specs.StepParts.{BacksAt, Begun, DeliversAt, IsFlying, IsFoundAt, broke_of, up}
@@ -81,10 +81,10 @@ tried q cid rest is = ap (λ l. give_back (start_first q l) cid) is ∙ sym (ap 
 
 -- the replies to deliveries
 
-step_plan : (peers : List Place) (s : ReplicaState) (events : List Event) (said : Delivered) (answer : Reply) → IsStepReply said answer → StepsWith peers s events answer → StepPlan peers s events answer
-step_plan peers s events (delivered.Processed position) answer is = subst (λ r. StepsWith peers s events r → StepPlan peers s events r) (sym is) (λ steps. steps)
-step_plan peers s events delivered.Missing answer is = subst (λ r. StepsWith peers s events r → StepPlan peers s events r) (sym is) (λ steps. steps)
-step_plan peers s events (delivered.Bad damage) answer is = subst (λ r. StepsWith peers s events r → StepPlan peers s events r) (sym is) (λ steps. steps)
+step_plan : (peers : List Place) (s : ReplicaState) (events : List Event) (said : Delivered) (answer : Reply) → IsStepReply said answer → StepsWith peers s events answer → StepEvents peers s events answer
+step_plan peers s events (delivered.Processed position) answer is = subst (λ r. StepsWith peers s events r → StepEvents peers s events r) (sym is) (λ steps. steps)
+step_plan peers s events delivered.Missing answer is = subst (λ r. StepsWith peers s events r → StepEvents peers s events r) (sym is) (λ steps. steps)
+step_plan peers s events (delivered.Bad damage) answer is = subst (λ r. StepsWith peers s events r → StepEvents peers s events r) (sym is) (λ steps. steps)
 step_plan peers s events delivered.Known answer is = absurd is
 
 not_idle : (run : Running) (said : Delivered) (answer : Reply) → IsStepReply said answer → run.queue.waiting ≢ [] → IsIdle (Some run) answer
@@ -116,11 +116,11 @@ module _ (content : Option Kept) (fuse : Option Fuse) (run : Running) (cid : Cid
   wants : (kept : Kept) → Goes (Want ∷ []) (at kept fuse (Some run)) (at kept fuse (Some (begun_run run)))
   wants kept = want_goes kept fuse run (some_wait run.queue.waiting cid rest waiting)
 
-  planned : (kept : Kept) (events : List Event) (said : Delivered) → DeliverPlan (at kept fuse (Some (begun_run run))) cid found events said → DeliversIn true (durable_of kept) cid found events said
+  planned : (kept : Kept) (events : List Event) (said : Delivered) → DeliverEvents (at kept fuse (Some (begun_run run))) cid found events said → DeliversIn true (durable_of kept) cid found events said
   planned kept events said plan = subst (λ t. DeliversIn t (durable_of kept) cid found events said) (in_flight run.queue cid rest waiting) plan
 
   steps : (peers : List Place) (kept : Kept) (events : List Event) (said : Delivered) (answer : Reply) → IsFound (kept_of (durable_of kept)) peers cid found → IsStepReply said answer
-      → DeliverPlan (at kept fuse (Some (begun_run run))) cid found events said → StepPlan peers (at kept fuse (Some run)) (Want ∷ events) answer
+      → DeliverEvents (at kept fuse (Some (begun_run run))) cid found events said → StepEvents peers (at kept fuse (Some run)) (Want ∷ events) answer
   steps peers kept events said answer is_found says plan =
       let done = planned kept events said plan in
       step_plan peers (at kept fuse (Some run)) (Want ∷ events) said answer says (record {
@@ -135,13 +135,13 @@ module _ (content : Option Kept) (fuse : Option Fuse) (run : Running) (cid : Cid
       })
 
   happens_delivery : (peers : List Place) (rose : Type 0) (said : Delivered) (answer : Reply) → IsStepReply said answer → (y : Option ReplicaState) → IfSome Old (λ s. IsFound (kept_of s.state.durable) peers cid found)
-      → Told Mid y (λ m n. Call (Is (read_refusal m)) (DeliverPlan m cid found) (DeliverShort m cid) rose (Ok said) m n)
-      → Told Old y (λ s n. (events : List Event) × StepPlan peers s events answer × Goes events s n)
+      → Told Mid y (λ m n. Call (Is (read_refusal m)) (DeliverEvents m cid found) (DeliverShort m cid) rose (Ok said) m n)
+      → Told Old y (λ s n. (events : List Event) × StepEvents peers s events answer × Goes events s n)
   happens_delivery peers rose said answer says y is_found call = over content y is_found call
     where
       over : (content : Option Kept) (y : Option ReplicaState) → IfSome (state_of content fuse (Some run)) (λ s. IsFound (kept_of s.state.durable) peers cid found)
-          → Told (state_of content fuse (Some (begun_run run))) y (λ m n. Call (Is (read_refusal m)) (DeliverPlan m cid found) (DeliverShort m cid) rose (Ok said) m n)
-          → Told (state_of content fuse (Some run)) y (λ s n. (events : List Event) × StepPlan peers s events answer × Goes events s n)
+          → Told (state_of content fuse (Some (begun_run run))) y (λ m n. Call (Is (read_refusal m)) (DeliverEvents m cid found) (DeliverShort m cid) rose (Ok said) m n)
+          → Told (state_of content fuse (Some run)) y (λ s n. (events : List Event) × StepEvents peers s events answer × Goes events s n)
       over None y is_found call = tt
       over (Some kept) None is_found call = absurd call
       over (Some kept) (Some n) is_found call = (
@@ -151,20 +151,20 @@ module _ (content : Option Kept) (fuse : Option Fuse) (run : Running) (cid : Cid
       )
 
   cut_delivery : (peers : List Place) (rose : Type 0) (y : Option ReplicaState) → IfSome Old (λ s. IsFound (kept_of s.state.durable) peers cid found)
-      → Told Mid y (λ m n. Faults (DeliverPlan m cid found) rose m n)
-      → Told Old y (λ s n. Faults (λ events answer. StepPlan peers s events answer) rose s n)
+      → Told Mid y (λ m n. Faults (DeliverEvents m cid found) rose m n)
+      → Told Old y (λ s n. Faults (λ events answer. StepEvents peers s events answer) rose s n)
   cut_delivery peers rose y is_found call = over content y is_found call
     where
       over : (content : Option Kept) (y : Option ReplicaState) → IfSome (state_of content fuse (Some run)) (λ s. IsFound (kept_of s.state.durable) peers cid found)
-          → Told (state_of content fuse (Some (begun_run run))) y (λ m n. Faults (DeliverPlan m cid found) rose m n)
-          → Told (state_of content fuse (Some run)) y (λ s n. Faults (λ events answer. StepPlan peers s events answer) rose s n)
+          → Told (state_of content fuse (Some (begun_run run))) y (λ m n. Faults (DeliverEvents m cid found) rose m n)
+          → Told (state_of content fuse (Some run)) y (λ s n. Faults (λ events answer. StepEvents peers s events answer) rose s n)
       over None y is_found call = tt
       over (Some kept) None is_found call = absurd call
       over (Some kept) (Some n) is_found call = elim call.begins [
         | inl none ↦
             let cut = none_cut rose (at kept fuse (Some (begun_run run))) n call.events call.breaks.so_far call.breaks.rest none call.breaks.split call.breaks.fate in
-            subst (λ x. Faults (λ events answer. StepPlan peers (at kept fuse (Some run)) events answer) rose (at kept fuse (Some run)) x) (sym cut.1)
-            (nothing_done (λ events answer. StepPlan peers (at kept fuse (Some run)) events answer) rose (at kept fuse (Some run)) cut.0)
+            subst (λ x. Faults (λ events answer. StepEvents peers (at kept fuse (Some run)) events answer) rose (at kept fuse (Some run)) x) (sym cut.1)
+            (nothing_done (λ events answer. StepEvents peers (at kept fuse (Some run)) events answer) rose (at kept fuse (Some run)) cut.0)
         | inr plan ↦
             let answer = some_reply (durable_of kept) cid found plan.0 (planned kept call.events plan.0 plan.1).1 in
             record {
@@ -213,16 +213,16 @@ module _ (content : Option Kept) (fuse : Option Fuse) (run : Running) (cid : Cid
 -- what a delivery was told to do, and what is told of the step
 
 abbrev Delivers : Cid → Option (List ℕ) → Type 0 → Delivered → ReplicaState → ReplicaState → Type 0
-Delivers cid found rose said m n = Call (Is (read_refusal m)) (DeliverPlan m cid found) (DeliverShort m cid) rose (Ok said) m n
+Delivers cid found rose said m n = Call (Is (read_refusal m)) (DeliverEvents m cid found) (DeliverShort m cid) rose (Ok said) m n
 
 abbrev Steps : WorldState → ℕ → Reply → ReplicaState → ReplicaState → Type 0
-Steps w r answer s n = (events : List Event) × StepPlan (peers_of w r) s events answer × Goes events s n
+Steps w r answer s n = (events : List Event) × StepEvents (peers_of w r) s events answer × Goes events s n
 
 abbrev Cuts : Cid → Option (List ℕ) → Type 0 → ReplicaState → ReplicaState → Type 0
-Cuts cid found rose m n = Faults (DeliverPlan m cid found) rose m n
+Cuts cid found rose m n = Faults (DeliverEvents m cid found) rose m n
 
 abbrev StepCuts : WorldState → ℕ → Type 0 → ReplicaState → ReplicaState → Type 0
-StepCuts w r rose s n = Faults (λ events answer. StepPlan (peers_of w r) s events answer) rose s n
+StepCuts w r rose s n = Faults (λ events answer. StepEvents (peers_of w r) s events answer) rose s n
 
 abbrev Shorts : Cid → ReplicaState → ReplicaState → Type 0
 Shorts cid m n = DeliverShort m cid n
@@ -279,7 +279,7 @@ module _ {K D : Type 0} {g : keeper.Ghosts K D} {h : counted.Ghosts K} {i : coun
     found_at w r found is = subst (λ (run : Option Running). IfSome (state_of p.content p.fuse run) (λ s. IsFound (kept_of s.state.durable) (peers_of w r) cid found)) begun.runs is
 
   abbrev Calls : Option (List ℕ) → Result Delivered CoreError → Type 0
-  Calls found result = Acts k (λ s. Is (read_refusal s)) (λ s. DeliverPlan s cid found) (λ s. DeliverShort s cid) result old new
+  Calls found result = Acts k (λ s. Is (read_refusal s)) (λ s. DeliverEvents s cid found) (λ s. DeliverShort s cid) result old new
 
   abbrev Ends : Option (List ℕ) → Result Reply ActError → Type 0
   Ends found result = DeliversAt k cid found result (up k planted old) (up k planted new) old.keeper new.keeper

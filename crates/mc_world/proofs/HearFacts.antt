@@ -18,7 +18,7 @@ use Rattle.mc_core.specs.Calls.{Call, Stays}
 use Rattle.mc_core.specs.Counted.{run_of}
 use Rattle.mc_core.specs.Events.{ReplicaState}
 use Rattle.mc_core.specs.Exact.{RestSame, seen_of, stop_front}
-use Rattle.mc_core.specs.Hears.{HearPlan, HearWants, IsQueued, cast_refusal, hear_refusal, unless_short, written_cast}
+use Rattle.mc_core.specs.Hears.{HearEvents, HearWants, IsQueued, cast_refusal, hear_refusal, unless_short, written_cast}
 use Rattle.mc_core.specs.Reads.{OnlyReads, read_refusal}
 use Rattle.mc_core.specs.Refusals.{ByKind, Is, kind_of}
 use Rattle.mc_core.specs.Replica.{running_of}
@@ -58,28 +58,28 @@ module _ {K D : Type 0} {g : keeper.Ghosts K D} {h : counted.Ghosts K} {i : coun
   abbrev HearDue : List ℕ → ReplicaState → Option CoreError → Type 0
   HearDue text s = Is (hear_refusal s text)
 
-  hear_call_err : (error : CoreError) → Acts k (HearDue text) (λ s. HearPlan s text) Stays (no_heard error) old new → (w : WorldState) → Where w → CallsIn k w (Hear r message) (Err error) old new
+  hear_call_err : (error : CoreError) → Acts k (HearDue text) (λ s. HearEvents s text) Stays (no_heard error) old new → (w : WorldState) → Where w → CallsIn k w (Hear r message) (Err error) old new
   hear_call_err error call w here =
-      err_call (λ s. CallRefusal w s (Hear r message)) (λ s. HearPlan s (message_at w.around.bag message)) (λ s. EventsOf w s (Hear r message)) Stays (λ s events said plan. (Queued said.queued, (said, plan, refl)))
+      err_call (λ s. CallRefusal w s (Hear r message)) (λ s. HearEvents s (message_at w.around.bag message)) (λ s. EventsOf w s (Hear r message)) Stays (λ s events said plan. (Queued said.queued, (said, plan, refl)))
       (state_at (place k (up old []))) (state_at (place k (up new []))) (Rose (k.own old.keeper) (k.own new.keeper)) error (Err error) refl
-      (subst (λ (text : List ℕ). Acts k (HearDue text) (λ s. HearPlan s text) Stays (no_heard error) old new) (sym here) call)
+      (subst (λ (text : List ℕ). Acts k (HearDue text) (λ s. HearEvents s text) Stays (no_heard error) old new) (sym here) call)
 
   pub hear_err : (error : CoreError) (result : Result Reply ActError) → result ≡ answer_of error → Continues k (is_fault_kind (kind_of error)) old new → RestSame old new → StillTells k old new
       → HearWants {T = Heard} (Err error) (running_of old).queue (running_of new).queue → seen_of error ≡ stop_front old.stopped (unless_short {T = Heard} (Err error) (cast_refusal text))
-      → Acts k (HearDue text) (λ s. HearPlan s text) Stays (no_heard error) old new
+      → Acts k (HearDue text) (λ s. HearEvents s text) Stays (no_heard error) old new
       → SeatActsIn k Where (Hear r message) result x (up new x.planted)
   hear_err error result answered keeps rest tells wants front call = of_seat k Where (Hear r message) result x old new held
       (err_acts k (Hear r message) refl error old new x.planted keeps (rest.walk_same, rest.whole_same, rest.batch_same) Where result answered (λ e. absurd (let f : true ≡ false = e in cc))
       (same_any (kind_of error) (tells.told_same, tells.fuse_same, wants))
       (λ w here. subst (λ (text : List ℕ). ByKind (seen_of error ≡ stop_front old.stopped (cast_refusal text)) (seen_of error ≡ stop_front old.stopped (cast_refusal text)) ⊤ (kind_of error)) (sym here) (front_short old.stopped (cast_refusal text) error front))
       (hear_call_err error call)
-      (left_of (HearDue text) (λ s. HearPlan s text) Stays (Rose (k.own old.keeper) (k.own new.keeper)) error (state_at (place k (up old []))) (state_at (place k (up new []))) call))
+      (left_of (HearDue text) (λ s. HearEvents s text) Stays (Rose (k.own old.keeper) (k.own new.keeper)) error (state_at (place k (up old []))) (state_at (place k (up new []))) call))
 
-  hear_call_ok : (heard : Heard) → Acts k (HearDue text) (λ s. HearPlan s text) Stays (Ok heard) old new → (w : WorldState) → Where w → CallsIn k w (Hear r message) (Ok (Queued heard.queued)) old new
+  hear_call_ok : (heard : Heard) → Acts k (HearDue text) (λ s. HearEvents s text) Stays (Ok heard) old new → (w : WorldState) → Where w → CallsIn k w (Hear r message) (Ok (Queued heard.queued)) old new
   hear_call_ok heard call w here =
-      ok_call (λ s. CallRefusal w s (Hear r message)) (λ s. HearPlan s (message_at w.around.bag message)) (λ s. EventsOf w s (Hear r message)) Stays heard (Queued heard.queued) (λ s events plan. (heard, plan, refl))
+      ok_call (λ s. CallRefusal w s (Hear r message)) (λ s. HearEvents s (message_at w.around.bag message)) (λ s. EventsOf w s (Hear r message)) Stays heard (Queued heard.queued) (λ s events plan. (heard, plan, refl))
       (state_at (place k (up old []))) (state_at (place k (up new []))) (Rose (k.own old.keeper) (k.own new.keeper))
-      (subst (λ (text : List ℕ). Acts k (HearDue text) (λ s. HearPlan s text) Stays (Ok heard) old new) (sym here) call)
+      (subst (λ (text : List ℕ). Acts k (HearDue text) (λ s. HearEvents s text) Stays (Ok heard) old new) (sym here) call)
 
   hear_exact : (heard : Heard) → RestSame old new → StillTells k old new → HearWants (Ok heard) (running_of old).queue (running_of new).queue → IsQueued (running_of old).queue (running_of new).queue heard.queued
       → Exact (Hear r message) (placed (k.told old.keeper) (k.fuse old.keeper) false (running_of old) x.planted) (placed (k.told new.keeper) (k.fuse new.keeper) false (running_of new) x.planted) (Queued heard.queued)
@@ -91,7 +91,7 @@ module _ {K D : Type 0} {g : keeper.Ghosts K D} {h : counted.Ghosts K} {i : coun
 
   pub hear_ok : (heard : Heard) → Continues k false old new → RestSame old new → StillTells k old new → HearWants (Ok heard) (running_of old).queue (running_of new).queue
       → IsQueued (running_of old).queue (running_of new).queue heard.queued → None ≡ stop_front old.stopped (cast_refusal text)
-      → Acts k (HearDue text) (λ s. HearPlan s text) Stays (Ok heard) old new
+      → Acts k (HearDue text) (λ s. HearEvents s text) Stays (Ok heard) old new
       → SeatActsIn k Where (Hear r message) (Ok (Queued heard.queued)) x (up new x.planted)
   hear_ok heard keeps rest tells wants queued front call = of_seat k Where (Hear r message) (Ok (Queued heard.queued)) x old new held
       (ok_acts k Where (Hear r message) refl old new x.planted (Queued heard.queued) keeps refl

@@ -17,16 +17,16 @@ use Rattle.mc_model.specs.Wanted.{hear_all, no_queue}
 use Rattle.mc_core.specs.declared.error.CoreError.{CoreError}
 use Rattle.mc_core.specs.declared.error.CoreError.TheVariants as core
 use Rattle.mc_core.specs.declared.made.Written.{Written}
-use Rattle.mc_core.specs.Batches.{begin_refusal, BeginPlan, batch_put_refusal, BatchPutPlan}
-use Rattle.mc_core.specs.Batches.{batch_delete_refusal, BatchDeletePlan, commit_refusal, CommitPlan}
+use Rattle.mc_core.specs.Batches.{begin_refusal, BeginEvents, batch_put_refusal, BatchPutEvents}
+use Rattle.mc_core.specs.Batches.{batch_delete_refusal, BatchDeleteEvents, commit_refusal, CommitEvents}
 use Rattle.mc_core.specs.Calls.{Stays}
 use Rattle.mc_core.specs.Counted.{capped}
-use Rattle.mc_core.specs.Deletes.{DeleteRefusal, DeletePlan, DeleteShort}
+use Rattle.mc_core.specs.Deletes.{DeleteRefusal, DeleteEvents, DeleteShort}
 use Rattle.mc_core.specs.Events.{ReplicaState, Goes}
 use Rattle.mc_core.specs.Exact.{put_front, seen_of, stop_front}
-use Rattle.mc_core.specs.Hears.{HearPlan, IsQueued, cast_refusal, hear_refusal}
+use Rattle.mc_core.specs.Hears.{HearEvents, IsQueued, cast_refusal, hear_refusal}
 use Rattle.mc_core.specs.Jobs.{NextShort}
-use Rattle.mc_core.specs.Puts.{put_refusal, PutPlan}
+use Rattle.mc_core.specs.Puts.{put_refusal, PutEvents}
 use Rattle.mc_core.specs.Reads.{read_refusal, OnlyReads}
 use Rattle.mc_core.specs.Refusals.{ByKind, Is, kind_of, key_refusal, no_batch_refusal, open_batch_refusal}
 use Rattle.mc_fetch.specs.Plants.{planted_with}
@@ -43,7 +43,7 @@ use Rattle.mc_script.specs.declared.reply.Reply.TheVariants.{RefusedKey, Refused
 use Rattle.mc_world.specs.declared.acting.ActError.{ActError}
 use Rattle.mc_world.specs.declared.acting.ActError.TheVariants.{Memory}
 use Rattle.mc_world.specs.Asks.{message_at}
-use Rattle.mc_world.specs.Fetching.{StepPlan}
+use Rattle.mc_world.specs.Fetching.{StepEvents}
 use Rattle.mc_world.specs.Storming.{stormed_reply}
 use Rattle.mc_world.specs.Works.{RepairDone, WorkDone, budget_of}
 use Rattle.mc_world.specs.Worlds.{IfRuns, Place, WorldState, is_down, peers_of, state_at}
@@ -107,12 +107,12 @@ Leaves command s left = Stays s left
 
 -- the events of a command that is not refused, and its reply
 abbrev pub EventsOf : WorldState → ReplicaState → Command → List Event → Reply → Type 0
-EventsOf w s (Put r key bytes) = Answers (PutPlan s key bytes) (λ written reply. reply ≡ Priority written.priority)
-EventsOf w s (Del r key) = Answers (DeletePlan s key) (λ deleted reply. reply ≡ Deleted deleted.blocks)
-EventsOf w s (Begin r) = Answers (BeginPlan {T = ⊤}) (λ done reply. reply ≡ Done)
-EventsOf w s (BatchPut r key bytes) = Answers (BatchPutPlan {T = ⊤} s key bytes) (λ done reply. reply ≡ Done)
-EventsOf w s (BatchDel r key) = Answers (BatchDeletePlan {T = ⊤} s key) (λ done reply. reply ≡ Done)
-EventsOf w s (Commit r) = Answers (CommitPlan s) (λ written reply. reply ≡ Priority (batch_priority written))
+EventsOf w s (Put r key bytes) = Answers (PutEvents s key bytes) (λ written reply. reply ≡ Priority written.priority)
+EventsOf w s (Del r key) = Answers (DeleteEvents s key) (λ deleted reply. reply ≡ Deleted deleted.blocks)
+EventsOf w s (Begin r) = Answers (BeginEvents {T = ⊤}) (λ done reply. reply ≡ Done)
+EventsOf w s (BatchPut r key bytes) = Answers (BatchPutEvents {T = ⊤} s key bytes) (λ done reply. reply ≡ Done)
+EventsOf w s (BatchDel r key) = Answers (BatchDeleteEvents {T = ⊤} s key) (λ done reply. reply ≡ Done)
+EventsOf w s (Commit r) = Answers (CommitEvents s) (λ written reply. reply ≡ Priority (batch_priority written))
 EventsOf w s (Get r key) =
     Answers (OnlyReads (λ kept found. found ≡ value (processed kept) key) s) (λ found reply. reply ≡ Value found)
 EventsOf w s (HasKey r key) =
@@ -123,8 +123,8 @@ EventsOf w s (Query r prefix skip take) =
 EventsOf w s (HeadsOf r) =
     Answers (OnlyReads (λ kept rows. rows ≡ heads (processed kept)) s) (λ rows reply. reply ≡ Heads rows)
 EventsOf w s (Hear r message) =
-    Answers (HearPlan s (message_at w.around.bag message)) (λ heard reply. reply ≡ Queued heard.queued)
-EventsOf w s (Step r) = StepPlan (peers_of w r) s
+    Answers (HearEvents s (message_at w.around.bag message)) (λ heard reply. reply ≡ Queued heard.queued)
+EventsOf w s (Step r) = StepEvents (peers_of w r) s
 EventsOf w s command = λ events reply. events ≡ []
 
 -- the batch of a replica that runs

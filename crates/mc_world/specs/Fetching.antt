@@ -53,6 +53,6 @@ pub record StepsWith (peers : List Place) (s : ReplicaState) (events : List Even
   pub says : IsStepReply delivered reply
 
 -- or nothing, where no block waits
-abbrev pub StepPlan : List Place → ReplicaState → List Event → Reply → Type 0
-StepPlan peers s events Idle = (first_waiting s ≡ None) × (events ≡ [])
-StepPlan peers s events reply = StepsWith peers s events reply
+abbrev pub StepEvents : List Place → ReplicaState → List Event → Reply → Type 0
+StepEvents peers s events Idle = (first_waiting s ≡ None) × (events ≡ [])
+StepEvents peers s events reply = StepsWith peers s events reply

@@ -16,7 +16,7 @@ use Rattle.mc_write.specs.declared.error.WriteError.TheVariants.{BlockTooLarge, 
 use Rattle.mc_write.specs.Cutting.{IsNext, NextRefused, CutsRefused}
 use Rattle.mc_write.specs.declared.pair.Pair.{Pair as Own}
 use Rattle.mc_write.specs.Lengths.{capped, links_length, block_length, tomb_length, IsRoom, IsTombLen}
-use Rattle.mc_write.specs.Seen.{seen, all_seen, has_digest, have_digests}
+use Rattle.mc_write.specs.Pairs.{seen, all_seen, has_digest, have_digests}
 use Rattle.mc_write.proofs.LengthFacts.{size_is, one_fits, made_link}
 
 digests_apart : (xs ys : List Pair) → have_digests (xs ++ ys) ≡ true → (have_digests xs ≡ true) × (have_digests ys ≡ true)

@@ -31,7 +31,7 @@ use Rattle.std.proofs.Math.Bool.{or-true, or-false}
 use Rattle.std.proofs.lemmas.Map.Lookups.{exact_bytes}
 use Rattle.mc_model.specs.Batch.{is_nil, is_empty_batch}
 use Rattle.mc_write.specs.declared.pair.Pair.{Pair as Own}
-use Rattle.mc_write.specs.Seen.{all_seen}
+use Rattle.mc_write.specs.Pairs.{all_seen}
 use Rattle.mc_write.specs.Held.{Put, elements_in, Dropped, deleted_of, deleted_in, cid_cmp, AreHeld}
 use Rattle.mc_write.proofs.ElementFacts.{bytes_same}
 use Rattle.mc_model.proofs.SortFacts.{sorted_once}

@@ -23,7 +23,7 @@ use Rattle.mc_delta.specs.Lengths.{entry_length}
 use Rattle.mc_delta.proofs.LengthFacts.{tomb_bytes_len, priority_bytes_len}
 use Rattle.mc_key.specs.KeyRule.{is_key, begins, segments, is_empty, is_dots}
 use Rattle.mc_write.specs.Lengths.{links_length, field_length, block_length, tomb_length}
-use Rattle.mc_write.specs.Seen.{has_digest, have_digests}
+use Rattle.mc_write.specs.Pairs.{has_digest, have_digests}
 
 -- the length of an id
 

@@ -15,7 +15,7 @@ use Rattle.mc_model.specs.Cuts.{Pair, pair_cmp}
 use Rattle.mc_model.proofs.Members.{list_any-map}
 use Rattle.mc_write.specs.declared.pair.Pair.{Pair as Own}
 use Rattle.mc_write.specs.PairOrder.{own_cmp, own_total}
-use Rattle.mc_write.specs.Seen.{seen, all_seen}
+use Rattle.mc_write.specs.Pairs.{seen, all_seen}
 use Rattle.mc_model.proofs.SortFacts.{sorted_once}
 
 pub pair_tied : (x y : Pair) → pair_cmp x y ≡ Equal → x ≡ y

@@ -32,12 +32,12 @@ use Rattle.mc_model.proofs.Counts.{cid_is, cid_itself}
 use Rattle.mc_model.proofs.Greatest.{rank_tied, gt_lt}
 use Rattle.mc_keep.specs.declared.rows.ElementRow.{ElementRow}
 use Rattle.mc_keep.specs.ElementOrder.{element_cmp, element_total}
-use Rattle.mc_keep.specs.Live.{is_shown, live_element_rows}
+use Rattle.mc_keep.specs.LiveRows.{is_shown, live_element_rows}
 use Rattle.mc_keep.specs.Tables.{element_row, element_rows, element_rows_of}
 use Rattle.mc_keep.proofs.ElementTies.{element_tied}
 use Rattle.mc_write.specs.PairOrder.{pair_total}
 use Rattle.mc_write.specs.Rows.{same_block, last_rows}
-use Rattle.mc_write.specs.Seen.{row_pair}
+use Rattle.mc_write.specs.Pairs.{row_pair}
 use Rattle.mc_write.proofs.Membership.{In, any_from_in, in_from_any, in_same, in_map, from_map, in_filter, from_filter, in_flat_map, from_flat_map, in_filter_map, from_filter_map}
 use Rattle.mc_write.proofs.PairFacts.{pair_tied}
 use Rattle.mc_write.proofs.RowOrder.{Descends, UpTo, reverse_cons, reverse_descends, in_dedup, last_of_block, has_last, value_up_to}

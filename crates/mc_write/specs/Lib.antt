@@ -4,4 +4,4 @@ pub mod Lengths
 pub mod PairOrder
 pub mod Refusals
 pub mod Rows
-pub mod Seen
+pub mod Pairs

@@ -5,7 +5,7 @@ use Rattle.std.specs.declared.cmp.Ordering.{Ordering}
 use Rattle.std.proofs.lemmas.Cmp.{then_total, on_total, nat_cmp_total, nat_list_cmp_total}
 use Rattle.mc_model.specs.Cuts.{Pair, pair_cmp}
 use Rattle.mc_write.specs.declared.pair.Pair.{Pair as Own}
-use Rattle.mc_write.specs.Seen.{seen}
+use Rattle.mc_write.specs.Pairs.{seen}
 
 pub pair_total : IsTotalOrder pair_cmp
 pair_total = then_total (then_total (on_total (λ (pair : Pair). pair.priority) nat_cmp_total) (on_total (λ (pair : Pair). pair.value) nat_list_cmp_total)) (on_total (λ (pair : Pair). pair.cid.0) nat_list_cmp_total)

@@ -8,7 +8,7 @@ ghost use Rattle.mc_model.specs.Made.{greatest_height};
 ghost use Rattle.mc_write.specs.Cutting.{number, IsNext, NextRefused, CutsRefused};
 ghost use Rattle.mc_write.specs.Lengths.{capped, links_length, IsTombLen};
 ghost use Rattle.mc_write.specs.Refusals.{is_fault};
-ghost use Rattle.mc_write.specs.Seen.{all_seen, have_digests};
+ghost use Rattle.mc_write.specs.Pairs.{all_seen, have_digests};
 
 use crate::WriteError;
 use crate::length::{LINK_LEN, block_len, priority_len, room_for, tomb_len};

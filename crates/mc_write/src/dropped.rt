@@ -9,7 +9,7 @@ ghost use Rattle.mc_model.specs.Ascending.{ascending, Ascends};
 ghost use Rattle.mc_model.specs.Batch.{deleted_cmp, deleted_tomb};
 ghost use Rattle.mc_model.specs.Cuts.{Pair as Taken};
 ghost use Rattle.mc_write.specs.Held.{deleted_in, AreHeld, cid_cmp};
-ghost use Rattle.mc_write.specs.Seen.{all_seen};
+ghost use Rattle.mc_write.specs.Pairs.{all_seen};
 
 use crate::pair::Pair;
 use mc_base::{Cid, List, Text};

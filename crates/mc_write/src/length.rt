@@ -3,7 +3,7 @@ ghost use Rattle.std.specs.Prelude.{◌≡◌, ◌+◌, ◌<◌, ◌≤◌, ◌^
 ghost use Rattle.mc_base.specs.Node.{link_bytes};
 ghost use Rattle.mc_model.specs.DeltaText.{priority_bytes};
 ghost use Rattle.mc_write.specs.Lengths.{capped, links_length, field_length, block_length, IsTombLen, IsRoom};
-ghost use Rattle.mc_write.specs.Seen.{row_cids};
+ghost use Rattle.mc_write.specs.Pairs.{row_cids};
 
 use mc_base::Cid;
 use mc_keep::HeadRow;

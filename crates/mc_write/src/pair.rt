@@ -8,7 +8,7 @@ ghost use Rattle.std.proofs.Common.{rules};
 ghost use Rattle.std.proofs.lemmas.Cmp.{eq_by_cmp_equiv};
 ghost use Rattle.mc_model.specs.Ascending.{Ascends};
 ghost use Rattle.mc_model.specs.Cuts.{pair_cmp};
-ghost use Rattle.mc_write.specs.Seen.{seen, all_seen, row_pair, has_digest, have_digests};
+ghost use Rattle.mc_write.specs.Pairs.{seen, all_seen, row_pair, has_digest, have_digests};
 ghost use Rattle.mc_write.specs.PairOrder.{own_cmp, own_total};
 
 use mc_base::{Bytes, Cid};

@@ -6,7 +6,7 @@ ghost use Rattle.mc_keep.specs.Calls.{Reads};
 ghost use Rattle.mc_keep.specs.Causes.{IfTold};
 ghost use Rattle.mc_keep.specs.Plan.{is_fault};
 ghost use Rattle.mc_write.specs.Rows.{last_rows};
-ghost use Rattle.mc_write.specs.Seen.{all_seen, row_pair, have_digests};
+ghost use Rattle.mc_write.specs.Pairs.{all_seen, row_pair, have_digests};
 
 use crate::pair::{Pair, in_order, pair_of};
 use mc_keep::{ElementRow, KeepError, Keeper};

@@ -1,6 +1,6 @@
 // The deltas of worked examples.
 ghost use Rattle.std.specs.Prelude.{◌≡◌, IfOk, true};
-ghost use Rattle.mc_write.specs.Seen.{all_seen, have_digests};
+ghost use Rattle.mc_write.specs.Pairs.{all_seen, have_digests};
 
 use crate::cut::cut;
 use crate::length::block_len;

@@ -1,5 +1,5 @@
 use Rattle.std.proofs.Common.{◌≡◌, take}
-use Rattle.mc_write.specs.Seen.{row_cids}
+use Rattle.mc_write.specs.Pairs.{row_cids}
 use Rattle.mc_core.proofs.made.cids_of.Given as goal
 
 abbrev pub invariant-loop-head : goal.invariant-loop-head

@@ -21,15 +21,15 @@ returns-in_err-check_size-clause-reads g c =
     let p = err_from_is_err_and c.from_residual-in_err-check_size.result c.from_residual-in_err-check_size.ensures.1 in
     rw (p.1, p.2) (reads_nothing c.args.keeper.now c.in_err-check_size.ensures.no_fault)
 
-pub returns-in_err-plan-clause-reads : goal.returns-in_err-plan-clause-reads
-returns-in_err-plan-clause-reads g c =
-    let p = err_from_is_err_and c.from_residual-in_err-plan.result c.from_residual-in_err-plan.ensures.1 in
-    rw p.1 (read_well (read_more (read_more c.in-Ok.ensures.reads c.in_ok-position.ensures.reads) c.in_err-plan.ensures.reads) (same_fault _ _ p.2))
+pub returns-in_err-uptake-clause-reads : goal.returns-in_err-uptake-clause-reads
+returns-in_err-uptake-clause-reads g c =
+    let p = err_from_is_err_and c.from_residual-in_err-uptake.result c.from_residual-in_err-uptake.ensures.1 in
+    rw p.1 (read_well (read_more (read_more c.in-Ok.ensures.reads c.in_ok-position.ensures.reads) c.in_err-uptake.ensures.reads) (same_fault _ _ p.2))
 
 pub returns-clause-reads : goal.returns-clause-reads
-returns-clause-reads g c = read_more (read_more c.in-Ok.ensures.reads c.in_ok-position.ensures.reads) c.in_ok-plan.ensures.reads
+returns-clause-reads g c = read_more (read_more c.in-Ok.ensures.reads c.in_ok-position.ensures.reads) c.in_ok-uptake.ensures.reads
 
-pub plan_block-requires-clause-new : goal.plan_block-requires-clause-new
-plan_block-requires-clause-new g c =
+pub uptake_of-requires-clause-new : goal.uptake_of-requires-clause-new
+uptake_of-requires-clause-new g c =
     rw (c.new.ensures, c.in_ok-position.ensures.reads.told_same, c.in-Ok.ensures.reads.told_same) (made_new _ c.args.links c.args.delta _ _ c.requires (rw (c.as_slice.ensures) at c.in_ok-made.ensures.good) (rw (c.as_slice-2.ensures) at c.in_ok-check_size.ensures.ok)
     (rw (c.as_slice-3.ensures) at c.in-Ok.ensures.allowed))

@@ -1,6 +1,6 @@
 use Rattle.std.proofs.Common.{◌≡◌, ◌≤◌, ◌+◌, take, length}
 use Rattle.mc_queue.specs.Views.{shown, spare}
-use Rattle.mc_core.specs.Plans.{wants}
+use Rattle.mc_core.specs.Uptakes.{wants}
 use Rattle.mc_core.proofs.wanting.want_links.Given as goal
 
 abbrev pub invariant-loop-link : goal.invariant-loop-link

@@ -2,7 +2,7 @@ use Rattle.std.proofs.Common.{◌∙◌, sym, Bool, List, ℕ}
 use Rattle.std.specs.Prelude.{find}
 use Rattle.mc_model.specs.Rank.{same_ranked}
 use Rattle.mc_keep.specs.declared.rows.ElementRow.{ElementRow}
-use Rattle.mc_keep.specs.Live.{ranked_of}
+use Rattle.mc_keep.specs.LiveRows.{ranked_of}
 use Rattle.mc_keep_mem.proofs.PruneFacts.{got_in}
 use Rattle.mc_keep_mem.proofs.WalkFacts.{walk_begins, walk_steps, walk_ends, row_passed, row_here}
 use Rattle.mc_keep_mem.proofs.holder.place_with.Goals as goal

@@ -5,7 +5,7 @@ use Rattle.mc_model.specs.Kept.{Kept, processed}
 use Rattle.mc_keep.proofs.Frames.{read_more}
 use Rattle.mc_rows.specs.declared.elements.NewElement.{NewElement}
 use Rattle.mc_rows.specs.Rows.{row_of, rows_of, tombs_of}
-use Rattle.mc_rows.specs.Live.{hides}
+use Rattle.mc_rows.specs.Hiding.{hides}
 use Rattle.mc_rows.specs.Values.{ranked_best}
 use Rattle.mc_rows.proofs.OneKey.{row_more}
 use Rattle.mc_rows.proofs.live.best_with_new.Goals as goal

@@ -4,8 +4,8 @@ use Rattle.mc_model.specs.Kept.{processed}
 use Rattle.mc_model.specs.Rank.{greater}
 use Rattle.mc_keep.specs.Calls.{HasRead}
 use Rattle.mc_rows.specs.Rows.{rows_of, tombs_of}
-use Rattle.mc_keep.specs.Live.{live_rows}
-use Rattle.mc_rows.specs.Live.{hides}
+use Rattle.mc_keep.specs.LiveRows.{live_rows}
+use Rattle.mc_rows.specs.Hiding.{hides}
 use Rattle.mc_rows.specs.Values.{ranked_best}
 use Rattle.mc_rows.proofs.live.best_with_new.Given as goal
 

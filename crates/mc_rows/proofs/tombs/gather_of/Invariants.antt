@@ -3,7 +3,7 @@ use Rattle.std.specs.Prelude.{IfSome, filter}
 use Rattle.mc_model.specs.Kept.{processed}
 use Rattle.mc_keep.specs.Calls.{HasRead}
 use Rattle.mc_rows.specs.Rows.{tombs_of, tomb_row}
-use Rattle.mc_rows.specs.Live.{is_unknown}
+use Rattle.mc_rows.specs.Hiding.{is_unknown}
 use Rattle.mc_rows.proofs.tombs.gather_of.Given as goal
 
 abbrev pub invariant-loop-tomb : goal.invariant-loop-tomb

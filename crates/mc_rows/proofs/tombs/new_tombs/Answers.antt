@@ -8,7 +8,7 @@ use Rattle.mc_model.specs.SameMembers.{SameMembers}
 use Rattle.mc_model.specs.Kept.{processed}
 use Rattle.mc_rows.specs.declared.tombs.NewTomb.{NewTomb}
 use Rattle.mc_rows.specs.Rows.{tombs_of, tomb_rows, new_tomb_cmp, new_tomb_total}
-use Rattle.mc_rows.specs.Live.{is_unknown}
+use Rattle.mc_rows.specs.Hiding.{is_unknown}
 use Rattle.mc_rows.proofs.Sorts.{tombs_told}
 use Rattle.mc_rows.proofs.tombs.new_tombs.Goals as goal
 

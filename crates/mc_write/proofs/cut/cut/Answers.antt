@@ -2,7 +2,7 @@ use Rattle.std.proofs.Common.{length, ◌<◌, arith}
 use Rattle.std.proofs.lemmas.Bool.Decides.{nat_tests}
 use Rattle.std.proofs.lemmas.Result.{err_from_is_err_and}
 use Rattle.mc_write.specs.Cutting.{number}
-use Rattle.mc_write.specs.Seen.{all_seen}
+use Rattle.mc_write.specs.Pairs.{all_seen}
 use Rattle.mc_write.proofs.CutFacts.{cutting_goes_on, cutting_ends, cutting_refused, digests_left, none_seen, some_seen}
 use Rattle.mc_write.proofs.cut.cut.Goals as goal
 

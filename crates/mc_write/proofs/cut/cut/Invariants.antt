@@ -2,7 +2,7 @@ use Rattle.std.proofs.Common.{◌≡◌, true, length, List}
 use Rattle.mc_base.specs.declared.cid.Cid.{Cid}
 use Rattle.mc_write.specs.Cutting.{number}
 use Rattle.mc_write.specs.Lengths.{capped, links_length}
-use Rattle.mc_write.specs.Seen.{all_seen, have_digests}
+use Rattle.mc_write.specs.Pairs.{all_seen, have_digests}
 use Rattle.mc_write.proofs.CutFacts.{IsCutting}
 use Rattle.mc_write.proofs.cut.cut.Given as goal
 

@@ -1,6 +1,6 @@
 use Rattle.std.proofs.Common.{◌≡◌, ◌<◌, length, arith}
 use Rattle.std.proofs.lemmas.Bool.Decides.{nat_tests}
-use Rattle.mc_write.specs.Seen.{all_seen}
+use Rattle.mc_write.specs.Pairs.{all_seen}
 use Rattle.mc_write.proofs.CutFacts.{some_seen}
 use Rattle.mc_write.proofs.DroppedFacts.{pairs_added, nothing_added}
 use Rattle.mc_write.proofs.dropped.add_pairs.Goals as goal

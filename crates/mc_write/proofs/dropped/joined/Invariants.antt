@@ -1,6 +1,6 @@
 use Rattle.std.proofs.Common.{◌≡◌, ◌++◌, map, take}
 use Rattle.mc_model.specs.Cuts.{Pair}
-use Rattle.mc_write.specs.Seen.{all_seen}
+use Rattle.mc_write.specs.Pairs.{all_seen}
 use Rattle.mc_write.proofs.dropped.joined.Given as goal
 
 abbrev pub invariant-loop-pair : goal.invariant-loop-pair

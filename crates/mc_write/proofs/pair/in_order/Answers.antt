@@ -1,4 +1,4 @@
-use Rattle.mc_write.specs.Seen.{all_seen, has_digest}
+use Rattle.mc_write.specs.Pairs.{all_seen, has_digest}
 use Rattle.mc_model.specs.Cuts.{Pair}
 use Rattle.mc_write.proofs.Membership.{all_same}
 use Rattle.mc_write.proofs.PairFacts.{pairs_once}

@@ -1,5 +1,5 @@
 use Rattle.std.proofs.Common.{◌≡◌, true, map}
-use Rattle.mc_write.specs.Seen.{all_seen, row_pair, have_digests}
+use Rattle.mc_write.specs.Pairs.{all_seen, row_pair, have_digests}
 use Rattle.mc_write.proofs.seen.pairs_of.Given as goal
 
 abbrev pub invariant-loop-row : goal.invariant-loop-row

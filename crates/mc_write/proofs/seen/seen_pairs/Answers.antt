@@ -1,6 +1,6 @@
 use Rattle.std.proofs.Common.{◌∙◌, ap, map}
 use Rattle.mc_write.specs.Rows.{last_rows}
-use Rattle.mc_write.specs.Seen.{all_seen, row_pair}
+use Rattle.mc_write.specs.Pairs.{all_seen, row_pair}
 use Rattle.mc_write.proofs.TakenFacts.{taken_told}
 use Rattle.mc_write.proofs.seen.seen_pairs.Goals as goal
 

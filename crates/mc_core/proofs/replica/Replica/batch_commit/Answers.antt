@@ -1,4 +1,4 @@
-use Rattle.mc_core.specs.Batches.{commit_refusal, CommitPlan}
+use Rattle.mc_core.specs.Batches.{commit_refusal, CommitEvents}
 use Rattle.mc_core.specs.Refusals.{Is}
 use Rattle.std.proofs.Common.{refl, None}
 use Rattle.std.specs.Prelude.{⊤}
@@ -15,18 +15,18 @@ use Rattle.mc_core.proofs.replica.Replica.batch_commit.Goals as goal
 
 pub returns-then-is_empty-clause-call : goal.returns-then-is_empty-clause-call
 returns-then-is_empty-clause-call g c =
-    batch_call (λ s. Is (commit_refusal s)) CommitPlan _ _ _ _ _ _ None ⊤ None c.if-self.false refl refl
+    batch_call (λ s. Is (commit_refusal s)) CommitEvents _ _ _ _ _ _ None ⊤ None c.if-self.false refl refl
     (commit_empty _ (g.K.Keeper.fuse c.args.self.now.keeper) (running_of c.args.self.now) c.in-Some.batch c.in-Some.is c.if-is_empty.ensures)
 
 pub returns-in-Ok-clause-call : goal.returns-in-Ok-clause-call
 returns-in-Ok-clause-call g c =
-    part_call (λ s. Is (commit_refusal s)) CommitPlan _ _ _ _ _ _ _ _ _ _ _ _ _ c.if-self.false c.in-Ok.ensures.reads.told_same c.in-Ok.ensures.reads.fuse_same c.in-Ok.ensures.reads.own_goes.later
+    part_call (λ s. Is (commit_refusal s)) CommitEvents _ _ _ _ _ _ _ _ _ _ _ _ _ c.if-self.false c.in-Ok.ensures.reads.told_same c.in-Ok.ensures.reads.fuse_same c.in-Ok.ensures.reads.own_goes.later
     (commit_plan c.kept_is_durable.ensures.back _ (g.K.Keeper.fuse c.args.self.now.keeper) (running_of c.args.self.now) c.in-Some.batch c.in-Ok.planned c.in-Some.is c.if-is_empty.ensures c.in-Ok.ensures.allowed c.in-Ok.ensures.planned)
     c.take_up_batch.ensures.answer c.take_up_batch.ensures.only c.take_up_batch.ensures.part
 
 pub returns-in-Err-clause-call : goal.returns-in-Err-clause-call
 returns-in-Err-clause-call g c =
-    early_call (λ s. Is (commit_refusal s)) CommitPlan _ _ _ _ _ _ (running_of c.args.self.now) _ _ c.if-self.false c.in-Err.ensures.reads.told_same c.in-Err.ensures.reads.fuse_same c.stops-self.ensures c.in-Err.ensures.reads.own_goes.rose
+    early_call (λ s. Is (commit_refusal s)) CommitEvents _ _ _ _ _ _ (running_of c.args.self.now) _ _ c.if-self.false c.in-Err.ensures.reads.told_same c.in-Err.ensures.reads.fuse_same c.stops-self.ensures c.in-Err.ensures.reads.own_goes.rose
     (commit_due c.kept_is_durable.ensures.back _ (g.K.Keeper.fuse c.args.self.now.keeper) (running_of c.args.self.now) c.in-Some.batch _ c.in-Some.is c.if-is_empty.ensures c.in-Err.ensures.refused)
 
 pub returns-then-is_empty-clause-made : goal.returns-then-is_empty-clause-made
@@ -50,8 +50,8 @@ returns-then-is_empty-clause-keeps g c = still_on refl refl refl
 pub returns-in-Ok-clause-keeps : goal.returns-in-Ok-clause-keeps
 returns-in-Ok-clause-keeps g c = continues_more (looks_on c.in-Ok.ensures.reads refl) c.take_up_batch.ensures.keeps
 
-pub take_up_batch-requires-clause-plan : goal.take_up_batch-requires-clause-plan
-take_up_batch-requires-clause-plan g c = rw (c.in-Ok.ensures.reads.told_same) (some_plan _ _ next_links (λ kept. delta_of_batch kept c.in-Some.batch) _ c.in-Ok.ensures.planned)
+pub take_up_batch-requires-clause-uptake : goal.take_up_batch-requires-clause-uptake
+take_up_batch-requires-clause-uptake g c = rw (c.in-Ok.ensures.reads.told_same) (some_plan _ _ next_links (λ kept. delta_of_batch kept c.in-Some.batch) _ c.in-Ok.ensures.planned)
 
 pub invariant_of-self-in-Err-clause-sound : goal.invariant_of-self-in-Err-clause-sound
 invariant_of-self-in-Err-clause-sound g c = looks_down _ _ _ _ (running_of c.args.self.now) c.if-self.false c.in-Err.ensures.reads.told_same c.args.self.now.sound

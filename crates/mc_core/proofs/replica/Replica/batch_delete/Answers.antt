@@ -1,4 +1,4 @@
-use Rattle.mc_core.specs.Batches.{batch_delete_refusal, BatchDeletePlan}
+use Rattle.mc_core.specs.Batches.{batch_delete_refusal, BatchDeleteEvents}
 use Rattle.mc_core.specs.Refusals.{Is}
 use Rattle.std.proofs.Common.{Some, refl, sym, ap, ◌∙◌}
 use Rattle.std.specs.Prelude.{⊤}
@@ -10,13 +10,13 @@ use Rattle.mc_core.proofs.replica.Replica.batch_delete.Goals as goal
 
 pub returns-in-Ok-clause-call : goal.returns-in-Ok-clause-call
 returns-in-Ok-clause-call g c =
-    batch_call {T = ⊤} (λ s. Is (batch_delete_refusal s c.args.key.now)) (λ s. BatchDeletePlan s c.args.key.now) _ _ _ _ _ _ (Some c.delete.new.self) ⊤ tt c.if-self.false c.in-Ok.ensures.reads.told_same c.in-Ok.ensures.reads.fuse_same
+    batch_call {T = ⊤} (λ s. Is (batch_delete_refusal s c.args.key.now)) (λ s. BatchDeleteEvents s c.args.key.now) _ _ _ _ _ _ (Some c.delete.new.self) ⊤ tt c.if-self.false c.in-Ok.ensures.reads.told_same c.in-Ok.ensures.reads.fuse_same
     (delete_into c.kept_is_durable.ensures.back _ (g.K.Keeper.fuse c.args.self.now.keeper) (running_of c.args.self.now) c.in-Some.batch c.delete.new.self c.args.key.now (tt {0}) c.in-Some.is c.in_ok-key.ensures.ok
     (rw (c.in_ok-key.ensures.key) at c.in-Ok.ensures.ok))
 
 pub returns-in-Err-clause-call : goal.returns-in-Err-clause-call
 returns-in-Err-clause-call g c =
-    early_batch (λ s. Is (batch_delete_refusal s c.args.key.now)) (λ s. BatchDeletePlan s c.args.key.now) _ _ _ _ _ _ (running_of c.args.self.now) (Some c.delete.new.self) _ _ (ap Some c.in-Err.ensures.err ∙ sym c.in-Some.is) c.if-self.false c.in-Err.ensures.reads.told_same c.in-Err.ensures.reads.fuse_same c.stops-self.ensures
+    early_batch (λ s. Is (batch_delete_refusal s c.args.key.now)) (λ s. BatchDeleteEvents s c.args.key.now) _ _ _ _ _ _ (running_of c.args.self.now) (Some c.delete.new.self) _ _ (ap Some c.in-Err.ensures.err ∙ sym c.in-Some.is) c.if-self.false c.in-Err.ensures.reads.told_same c.in-Err.ensures.reads.fuse_same c.stops-self.ensures
     (keeper_rose _ _ _ c.from-error.ensures c.in-Err.ensures.reads.own_goes.rose) (delete_due _ (g.K.Keeper.fuse c.args.self.now.keeper) (running_of c.args.self.now) c.args.key.now _ _ c.from-error.ensures)
 
 pub returns-then-self-clause-keeps : goal.returns-then-self-clause-keeps

@@ -6,7 +6,7 @@ use Rattle.mc_model.specs.State.{vertices}
 use Rattle.mc_core.proofs.CommitFacts.{store_done, store_failed}
 use Rattle.mc_core.proofs.CountFacts.{counted_after, gaps_stay}
 use Rattle.mc_core.proofs.Keeps.{commits_on}
-use Rattle.mc_core.proofs.PlanFacts.{stores_only}
+use Rattle.mc_core.proofs.UptakeFacts.{stores_only}
 use Rattle.mc_core.proofs.SoundFacts.{breaks_told, goes_told}
 use Rattle.mc_core.specs.Replica.{running_of}
 use Rattle.mc_core.proofs.replica.Replica.commit_store.Goals as goal

@@ -4,7 +4,7 @@ use Rattle.mc_core.proofs.DeliverFacts.{arrival_call, deliver_failed, deliver_sh
 use Rattle.mc_core.proofs.JobFacts.{call_sound}
 use Rattle.mc_core.proofs.Keeps.{continues_more, looks_on}
 use Rattle.mc_core.specs.declared.error.CoreError.TheVariants.{Memory}
-use Rattle.mc_core.specs.Jobs.{DeliverPlan, DeliverShort}
+use Rattle.mc_core.specs.Jobs.{DeliverEvents, DeliverShort}
 use Rattle.mc_core.specs.Reads.{read_refusal}
 use Rattle.mc_core.specs.Refusals.{Is}
 use Rattle.mc_core.specs.Replica.{running_of}
@@ -26,7 +26,7 @@ returns-in-Ok-clause-wants g c = rw c.in-Ok.ensures.same at c.take_up_arrival.en
 
 pub invariant_of-self-in-Err-Memory-clause-sound : goal.invariant_of-self-in-Err-Memory-clause-sound
 invariant_of-self-in-Err-Memory-clause-sound g c =
-    call_sound (λ s. Is (read_refusal s)) (λ s. DeliverPlan s c.args.cid (Some c.args.bytes)) (λ s. DeliverShort s c.args.cid) ⊤ (Err Memory) (deliver_short_sound c.args.cid) _ _ (g.K.Keeper.fuse c.args.self.now.keeper) _ _ _ (running_of c.args.self.now) _
+    call_sound (λ s. Is (read_refusal s)) (λ s. DeliverEvents s c.args.cid (Some c.args.bytes)) (λ s. DeliverShort s c.args.cid) ⊤ (Err Memory) (deliver_short_sound c.args.cid) _ _ (g.K.Keeper.fuse c.args.self.now.keeper) _ _ _ (running_of c.args.self.now) _
     (λ none. c.in-Err-Memory.ensures.reads.told_same ∙ none)
     (deliver_short _ _ (g.K.Keeper.fuse c.args.self.now.keeper) _ _ (running_of c.args.self.now) c.args.cid ⊤ c.requires.up c.in-Err-Memory.ensures.reads.told_same c.in-Err-Memory.ensures.reads.fuse_same c.requires.flight (Some c.args.bytes) _ c.back.ensures.queue)
     c.args.self.now.sound

@@ -5,7 +5,7 @@ use Rattle.mc_core.proofs.JobFacts.{call_sound}
 use Rattle.mc_core.proofs.Keeps.{still_on}
 use Rattle.mc_fetch.specs.declared.job.Delivered.TheVariants.{Bad}
 use Rattle.mc_core.specs.declared.error.CoreError.TheVariants.{Memory}
-use Rattle.mc_core.specs.Jobs.{DeliverPlan, DeliverShort}
+use Rattle.mc_core.specs.Jobs.{DeliverEvents, DeliverShort}
 use Rattle.mc_core.specs.Reads.{read_refusal}
 use Rattle.mc_core.specs.Refusals.{Is}
 use Rattle.mc_core.specs.Replica.{running_of}
@@ -20,7 +20,7 @@ returns-in-Err-Damaged-clause-call g c =
 
 pub invariant_of-self-clause-sound : goal.invariant_of-self-clause-sound
 invariant_of-self-clause-sound g c =
-    call_sound (λ s. Is (read_refusal s)) (λ s. DeliverPlan s c.args.cid (Some c.args.bytes)) (λ s. DeliverShort s c.args.cid) ⊤ (Ok (Bad c.number-damage.result)) (deliver_short_sound c.args.cid) _ _ (g.K.Keeper.fuse c.args.self.now.keeper) _ _ _ (running_of c.args.self.now) _ (λ none. none)
+    call_sound (λ s. Is (read_refusal s)) (λ s. DeliverEvents s c.args.cid (Some c.args.bytes)) (λ s. DeliverShort s c.args.cid) ⊤ (Ok (Bad c.number-damage.result)) (deliver_short_sound c.args.cid) _ _ (g.K.Keeper.fuse c.args.self.now.keeper) _ _ _ (running_of c.args.self.now) _ (λ none. none)
     (deliver_bad _ _ (g.K.Keeper.fuse c.args.self.now.keeper) _ _ (running_of c.args.self.now) c.args.cid ⊤ c.requires.up refl refl c.requires.flight _ c.args.bytes _ _ (rw (c.in-Err-Damaged.field-0-is, c.as_slice.ensures) at c.in-Err-Damaged.ensures.damaged) (search (c.in-Err-Damaged.damage-is, c.number-damage.ensures)) c.bad.ensures.queue)
     c.args.self.now.sound
 
@@ -32,5 +32,5 @@ returns-clause-call g c = deliver_short _ _ _ _ _ (running_of c.args.self.now) c
 
 pub invariant_of-self-in-Err-Memory-clause-sound : goal.invariant_of-self-in-Err-Memory-clause-sound
 invariant_of-self-in-Err-Memory-clause-sound g c =
-    call_sound (λ s. Is (read_refusal s)) (λ s. DeliverPlan s c.args.cid (Some c.args.bytes)) (λ s. DeliverShort s c.args.cid) ⊤ (Err Memory) (deliver_short_sound c.args.cid) _ _ (g.K.Keeper.fuse c.args.self.now.keeper) _ _ _ (running_of c.args.self.now) _ (λ none. none)
+    call_sound (λ s. Is (read_refusal s)) (λ s. DeliverEvents s c.args.cid (Some c.args.bytes)) (λ s. DeliverShort s c.args.cid) ⊤ (Err Memory) (deliver_short_sound c.args.cid) _ _ (g.K.Keeper.fuse c.args.self.now.keeper) _ _ _ (running_of c.args.self.now) _ (λ none. none)
     (deliver_short _ _ (g.K.Keeper.fuse c.args.self.now.keeper) _ _ (running_of c.args.self.now) c.args.cid ⊤ c.requires.up refl refl c.requires.flight (Some c.args.bytes) _ c.back.ensures.queue) c.args.self.now.sound

@@ -5,7 +5,7 @@ use Rattle.mc_model.specs.Wanted.{Queue, give_back}
 use Rattle.mc_core.proofs.JobFacts.{begin_call, begin_short, begin_sound, call_sound, next_short_sound, short_wants}
 use Rattle.mc_core.proofs.Keeps.{still_on}
 use Rattle.mc_core.specs.declared.error.CoreError.TheVariants.{Memory}
-use Rattle.mc_core.specs.Jobs.{NextPlan, NextShort}
+use Rattle.mc_core.specs.Jobs.{NextEvents, NextShort}
 use Rattle.mc_core.specs.Reads.{read_refusal}
 use Rattle.mc_core.specs.Refusals.{Is}
 use Rattle.mc_core.specs.Replica.{running_of}
@@ -33,7 +33,7 @@ invariant_of-self-in-Ok-1 g c = record { counted = search (c.own_bytes.ensures.r
 
 pub invariant_of-self-in-Err-Memory-clause-sound : goal.invariant_of-self-in-Err-Memory-clause-sound
 invariant_of-self-in-Err-Memory-clause-sound g c =
-    call_sound (λ s. Is (read_refusal s)) NextPlan NextShort ⊤ (Err Memory) next_short_sound _ _ (g.K.Keeper.fuse c.args.self.now.keeper) _ _ _ (running_of c.args.self.now) _
+    call_sound (λ s. Is (read_refusal s)) NextEvents NextShort ⊤ (Err Memory) next_short_sound _ _ (g.K.Keeper.fuse c.args.self.now.keeper) _ _ _ (running_of c.args.self.now) _
     (λ none. c.in-Err-Memory.ensures.reads.told_same ∙ none)
     (begin_short _ _ (g.K.Keeper.fuse c.args.self.now.keeper) _ _ (running_of c.args.self.now) _ c.in-Some.cid ⊤ c.if-self.false c.in-Err-Memory.ensures.reads.told_same c.in-Err-Memory.ensures.reads.fuse_same
     (sym (rw c.in-Some.is at c.next.ensures.first)) (c.back.ensures.queue ∙ ap (λ (q : Queue). cond (has c.in-Some.cid q.flight) (give_back q c.in-Some.cid) q) c.next.ensures.queue))

@@ -5,7 +5,7 @@ use Rattle.mc_model.specs.Wanted.{Queue, give_back, without}
 use Rattle.mc_core.proofs.DeliverFacts.{gives_back}
 use Rattle.mc_core.proofs.Keeps.{still_on}
 use Rattle.mc_core.proofs.SoundFacts.{goes_told}
-use Rattle.mc_core.specs.Plans.{wants}
+use Rattle.mc_core.specs.Uptakes.{wants}
 use Rattle.mc_core.specs.Replica.{running_of}
 use Rattle.mc_core.proofs.replica.Replica.take_up_arrival.Goals as goal
 
@@ -14,8 +14,8 @@ returns-in-Err-clause-keeps g c = still_on refl refl refl
 
 pub invariant_of-self-in-Err-clause-sound : goal.invariant_of-self-in-Err-clause-sound
 invariant_of-self-in-Err-clause-sound g c =
-    goes_told (GiveBack c.args.arrival.plan.after.cid ∷ []) _ _ (g.K.Keeper.fuse c.args.self.now.keeper) _ _ _ (running_of c.args.self.now) _ (λ none. none)
-    (gives_back _ (g.K.Keeper.fuse c.args.self.now.keeper) _ (running_of c.args.self.now) c.args.arrival.plan.after.cid _ c.requires.up c.requires.flight (c.back.ensures.queue ∙ ap (λ (q : Queue). cond (has c.args.arrival.plan.after.cid q.flight) (give_back q c.args.arrival.plan.after.cid) q) c.reserve.ensures.queue)) c.args.self.now.sound
+    goes_told (GiveBack c.args.arrival.uptake.after.cid ∷ []) _ _ (g.K.Keeper.fuse c.args.self.now.keeper) _ _ _ (running_of c.args.self.now) _ (λ none. none)
+    (gives_back _ (g.K.Keeper.fuse c.args.self.now.keeper) _ (running_of c.args.self.now) c.args.arrival.uptake.after.cid _ c.requires.up c.requires.flight (c.back.ensures.queue ∙ ap (λ (q : Queue). cond (has c.args.arrival.uptake.after.cid q.flight) (give_back q c.args.arrival.uptake.after.cid) q) c.reserve.ensures.queue)) c.args.self.now.sound
 
 pub returns-in-Ok-carry_out-clause-wants : goal.returns-in-Ok-carry_out-clause-wants
-returns-in-Ok-carry_out-clause-wants g c = (c.args.arrival.plan.after.links, c.in-Ok-carry_out.ensures.queue ∙ ap (λ (q : Queue). wants (without q (c.args.arrival.plan.after.cid ∷ [])) c.args.arrival.plan.after.links) c.reserve.ensures.queue)
+returns-in-Ok-carry_out-clause-wants g c = (c.args.arrival.uptake.after.links, c.in-Ok-carry_out.ensures.queue ∙ ap (λ (q : Queue). wants (without q (c.args.arrival.uptake.after.cid ∷ [])) c.args.arrival.uptake.after.links) c.reserve.ensures.queue)

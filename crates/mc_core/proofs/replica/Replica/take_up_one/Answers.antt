@@ -7,7 +7,7 @@ use Rattle.mc_core.proofs.replica.Replica.take_up_one.Goals as goal
 
 pub returns-in-Err-carry_out-clause-takes : goal.returns-in-Err-carry_out-clause-takes
 returns-in-Err-carry_out-clause-takes g c =
-    one_failed c.kept_is_durable.ensures.back _ _ _ _ _ _ _ c.args.made c.in-Ok.plan _ _ _ c.in-Ok.ensures.reads.told_same c.in-Ok.ensures.reads.fuse_same c.in-Ok.ensures.reads.own_goes.later c.in-Ok.ensures.plan c.in-Err-carry_out.ensures.part
+    one_failed c.kept_is_durable.ensures.back _ _ _ _ _ _ _ c.args.made c.in-Ok.uptake _ _ _ c.in-Ok.ensures.reads.told_same c.in-Ok.ensures.reads.fuse_same c.in-Ok.ensures.reads.own_goes.later c.in-Ok.ensures.uptake c.in-Err-carry_out.ensures.part
 
 pub returns-in-Ok-carry_out-clause-keeps : goal.returns-in-Ok-carry_out-clause-keeps
 returns-in-Ok-carry_out-clause-keeps g c = commit_more (looks_first c.in-Ok.ensures.reads refl (record { walk_same = refl; batch_same = refl; whole_same = refl })) c.in-Ok-carry_out.ensures.keeps
@@ -23,7 +23,7 @@ returns-in-Err-clause-keeps g c = record {
 
 pub returns-in-Ok-carry_out-clause-takes : goal.returns-in-Ok-carry_out-clause-takes
 returns-in-Ok-carry_out-clause-takes g c =
-    one_done c.kept_is_durable.ensures.back _ _ _ _ _ _ _ c.args.made c.in-Ok.plan c.in-Ok.ensures.reads.told_same c.in-Ok.ensures.reads.fuse_same c.in-Ok.ensures.plan c.in-Ok-carry_out.ensures.part
+    one_done c.kept_is_durable.ensures.back _ _ _ _ _ _ _ c.args.made c.in-Ok.uptake c.in-Ok.ensures.reads.told_same c.in-Ok.ensures.reads.fuse_same c.in-Ok.ensures.uptake c.in-Ok-carry_out.ensures.part
 
 pub invariant_of-self-in-Err-clause-sound : goal.invariant_of-self-in-Err-clause-sound
 invariant_of-self-in-Err-clause-sound g c = looks_down _ _ _ _ (running_of c.args.self.now) c.requires.up c.in-Err.ensures.reads.told_same c.args.self.now.sound

@@ -3,7 +3,7 @@ use Rattle.std.specs.Option.{option_map}
 use Rattle.mc_model.specs.Id.{id_text}
 use Rattle.mc_model.specs.Kept.{processed}
 use Rattle.mc_keep.specs.declared.rows.ElementRow.{ElementRow}
-use Rattle.mc_keep.specs.Live.{ranked_of, IsHolder}
+use Rattle.mc_keep.specs.LiveRows.{ranked_of, IsHolder}
 use Rattle.mc_keep_mem.specs.Places.{last_in}
 use Rattle.mc_keep_mem.specs.Chains.{row_of_node, rows_in}
 use Rattle.mc_keep_mem.specs.Fits.{kept_in, tomb_in}

@@ -1,6 +1,6 @@
 use Rattle.std.proofs.Common.{ap, refl, Some, None}
 use Rattle.mc_core.specs.Calls.{Stays}
-use Rattle.mc_core.specs.Hears.{HearPlan, cast_refusal, hear_refusal}
+use Rattle.mc_core.specs.Hears.{HearEvents, cast_refusal, hear_refusal}
 use Rattle.mc_core.specs.Refusals.{Is}
 use Rattle.mc_node.specs.declared.note.Note.TheVariants.{Heard}
 use Rattle.mc_node.specs.Moves.{NoMore}
@@ -12,13 +12,13 @@ use Rattle.mc_node.proofs.stored.Stored.hear.Goals as goal
 
 pub returns-in-Err-clause-does : goal.returns-in-Err-clause-does
 returns-in-Err-clause-does g c =
-    does_not_begin (Some Heard) None (λ s. Is (hear_refusal s c.args.message.now)) (λ s. HearPlan s c.args.message.now) Stays (λ durable fuse. refl) (λ s. refl) NoMore (λ s. tt) (cast_refusal c.args.message.now) _ _ _ _ c.in-Err.error
+    does_not_begin (Some Heard) None (λ s. Is (hear_refusal s c.args.message.now)) (λ s. HearEvents s c.args.message.now) Stays (λ durable fuse. refl) (λ s. refl) NoMore (λ s. tt) (cast_refusal c.args.message.now) _ _ _ _ c.in-Err.error
     c.args.self.now.tied c.in-Err.ensures.refused (ap (items_at g.K.Keeper.told g.K.Keeper.fuse g.K.Keeper.own g.K.Counted.faults g.K.Keeper.quiet g.K.Keeper.schedule) c.in-Err.ensures.log)
 
 pub invariant_of-self : goal.invariant_of-self
 invariant_of-self g c = record {
   tied = (replica_ends g.K.Keeper.told g.K.Keeper.fuse g.K.Keeper.own g.K.Counted.faults g.K.Keeper.quiet g.K.Keeper.schedule
-      c.replicas_only_grow.ensures.goes c.replicas_only_grow.ensures.breaks c.kept_is_durable.ensures.back (Some Heard) None (λ s. Is (hear_refusal s c.args.message.now)) (λ s. HearPlan s c.args.message.now) Stays stays_goes
+      c.replicas_only_grow.ensures.goes c.replicas_only_grow.ensures.breaks c.kept_is_durable.ensures.back (Some Heard) None (λ s. Is (hear_refusal s c.args.message.now)) (λ s. HearEvents s c.args.message.now) Stays stays_goes
       NoMore (cast_refusal c.args.message.now) _ c.begin.new.self.replica c.hear-result.new.self c.args.self.now.log.items c.begin.new.self.log.items c.note.new.log.items c.noted-entry.result c.hear-result.result
       c.begin.new.self.tied c.in-Ok.ensures.log c.in-Ok.ensures.runs c.is_sound.ensures.kept c.hear-result.ensures.call
       (no_more _ _ _ c.hear-result.ensures.call) c.hear-result.ensures.keeps c.hear-result.ensures.rest
@@ -32,7 +32,7 @@ returns-clause-extends g c = adds_begins c.noted-entry.result c.hear-result.new.
 
 pub returns-clause-does : goal.returns-clause-does
 returns-clause-does g c = (replica_ends g.K.Keeper.told g.K.Keeper.fuse g.K.Keeper.own g.K.Counted.faults g.K.Keeper.quiet g.K.Keeper.schedule
-    c.replicas_only_grow.ensures.goes c.replicas_only_grow.ensures.breaks c.kept_is_durable.ensures.back (Some Heard) None (λ s. Is (hear_refusal s c.args.message.now)) (λ s. HearPlan s c.args.message.now) Stays stays_goes
+    c.replicas_only_grow.ensures.goes c.replicas_only_grow.ensures.breaks c.kept_is_durable.ensures.back (Some Heard) None (λ s. Is (hear_refusal s c.args.message.now)) (λ s. HearEvents s c.args.message.now) Stays stays_goes
     NoMore (cast_refusal c.args.message.now) _ c.begin.new.self.replica c.hear-result.new.self c.args.self.now.log.items c.begin.new.self.log.items c.note.new.log.items c.noted-entry.result c.hear-result.result
     c.begin.new.self.tied c.in-Ok.ensures.log c.in-Ok.ensures.runs c.is_sound.ensures.kept c.hear-result.ensures.call
     (no_more _ _ _ c.hear-result.ensures.call) c.hear-result.ensures.keeps c.hear-result.ensures.rest

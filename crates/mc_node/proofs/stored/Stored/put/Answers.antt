@@ -1,7 +1,7 @@
 use Rattle.std.proofs.Common.{ap, refl, Some, None, Err}
 use Rattle.mc_core.specs.Calls.{Stays}
 use Rattle.mc_core.specs.Exact.{put_front}
-use Rattle.mc_core.specs.Puts.{PutPlan, put_refusal}
+use Rattle.mc_core.specs.Puts.{PutEvents, put_refusal}
 use Rattle.mc_core.specs.Refusals.{Is}
 use Rattle.mc_node.specs.declared.note.Note.TheVariants.{Made}
 use Rattle.mc_node.specs.Moves.{PutAdds}
@@ -12,13 +12,13 @@ use Rattle.mc_node.proofs.stored.Stored.put.Goals as goal
 
 pub returns-in-Err-clause-does : goal.returns-in-Err-clause-does
 returns-in-Err-clause-does g c =
-    does_not_begin (Some Made) None (λ s. Is (put_refusal s c.args.key.now c.args.value.now)) (λ s. PutPlan s c.args.key.now c.args.value.now) Stays (λ durable fuse. refl) (λ s. refl) (PutAdds c.args.key.now c.args.value.now (Err c.in-Err.error)) (λ s. tt) (put_front c.args.key.now c.args.value.now) _ _ _ _ c.in-Err.error
+    does_not_begin (Some Made) None (λ s. Is (put_refusal s c.args.key.now c.args.value.now)) (λ s. PutEvents s c.args.key.now c.args.value.now) Stays (λ durable fuse. refl) (λ s. refl) (PutAdds c.args.key.now c.args.value.now (Err c.in-Err.error)) (λ s. tt) (put_front c.args.key.now c.args.value.now) _ _ _ _ c.in-Err.error
     c.args.self.now.tied c.in-Err.ensures.refused (ap (items_at g.K.Keeper.told g.K.Keeper.fuse g.K.Keeper.own g.K.Counted.faults g.K.Keeper.quiet g.K.Keeper.schedule) c.in-Err.ensures.log)
 
 pub invariant_of-self : goal.invariant_of-self
 invariant_of-self g c = record {
   tied = (replica_ends g.K.Keeper.told g.K.Keeper.fuse g.K.Keeper.own g.K.Counted.faults g.K.Keeper.quiet g.K.Keeper.schedule
-      c.replicas_only_grow.ensures.goes c.replicas_only_grow.ensures.breaks c.kept_is_durable.ensures.back (Some Made) None (λ s. Is (put_refusal s c.args.key.now c.args.value.now)) (λ s. PutPlan s c.args.key.now c.args.value.now) Stays stays_goes
+      c.replicas_only_grow.ensures.goes c.replicas_only_grow.ensures.breaks c.kept_is_durable.ensures.back (Some Made) None (λ s. Is (put_refusal s c.args.key.now c.args.value.now)) (λ s. PutEvents s c.args.key.now c.args.value.now) Stays stays_goes
       (PutAdds c.args.key.now c.args.value.now c.put-result.result) (put_front c.args.key.now c.args.value.now) _ c.begin.new.self.replica c.put-result.new.self c.args.self.now.log.items c.begin.new.self.log.items c.note.new.log.items c.noted-entry.result c.put-result.result
       c.begin.new.self.tied c.in-Ok.ensures.log c.in-Ok.ensures.runs c.is_sound.ensures.kept c.put-result.ensures.call
       (put_more _ c.args.key.now c.args.value.now c.put-result.result _ _ c.put-result.ensures.call c.put-result.ensures.made) c.put-result.ensures.keeps c.put-result.ensures.rest
@@ -32,7 +32,7 @@ returns-clause-extends g c = adds_begins c.noted-entry.result c.put-result.new.s
 
 pub returns-clause-does : goal.returns-clause-does
 returns-clause-does g c = (replica_ends g.K.Keeper.told g.K.Keeper.fuse g.K.Keeper.own g.K.Counted.faults g.K.Keeper.quiet g.K.Keeper.schedule
-    c.replicas_only_grow.ensures.goes c.replicas_only_grow.ensures.breaks c.kept_is_durable.ensures.back (Some Made) None (λ s. Is (put_refusal s c.args.key.now c.args.value.now)) (λ s. PutPlan s c.args.key.now c.args.value.now) Stays stays_goes
+    c.replicas_only_grow.ensures.goes c.replicas_only_grow.ensures.breaks c.kept_is_durable.ensures.back (Some Made) None (λ s. Is (put_refusal s c.args.key.now c.args.value.now)) (λ s. PutEvents s c.args.key.now c.args.value.now) Stays stays_goes
     (PutAdds c.args.key.now c.args.value.now c.put-result.result) (put_front c.args.key.now c.args.value.now) _ c.begin.new.self.replica c.put-result.new.self c.args.self.now.log.items c.begin.new.self.log.items c.note.new.log.items c.noted-entry.result c.put-result.result
     c.begin.new.self.tied c.in-Ok.ensures.log c.in-Ok.ensures.runs c.is_sound.ensures.kept c.put-result.ensures.call
     (put_more _ c.args.key.now c.args.value.now c.put-result.result _ _ c.put-result.ensures.call c.put-result.ensures.made) c.put-result.ensures.keeps c.put-result.ensures.rest

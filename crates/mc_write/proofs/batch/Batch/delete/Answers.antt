@@ -1,6 +1,6 @@
 use Rattle.mc_model.specs.State.{OpenBatch}
 use Rattle.mc_write.specs.Held.{elements_in, deleted_in}
-use Rattle.mc_write.specs.Seen.{all_seen}
+use Rattle.mc_write.specs.Pairs.{all_seen}
 use Rattle.mc_write.proofs.BatchFacts.{deleted_told}
 use Rattle.mc_write.proofs.batch.Batch.delete.Goals as goal
 

@@ -10,7 +10,7 @@ use Rattle.mc_model.specs.Rank.{Ranked, greatest}
 use Rattle.mc_keep.specs.declared.rows.ElementRow.{ElementRow}
 use Rattle.mc_keep.specs.declared.rows.TombRow.{TombRow}
 use Rattle.mc_keep.specs.Changes.{has_tomb_row}
-use Rattle.mc_keep.specs.Live.{live_rows, HoldsValue}
+use Rattle.mc_keep.specs.LiveRows.{live_rows, HoldsValue}
 use Rattle.mc_keep.specs.Tables.{element_rows_of}
 
 -- whether a tombstone is in no block

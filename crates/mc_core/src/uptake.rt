@@ -8,7 +8,7 @@ ghost use Rattle.mc_keep.specs.Causes.{IfTold};
 ghost use Rattle.mc_keep.specs.Plan.{is_fault};
 ghost use Rattle.mc_keep.specs.Changes.{no_changes};
 ghost use Rattle.mc_keep.specs.New.{AreNew};
-ghost use Rattle.mc_core.specs.Plans.{IsNew, IsPlan, IsShaped, Processes, plan_rows};
+ghost use Rattle.mc_core.specs.Uptakes.{IsNew, IsUptake, IsShaped, Processes, uptake_rows};
 
 use mc_base::{Bytes, Cid, List};
 use mc_front::front_changes;
@@ -29,7 +29,7 @@ pub(crate) struct After {
 
 // The commits that take up one block: it is stored, unless it is, and then processed; and what comes after.
 #[derive(Drop)]
-pub(crate) struct Plan {
+pub(crate) struct Uptake {
     pub(crate) store: Option<Changes>,
     pub(crate) process: Changes,
     pub(crate) after: After,
@@ -93,7 +93,7 @@ pub(crate) fn store_of(alloc: Global, cid: Cid, bytes: Bytes) -> Result<Changes,
 
 // Plans to take up a block with these bytes, of which these links are not processed, and takes all the memory that the
 // keeper needs.
-pub(crate) fn plan_block<K: Keeper>(
+pub(crate) fn uptake_of<K: Keeper>(
     keeper: &mut K,
     alloc: Global,
     block: &Block,
@@ -101,13 +101,13 @@ pub(crate) fn plan_block<K: Keeper>(
     known: bool,
     links: List<Cid>,
     whole: bool,
-) -> Result<Plan, KeepError>
+) -> Result<Uptake, KeepError>
     requires new { IfSome (K.told keeper.old) (λ kept. IsNew kept block.now bytes links) }
     requires stored { IfSome (K.told keeper.old) (λ kept. known ≡ is_stored kept.graph block.now.cid) }
-    ensures plan { IfTold (K.told keeper.old) result (λ kept plan. IsPlan kept whole block.now bytes plan) }
+    ensures uptake { IfTold (K.told keeper.old) result (λ kept uptake. IsUptake kept whole block.now bytes uptake) }
     ensures shape { IfOk result IsShaped }
-    ensures after { IfOk result (λ plan. (plan.after.cid ≡ block.now.cid) × (plan.after.links ≡ links)) }
-    ensures room { IfOk result (λ plan. plan_rows plan ≤ K.spare keeper.new) }
+    ensures after { IfOk result (λ uptake. (uptake.after.cid ≡ block.now.cid) × (uptake.after.links ≡ links)) }
+    ensures room { IfOk result (λ uptake. uptake_rows uptake ≤ K.spare keeper.new) }
     ensures reads { Reads K.Keeper (is_fault result) keeper.old keeper.new }
 {
     let process = process_changes(keeper, alloc, one(block), whole)?;
@@ -126,7 +126,7 @@ pub(crate) fn plan_block<K: Keeper>(
         links,
         gaps,
     };
-    Ok(Plan {
+    Ok(Uptake {
         store,
         process,
         after,

@@ -1,6 +1,6 @@
 -- What the faults of this crate say.
 use Rattle.mc_model.specs.DeltaText as model
-use Rattle.mc_wire.specs.Seen as wire
+use Rattle.mc_wire.specs.Named as wire
 use Rattle.mc_wire.specs.declared.fault.WireFaultAt.{WireFaultAt}
 use Rattle.mc_delta.specs.declared.fault.DeltaFaultKind.{DeltaFaultKind}
 use Rattle.mc_delta.specs.declared.fault.DeltaFaultKind.TheVariants.{Wire, TextFault}

@@ -3,7 +3,7 @@ use Rattle.std.specs.Prelude.{◌≡◌, ℕ, ◌-◌, ◌<◌, ◌≤◌, List,
 use Rattle.mc_base.specs.NodeRead as read
 use Rattle.mc_base.specs.NodeRead.{NodeText, link_front_fault}
 use Rattle.mc_base.specs.WireRead.{Front, Whole}
-use Rattle.mc_wire.specs.Seen.{field_at, fronts_at, EndsAt}
+use Rattle.mc_wire.specs.Named.{field_at, fronts_at, EndsAt}
 use Rattle.mc_wire.specs.declared.field.Field.{Field}
 use Rattle.mc_dagpb.specs.declared.fault.NodeFaultKind.{NodeFaultKind}
 use Rattle.mc_dagpb.specs.declared.fault.NodeFaultKind.TheVariants.{Short, LongVarint, WireType, BadField, Order, NoHash, NameText}

@@ -14,8 +14,8 @@ use Rattle.mc_keep.specs.declared.changes.Changes.{Changes}
 use Rattle.mc_keep.specs.Changes.{no_changes, row_count, changed}
 use Rattle.mc_keep.specs.Tables.{RowsFit, FrontFits, ChangesFit}
 use Rattle.mc_front.specs.Front.{mark_over}
-use Rattle.mc_core.specs.declared.plan.After.{After}
-use Rattle.mc_core.specs.declared.plan.Plan.{Plan}
+use Rattle.mc_core.specs.declared.uptake.After.{After}
+use Rattle.mc_core.specs.declared.uptake.Uptake.{Uptake}
 
 -- nothing, or just these bytes
 abbrev pub IsNoOther : Option (List ℕ) → List ℕ → Type 0
@@ -46,24 +46,24 @@ pub record Processes (kept : Kept) (whole : Bool) (blocks : List Block) (cids : 
   pub front : FrontFits (processed kept) blocks changes
   pub mark : unwrap_or changes.mark kept.mark ≡ mark_over whole kept.mark (processed kept ++ blocks)
 
--- the plan stores the block, unless it is stored, and processes it
-pub record IsPlan (kept : Kept) (whole : Bool) (block : Block) (bytes : List ℕ) (plan : Plan) : Type 0 where
-  pub block_is_new : IsNew kept block bytes plan.after.links
-  pub store : plan.store ≡ store_change kept.graph block.cid bytes
-  pub process : Processes kept whole (block ∷ []) (block.cid ∷ []) plan.process
-  pub gaps_left : plan.after.gaps ≡ length (gaps (processed kept ++ block ∷ []))
+-- the uptake stores the block, unless it is stored, and processes it
+pub record IsUptake (kept : Kept) (whole : Bool) (block : Block) (bytes : List ℕ) (uptake : Uptake) : Type 0 where
+  pub block_is_new : IsNew kept block bytes uptake.after.links
+  pub store : uptake.store ≡ store_change kept.graph block.cid bytes
+  pub process : Processes kept whole (block ∷ []) (block.cid ∷ []) uptake.process
+  pub gaps_left : uptake.after.gaps ≡ length (gaps (processed kept ++ block ∷ []))
 
--- a plan for some block
-pub record IsSomePlan (kept : Kept) (whole : Bool) (plan : Plan) : Type 0 where
+-- a uptake for some block
+pub record IsSomeUptake (kept : Kept) (whole : Bool) (uptake : Uptake) : Type 0 where
   pub block : Block
   pub bytes : List ℕ
-  pub plans : IsPlan kept whole block bytes plan
+  pub plans : IsUptake kept whole block bytes uptake
 
--- what holds of a plan over every keeper
-pub record IsShaped (plan : Plan) : Type 0 where
-  pub store : IfSome plan.store (λ store. (store.marks ≡ []) × (store.mark ≡ None) × (row_count store ≡ 1))
-  pub only : plan.process.store ≡ []
-  pub marks : plan.process.marks ≡ plan.after.cid ∷ []
+-- what holds of a uptake over every keeper
+pub record IsShaped (uptake : Uptake) : Type 0 where
+  pub store : IfSome uptake.store (λ store. (store.marks ≡ []) × (store.mark ≡ None) × (row_count store ≡ 1))
+  pub only : uptake.process.store ≡ []
+  pub marks : uptake.process.marks ≡ uptake.after.cid ∷ []
 
 -- these blocks are wanted, each unless it is
 abbrev pub wants : Queue → List Cid → Queue
@@ -76,14 +76,14 @@ pub record IsReady (kept : Kept) (whole : Bool) (changes : Changes) (after : Aft
   pub gaps_left : after.gaps ≡ length (gaps (processed (changed kept changes)))
   pub wanted : (q : Queue) → processed_queue (durable_of kept) q changes.marks ≡ wants (without q changes.marks) after.links
 
--- the rows of a plan
-abbrev pub plan_rows : Plan → ℕ
-plan_rows plan = row_count plan.process + 1
+-- the rows of a uptake
+abbrev pub uptake_rows : Uptake → ℕ
+uptake_rows uptake = row_count uptake.process + 1
 
--- the events of a plan
+-- the events of a uptake
 abbrev pub with_store : Option Changes → List Event → List Event
 with_store None events = events
 with_store (Some store) events = Store (vertices store.store) ∷ events
 
-abbrev pub plan_events : Plan → List Event
-plan_events plan = with_store plan.store (Process plan.process.marks ∷ [])
+abbrev pub uptake_events : Uptake → List Event
+uptake_events uptake = with_store uptake.store (Process uptake.process.marks ∷ [])

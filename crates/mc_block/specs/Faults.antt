@@ -1,9 +1,9 @@
 -- What the damages and errors of this crate say.
 use Rattle.mc_model.specs.Offer as model
-use Rattle.mc_dagpb.specs.Seen as node
+use Rattle.mc_dagpb.specs.Named as node
 use Rattle.mc_dagpb.specs.declared.fault.NodeError.{NodeError}
 use Rattle.mc_dagpb.specs.declared.fault.NodeError.TheVariants.{Fault as NodeFaulty, Memory as NodeMemory}
-use Rattle.mc_delta.specs.Seen as delta
+use Rattle.mc_delta.specs.Faults as delta
 use Rattle.mc_delta.specs.declared.fault.DeltaError.{DeltaError}
 use Rattle.mc_delta.specs.declared.fault.DeltaError.TheVariants.{Fault as DeltaFaulty, Memory as DeltaMemory}
 use Rattle.mc_block.specs.declared.fault.Damage.{Damage}

@@ -1,4 +1,4 @@
--- What a plan needs for its commits.
+-- What a uptake needs for its commits.
 use Rattle.std.proofs.Common.{◌≡◌, ℕ, Bool, true, false, not, cond, filter, ◌&&◌, ◌||◌, List, [], ◌∷◌, ◌++◌, map, Option, Some, None, Ok, refl, sym, ◌∙◌, ap, subst}
 use Rattle.std.specs.Prelude.{IfSome, unwrap_or, is_some, find, length, ◌==◌}
 use Rattle.std.specs.List.{list_all}
@@ -17,14 +17,14 @@ use Rattle.mc_model.specs.Kept.{Kept, IsKept, processed, blocks_in, block_in, bl
 use Rattle.mc_model.specs.Offer.{offer, block_of, empty_delta}
 use Rattle.mc_model.specs.State.{durable_of}
 use Rattle.mc_model.specs.Wanted.{Queue, want_all, want_unless, without}
-use Rattle.mc_core.specs.declared.plan.After.{After}
+use Rattle.mc_core.specs.declared.uptake.After.{After}
 use Rattle.mc_keep.specs.declared.changes.Changes.{Changes}
 use Rattle.mc_keep.specs.Changes.{changed, no_changes, row_count}
 use Rattle.mc_keep.specs.New.{AreNew}
 use Rattle.mc_keep.specs.Tables.{StoreFits, MarksFit, RowsFit, FrontFits, ChangesFit}
 use Rattle.mc_front.specs.Front.{mark_over}
-use Rattle.mc_core.specs.declared.plan.Plan.{Plan}
-use Rattle.mc_core.specs.Plans.{IsNew, Processes, IsPlan, IsSomePlan, IsReady, IsShaped, store_change, open_links, wants}
+use Rattle.mc_core.specs.declared.uptake.Uptake.{Uptake}
+use Rattle.mc_core.specs.Uptakes.{IsNew, Processes, IsUptake, IsSomeUptake, IsReady, IsShaped, store_change, open_links, wants}
 use Rattle.mc_core.proofs.KnownFacts.{known_is}
 
 -- the laws of the crates below that are used here
@@ -186,22 +186,22 @@ module _ (fit_law : FitLaw) (sound_law : SoundLaw) (mark_law : MarkLaw) (links_l
             (process_of kept then whole (block ∷ []) (block.cid ∷ []) process refl same p)),
       )
 
-  pub plan_stores : (kept : Kept) (whole : Bool) (store process : Changes) (after : After) → IsKept kept → IsSomePlan kept whole (record { store = Some store; process = process; after = after })
+  pub plan_stores : (kept : Kept) (whole : Bool) (store process : Changes) (after : After) → IsKept kept → IsSomeUptake kept whole (record { store = Some store; process = process; after = after })
       → ChangesFit kept store × Both whole process after (changed kept store)
-  plan_stores kept whole store process after sound plan =
-      elim (is_stored kept.graph plan.block.cid) as (λ t. is_stored kept.graph plan.block.cid ≡ t → Some store ≡ cond t None (Some (storing plan.block.cid plan.bytes)) → ChangesFit kept store × Both whole process after (changed kept store)) [
+  plan_stores kept whole store process after sound uptake =
+      elim (is_stored kept.graph uptake.block.cid) as (λ t. is_stored kept.graph uptake.block.cid ≡ t → Some store ≡ cond t None (Some (storing uptake.block.cid uptake.bytes)) → ChangesFit kept store × Both whole process after (changed kept store)) [
         | true ↦ λ e is. absurd (let f : true ≡ false = ap is_some is in cc)
-        | false ↦ λ e is. subst (λ x. ChangesFit kept x × Both whole process after (changed kept x)) (sym (some_is store (storing plan.block.cid plan.bytes) is))
-            (store_ready kept whole plan.block plan.bytes process after sound plan.plans.block_is_new e plan.plans.process plan.plans.gaps_left)
-      ] refl plan.plans.store
+        | false ↦ λ e is. subst (λ x. ChangesFit kept x × Both whole process after (changed kept x)) (sym (some_is store (storing uptake.block.cid uptake.bytes) is))
+            (store_ready kept whole uptake.block uptake.bytes process after sound uptake.plans.block_is_new e uptake.plans.process uptake.plans.gaps_left)
+      ] refl uptake.plans.store
 
-  pub plan_has_stored : (kept : Kept) (whole : Bool) (process : Changes) (after : After) → IsKept kept → IsSomePlan kept whole (record { store = None; process = process; after = after }) → Both whole process after kept
-  plan_has_stored kept whole process after sound plan =
-      elim (is_stored kept.graph plan.block.cid) as (λ t. is_stored kept.graph plan.block.cid ≡ t → None ≡ cond t None (Some (storing plan.block.cid plan.bytes)) → Both whole process after kept) [
-        | true ↦ λ e is. both_stored kept whole plan.block plan.bytes process after sound plan.plans.block_is_new.good plan.plans.block_is_new.new plan.plans.block_is_new.linked plan.plans.gaps_left
-            (known_is (bytes_at kept.graph plan.block.cid) plan.bytes e plan.plans.block_is_new.known) plan.plans.process
+  pub plan_has_stored : (kept : Kept) (whole : Bool) (process : Changes) (after : After) → IsKept kept → IsSomeUptake kept whole (record { store = None; process = process; after = after }) → Both whole process after kept
+  plan_has_stored kept whole process after sound uptake =
+      elim (is_stored kept.graph uptake.block.cid) as (λ t. is_stored kept.graph uptake.block.cid ≡ t → None ≡ cond t None (Some (storing uptake.block.cid uptake.bytes)) → Both whole process after kept) [
+        | true ↦ λ e is. both_stored kept whole uptake.block uptake.bytes process after sound uptake.plans.block_is_new.good uptake.plans.block_is_new.new uptake.plans.block_is_new.linked uptake.plans.gaps_left
+            (known_is (bytes_at kept.graph uptake.block.cid) uptake.bytes e uptake.plans.block_is_new.known) uptake.plans.process
         | false ↦ λ e is. absurd (let f : false ≡ true = ap is_some is in cc)
-      ] refl plan.plans.store
+      ] refl uptake.plans.store
 
 -- where it is told
 
@@ -209,37 +209,37 @@ abbrev storing_pub : Cid → List ℕ → Changes
 storing_pub cid bytes = record no_changes { store = record { cid = cid; bytes = bytes } ∷ [] }
 
 module _ (fit_law : FitLaw) (sound_law : SoundLaw) (mark_law : MarkLaw) (links_law : LinksLaw) (storing_law : StoringLaw) (stored_law : StoredLaw) (same_law : SameLaw) where
-  pub told_fits : (told : Option Kept) (whole : Bool) (plan : Plan) (store : Changes) → plan.store ≡ Some store → IfSome told IsKept → IfSome told (λ kept. IsSomePlan kept whole plan) → IfSome told (λ kept. ChangesFit kept store)
-  told_fits None whole plan store is sound p = tt
-  told_fits (Some kept) whole plan store is sound p =
-      (plan_stores fit_law sound_law mark_law links_law storing_law stored_law same_law kept whole store plan.process plan.after sound
-      (subst (λ s. IsSomePlan kept whole (record { store = s; process = plan.process; after = plan.after })) is p)).0
+  pub told_fits : (told : Option Kept) (whole : Bool) (uptake : Uptake) (store : Changes) → uptake.store ≡ Some store → IfSome told IsKept → IfSome told (λ kept. IsSomeUptake kept whole uptake) → IfSome told (λ kept. ChangesFit kept store)
+  told_fits None whole uptake store is sound p = tt
+  told_fits (Some kept) whole uptake store is sound p =
+      (plan_stores fit_law sound_law mark_law links_law storing_law stored_law same_law kept whole store uptake.process uptake.after sound
+      (subst (λ s. IsSomeUptake kept whole (record { store = s; process = uptake.process; after = uptake.after })) is p)).0
 
-  pub told_stores : (told : Option Kept) (whole : Bool) (plan : Plan) (store : Changes) → plan.store ≡ Some store → IfSome told IsKept → IfSome told (λ kept. IsSomePlan kept whole plan) → IfSome told (λ kept. Both whole plan.process plan.after (changed kept store))
-  told_stores None whole plan store is sound p = tt
-  told_stores (Some kept) whole plan store is sound p =
-      (plan_stores fit_law sound_law mark_law links_law storing_law stored_law same_law kept whole store plan.process plan.after sound
-      (subst (λ s. IsSomePlan kept whole (record { store = s; process = plan.process; after = plan.after })) is p)).1
+  pub told_stores : (told : Option Kept) (whole : Bool) (uptake : Uptake) (store : Changes) → uptake.store ≡ Some store → IfSome told IsKept → IfSome told (λ kept. IsSomeUptake kept whole uptake) → IfSome told (λ kept. Both whole uptake.process uptake.after (changed kept store))
+  told_stores None whole uptake store is sound p = tt
+  told_stores (Some kept) whole uptake store is sound p =
+      (plan_stores fit_law sound_law mark_law links_law storing_law stored_law same_law kept whole store uptake.process uptake.after sound
+      (subst (λ s. IsSomeUptake kept whole (record { store = s; process = uptake.process; after = uptake.after })) is p)).1
 
-  pub told_known : (told : Option Kept) (whole : Bool) (plan : Plan) → plan.store ≡ None → IfSome told IsKept → IfSome told (λ kept. IsSomePlan kept whole plan) → IfSome told (Both whole plan.process plan.after)
-  told_known None whole plan is sound p = tt
-  told_known (Some kept) whole plan is sound p =
-      plan_has_stored fit_law sound_law mark_law links_law storing_law stored_law same_law kept whole plan.process plan.after sound
-      (subst (λ s. IsSomePlan kept whole (record { store = s; process = plan.process; after = plan.after })) is p)
+  pub told_known : (told : Option Kept) (whole : Bool) (uptake : Uptake) → uptake.store ≡ None → IfSome told IsKept → IfSome told (λ kept. IsSomeUptake kept whole uptake) → IfSome told (Both whole uptake.process uptake.after)
+  told_known None whole uptake is sound p = tt
+  told_known (Some kept) whole uptake is sound p =
+      plan_has_stored fit_law sound_law mark_law links_law storing_law stored_law same_law kept whole uptake.process uptake.after sound
+      (subst (λ s. IsSomeUptake kept whole (record { store = s; process = uptake.process; after = uptake.after })) is p)
 
--- a plan is made
+-- a uptake is made
 
 store_is : (graph : List Stored) (cid : Cid) (bytes : List ℕ) (known : Bool) (store : Option Changes) → known ≡ is_stored graph cid → (known ≡ true → store ≡ None) → (known ≡ false → store ≡ Some (storing_pub cid bytes))
     → store ≡ store_change graph cid bytes
 store_is graph cid bytes true store e p q = p refl ∙ ap (λ t. cond t None (Some (storing_pub cid bytes))) e
 store_is graph cid bytes false store e p q = q refl ∙ ap (λ t. cond t None (Some (storing_pub cid bytes))) e
 
-pub plan_is : (told : Option Kept) (whole : Bool) (block : Block) (bytes : List ℕ) (known : Bool) (store : Option Changes) (process : Changes) (after : After) → IfSome told (λ kept. IsNew kept block bytes after.links)
+pub uptake_is : (told : Option Kept) (whole : Bool) (block : Block) (bytes : List ℕ) (known : Bool) (store : Option Changes) (process : Changes) (after : After) → IfSome told (λ kept. IsNew kept block bytes after.links)
     → IfSome told (λ kept. known ≡ is_stored kept.graph block.cid) → (known ≡ true → store ≡ None) → (known ≡ false → store ≡ Some (storing_pub block.cid bytes))
     → IfSome told (λ kept. Processes kept whole (block ∷ []) (block.cid ∷ []) process) → IfSome told (λ kept. after.gaps ≡ length (gaps (processed kept ++ block ∷ [])))
-    → IfSome told (λ kept. IsPlan kept whole block bytes (record { store = store; process = process; after = after }))
-plan_is None whole block bytes known store process after new e p q processes left = tt
-plan_is (Some kept) whole block bytes known store process after new e p q processes left =
+    → IfSome told (λ kept. IsUptake kept whole block bytes (record { store = store; process = process; after = after }))
+uptake_is None whole block bytes known store process after new e p q processes left = tt
+uptake_is (Some kept) whole block bytes known store process after new e p q processes left =
     record { block_is_new = new; store = store_is kept.graph block.cid bytes known store e p q; process = processes; gaps_left = left }
 
 shape_store : (known : Bool) (cid : Cid) (bytes : List ℕ) (store : Option Changes) → (known ≡ true → store ≡ None) → (known ≡ false → store ≡ Some (storing_pub cid bytes))
