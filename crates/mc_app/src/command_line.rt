@@ -65,11 +65,13 @@ pub enum Subcommand {
     Gen,
 }
 
-/// Reads the words behind the program's name: a command, `run` or `gen`, and its options in any order, each of two words,
+/// Reads the words behind the program's name: a command, `run` or `gen`, and its options in any order, each of two
+/// words,
 /// `--name` and a value that isn't empty and doesn't begin with `-`, and each at most once. `run` has `--keeper memory`
 /// or `--keeper sqlite`, the latter with `--dir` and a folder, and `--replicas` with a number from 1 to 8; `gen` has
-/// `--start` and a number, and `--count` with a number from 1 to 100,000, both of them. Numbers are one to twenty decimal
-/// digits below 2^64. Every other list of words is `Usage`; `Memory` comes only where the words ask for something.
+/// `--start` and a number, and `--count` with a number from 1 to 100,000, both of them. Numbers are one to twenty
+/// decimal digits below 2^64. Every other list of words is `Usage`; `Memory` comes only where the words ask for
+/// something.
 pub fn read_words(alloc: Global, words: &[String]) -> Result<Request, WordsError>
     ensures ok { IfOk result (λ request. request_of (map string_bytes words.now) ≡ Some request) }
     ensures usage { IsErrOf result WordsError.Usage → request_of (map string_bytes words.now) ≡ None }

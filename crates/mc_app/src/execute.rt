@@ -63,9 +63,9 @@ impl From<AllocError> for ExecuteError {
 }
 
 /// Executes a line, and writes its reply. `Bad` comes exactly where the line is no command, or names a replica or a
-/// message that isn't there, and then nothing is written and nothing changes. `Failed` comes only where the sink failed,
-/// and then some first bytes of the reply are written. Under `Memory` nothing is written, and the command was done, or
-/// nothing or a part of it.
+/// message that isn't there, and then nothing is written and nothing changes. `Failed` comes only where the sink
+/// failed, and then some first bytes of the reply are written. Under `Memory` nothing is written, and the command was
+/// done, or nothing or a part of it.
 pub fn execute_line<
     K: Keeper + Send + Sync,
     O: Sink,

@@ -32,8 +32,8 @@ use std::thread::Threads;
 // The replicas of a generated script.
 const REPLICAS: u64 = 3;
 
-/// Runs the script that is generated from a start and a count over the keepers of three replicas in memory, and writes the
-/// summary of its output, or `bad line N` alone where a line of it is bad. Nothing else is written.
+/// Runs the script that is generated from a start and a count over the keepers of three replicas in memory, and writes
+/// the summary of its output, or `bad line N` alone where a line of it is bad. Nothing else is written.
 pub(crate) fn generate<O: Sink, K: Keepers, G: Gate + Sync, T: Threads + Sync, W: Wait + Sync>(
     alloc: Global,
     start: u64,

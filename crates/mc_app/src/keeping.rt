@@ -14,7 +14,8 @@ use mc_keep::{Fused, KeepError, Keeper, KeeperPlan, Keepers};
 use mc_world::Part;
 use std::alloc::Global;
 
-// Makes so many keepers of a plan, in order of their replicas. Where one is not made, those that were made are given back.
+// Makes so many keepers of a plan, in order of their replicas. Where one is not made, those that were made are given
+// back.
 pub(crate) fn make_parts<K: Keepers>(
     alloc: Global,
     keepers: &mut K,

@@ -27,7 +27,8 @@ pub fn read_varint(bytes: &[u8]) -> Result<(u64, usize), VarintFault>
     // What is read is a varint.
     ensures read { IfOk result (λ read. IsUnsignedVarint (take read.1 bytes.now) read.0) }
     // Each varint is read.
-    ensures every { (value count : ℕ) → count ≤ length bytes.now → IsUnsignedVarint (take count bytes.now) value → result ≡ Ok (value, count) }
+    ensures every { (value count : ℕ) → count ≤ length bytes.now → IsUnsignedVarint (take count bytes.now) value →
+        result ≡ Ok (value, count) }
     ensures ok { OnOk result (varint_fault bytes.now ≡ None) }
     ensures fault { IfErr result (λ fault. varint_fault bytes.now ≡ Some fault) }
 {

@@ -61,9 +61,9 @@ fn push_group(case: Case, digits: &[u8], at: u64, out: &mut Bytes) -> Result<(),
     Ok(())
 }
 
-/// The bytes of a base32 text without padding (RFC 4648, section 6), in digits of one case. The faults are looked for in
-/// this order: the first byte that is no digit of that case; a length that no number of bytes has; an unused bit at the
-/// end that isn't zero. The memory is taken once.
+/// The bytes of a base32 text without padding (RFC 4648, section 6), in digits of one case. The faults are looked for
+/// in this order: the first byte that is no digit of that case; a length that no number of bytes has; an unused bit at
+/// the end that isn't zero. The memory is taken once.
 pub fn decode(alloc: Global, case: Case, text: &str) -> Result<Bytes, Base32Error>
     ensures ok { IfOk result (λ bytes. decode32 case text.now ≡ Ok bytes) }
     ensures err { IfErr result (λ e. IsFaultOf e (decode32 case text.now)) }

@@ -10,12 +10,15 @@ use mc_base::cids_are_read;
 use mc_dagpb::written_nodes_are_read;
 use mc_delta::written_deltas_are_read;
 
-/// A block that is made and has at most 1,048,576 bytes is good under its content identifier, with exactly these links and
-/// this delta. For the values of a program `write_block` says so without a condition.
+/// A block that is made and has at most 1,048,576 bytes is good under its content identifier, with exactly these links
+/// and this delta. For the values of a program `write_block` says so without a condition.
 pub fn written_blocks_are_good()
-    ensures offered { (links : List Cid) (delta : Delta) → FitsTypes links delta → length (made_bytes links delta) ≤ block_max →
-        offer (made_cid links delta) (made_bytes links delta) ≡ Ok (record { cid = made_cid links delta; links = links; delta = delta }) }
-    ensures good { (links : List Cid) (delta : Delta) → FitsTypes links delta → length (made_bytes links delta) ≤ block_max →
+    ensures offered { (links : List Cid) (delta : Delta) → FitsTypes links delta →
+        length (made_bytes links delta) ≤ block_max →
+        offer (made_cid links delta) (made_bytes links delta)
+        ≡ Ok (record { cid = made_cid links delta; links = links; delta = delta }) }
+    ensures good { (links : List Cid) (delta : Delta) → FitsTypes links delta →
+        length (made_bytes links delta) ≤ block_max →
         is_good (made_cid links delta) (made_bytes links delta) ≡ true }
 {
     cids_are_read();

@@ -21,8 +21,8 @@ use std::alloc::{AllocError, AllocFailed, Global};
 const BLOCK_MOST: usize = 1_048_576;
 
 /// The block that the bytes are under the content identifier. The first damage, in the order of `Damage`, is the answer
-/// for bytes that are none. A node without data has the empty delta, and a link may stand twice. Keys, ids and values are
-/// copied once, from the bytes into the block.
+/// for bytes that are none. A node without data has the empty delta, and a link may stand twice. Keys, ids and values
+/// are copied once, from the bytes into the block.
 pub fn read_block(alloc: Global, cid: &Cid, bytes: &[u8]) -> Result<Block, BlockError>
     ensures named { IfOk result (λ block. block.cid ≡ cid.now) }
     ensures good { IfOk result (λ block. offer cid.now bytes.now ≡ Ok block) }
@@ -45,8 +45,8 @@ pub fn read_found(alloc: Global, cid: &Cid, bytes: &[u8]) -> Result<Block, Block
     read_content(alloc, cid, &node)
 }
 
-/// The links that bytes have as a node, and none where they are no node, or a link of it is no identifier. Of bytes that
-/// are a block under an identifier these are the block's. No digest is computed, and Data is not looked into.
+/// The links that bytes have as a node, and none where they are no node, or a link of it is no identifier. Of bytes
+/// that are a block under an identifier these are the block's. No digest is computed, and Data is not looked into.
 pub fn links_of(alloc: Global, bytes: &[u8]) -> Result<List<Cid>, AllocError>
     ensures links { IfOk result (λ links. links ≡ named_links bytes.now) }
     ensures good { IfOk result (λ links. (cid : Identifier) → is_good cid bytes.now ≡ true →

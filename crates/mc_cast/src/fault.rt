@@ -13,8 +13,8 @@ pub enum CastFault {
     /// The message or a head isn't made of fields. A head is looked into when it is met.
     #[error("{fault}")]
     Wire { fault: WireFault },
-    /// The head at this place, counted from 0, is the first without a cid of version 1 with the codec dag-pb and the hash
-    /// SHA-256.
+    /// The head at this place, counted from 0, is the first without a cid of version 1 with the codec dag-pb and the
+    /// hash SHA-256.
     #[error("head {index} names no identifier of this kind")]
     BadCid { index: u64 },
 }

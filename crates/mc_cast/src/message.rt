@@ -16,9 +16,9 @@ const HEAD_PREFIX: [u8; 4] = [0x0a, 0x26, 0x0a, 0x24];
 
 const HEAD_LEN: usize = 40;
 
-/// The identifiers that the heads of a message name, in order (Protocol Buffers encoding: a head is a field 1, and its cid
-/// a field 1 in it; the last of several cids counts, and other fields don't). The whole message is read by the wire format
-/// first, and the first fault of that is the answer; else the first head that names no identifier of this kind.
+/// The identifiers that the heads of a message name, in order (Protocol Buffers encoding: a head is a field 1, and its
+/// cid a field 1 in it; the last of several cids counts, and other fields don't). The whole message is read by the wire
+/// format first, and the first fault of that is the answer; else the first head that names no identifier of this kind.
 pub fn read_cast(alloc: Global, bytes: &[u8]) -> Result<List<Cid>, CastError>
     ensures read { IfOk result (λ cids. IsCast bytes.now (digests_of cids)) }
     ensures fault { IfErr result (λ error. IsFaultOf bytes.now error) }
@@ -62,7 +62,8 @@ impl Heads {
 
     // Adds what a head names.
     fn add(&mut self, cid: Option<Cid>) -> Result<(), AllocError>
-        ensures { OnOk result ((heads : ListOf (OptionOf (ListOf ℕ))) → StandFor self.old heads → StandFor self.new (heads ++ option_map digest cid ∷ [])) }
+        ensures { OnOk result ((heads : ListOf (OptionOf (ListOf ℕ))) → StandFor self.old heads →
+            StandFor self.new (heads ++ option_map digest cid ∷ [])) }
     {
         if self.unnamed.is_some() {
             return Ok(());

@@ -15,8 +15,8 @@ pub fn to_text(alloc: Global, cid: &Cid) -> Result<Text, AllocError>
     encode32_after(alloc, "b", Case::Lower, &cid.bytes())
 }
 
-/// The identifier of a text. The faults are looked for in this order: a text that doesn't begin with `b`; what follows it
-/// isn't lower-case base32; its bytes aren't an identifier of this kind.
+/// The identifier of a text. The faults are looked for in this order: a text that doesn't begin with `b`; what follows
+/// it isn't lower-case base32; its bytes aren't an identifier of this kind.
 pub fn from_text(alloc: Global, text: &str) -> Result<Cid, CidTextError>
     ensures ok { IfOk result (λ cid. read_cid_text text.now ≡ Ok cid.0) }
     ensures err { IfErr result (λ e. IsFaultOf e (read_cid_text text.now)) }

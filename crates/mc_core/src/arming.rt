@@ -7,8 +7,8 @@ use mc_keep::{Fused, Keeper};
 
 impl<K: Keeper> Replica<Fused<K>> {
     /// Lets the k-th commit of the replica's keeper from now on fail, k at least 1, without its effect, or after it
-    /// where `after`. This takes the place of a fuse that was armed before; nothing else changes. It takes no memory and
-    /// can't fail.
+    /// where `after`. This takes the place of a fuse that was armed before; nothing else changes. It takes no memory
+    /// and can't fail.
     pub fn arm(&mut self, k: u64, after: bool)
         requires { 1 ≤ k }
         ensures keeper { self.new.keeper ≡

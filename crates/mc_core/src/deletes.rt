@@ -128,7 +128,8 @@ fn plan_one<K: Keeper>(
 ) -> Result<Uptake, CoreError>
     requires new { IfSome (K.told keeper.old) (λ kept. IsNew kept made.block made.bytes []) }
     requires stored { IfSome (K.told keeper.old) (λ kept. made.known ≡ is_stored kept.graph made.block.cid) }
-    ensures uptake { IfTold (K.told keeper.old) result (λ kept uptake. IsUptake kept whole made.block made.bytes uptake) }
+    ensures uptake { IfTold (K.told keeper.old) result (λ kept uptake.
+        IsUptake kept whole made.block made.bytes uptake) }
     ensures only { IfErr result IsOutside }
     ensures shape { IfOk result IsShaped }
     ensures links { IfOk result (λ uptake. uptake.after.links ≡ []) }

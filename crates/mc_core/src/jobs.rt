@@ -28,8 +28,8 @@ use std::alloc::Global;
 
 impl<K: Keeper> Replica<K> {
     /// Begins a job for the first block that waits, which is in flight then: the block, and the bytes that the replica
-    /// has stored under it, where their SHA-256 is its digest. `None` exactly where no block waits. Refusals: `Stopped`;
-    /// after `Memory` the block is at the back of those that wait.
+    /// has stored under it, where their SHA-256 is its digest. `None` exactly where no block waits. Refusals:
+    /// `Stopped`; after `Memory` the block is at the back of those that wait.
     pub fn next_job(&mut self, alloc: Global) -> Result<Option<Job>, CoreError>
         ensures call { Acts K.Keeper (λ s. Is (read_refusal s)) NextEvents NextShort result self.old self.new }
         ensures keeps { Continues K.Keeper (is_fault result) self.old self.new }
@@ -62,8 +62,8 @@ impl<K: Keeper> Replica<K> {
         Ok(Some(Job { cid, own }))
     }
 
-    /// Gives a job back: its block comes to the back of those that wait, where it is still in flight. It takes no memory
-    /// and can't fail.
+    /// Gives a job back: its block comes to the back of those that wait, where it is still in flight. It takes no
+    /// memory and can't fail.
     pub fn give_back(&mut self, job: Job)
         ensures goes { HappensTo K.Keeper (λ run.
             cond (has job.cid run.queue.flight) (GiveBack job.cid ∷ []) []) self.old self.new }

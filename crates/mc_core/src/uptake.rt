@@ -18,8 +18,8 @@ use mc_rows::merge;
 use std::alloc::{AllocError, Global};
 use std::slice;
 
-// What a replica keeps beside its keeper once a block is processed: the block is wanted no more, these of its links are,
-// and so many gaps are left.
+// What a replica keeps beside its keeper once a block is processed: the block is wanted no more, these of its links
+// are, and so many gaps are left.
 #[derive(Drop)]
 pub(crate) struct After {
     pub(crate) cid: Cid,

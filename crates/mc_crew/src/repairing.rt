@@ -20,10 +20,10 @@ use std::alloc::Global;
 use std::sync::Wait;
 use std::thread::Threads;
 
-/// Repairs a replica, and gives it back: the caller walks to the walk's end, so that every gap is wanted, and then works
-/// through what is wanted with workers, as `work` does. `Clean` comes exactly where no gap is left then, and `Open` where
-/// some are. `PeerFault` comes only where the count of a fetch has risen. `Stopped` comes exactly where an earlier call
-/// answered `KeeperFault`, and changes nothing. The fetches come back in their order.
+/// Repairs a replica, and gives it back: the caller walks to the walk's end, so that every gap is wanted, and then
+/// works through what is wanted with workers, as `work` does. `Clean` comes exactly where no gap is left then, and
+/// `Open` where some are. `PeerFault` comes only where the count of a fetch has risen. `Stopped` comes exactly where an
+/// earlier call answered `KeeperFault`, and changes nothing. The fetches come back in their order.
 ///
 /// Conditions: 1 to 16 fetches, which all find the same for each block.
 pub fn repair<

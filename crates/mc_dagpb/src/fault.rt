@@ -73,7 +73,8 @@ impl From<NodeFault> for NodeError {
 }
 
 impl From<WireFaultAt> for NodeFault {
-    ghost from_gives = { λ wire fault. (kind_named fault.kind ≡ wire_kind (fault_named wire.kind)) × (fault.at ≡ wire.at) };
+    ghost from_gives = { λ wire fault. (kind_named fault.kind ≡ wire_kind (fault_named wire.kind))
+        × (fault.at ≡ wire.at) };
 
     fn from(fault: WireFaultAt) -> Self {
         NodeFault {

@@ -15,13 +15,16 @@ pub fn nodes_are_read()
         node_of text ≡ Ok (record { links = links; payload = payload }) → IsNode text links payload }
 {}
 
-/// What is written for some links and a payload is read as them: a node whose links are the 36 bytes of each identifier,
-/// and whose Data is the payload. Its length is that of `node_len`.
+/// What is written for some links and a payload is read as them: a node whose links are the 36 bytes of each
+/// identifier, and whose Data is the payload. Its length is that of `node_len`.
 pub fn written_nodes_are_read()
-    ensures node { (links : List Cid) (payload : List ℕ) → IsTrue (list_all has_digest links) → length payload < 2 ^ 64 →
+    ensures node { (links : List Cid) (payload : List ℕ) → IsTrue (list_all has_digest links) →
+        length payload < 2 ^ 64 →
         IsNode (node_bytes links payload) (map cid_bytes links) (Some payload) }
-    ensures read { (links : List Cid) (payload : List ℕ) → IsTrue (list_all has_digest links) → length payload < 2 ^ 64 →
+    ensures read { (links : List Cid) (payload : List ℕ) → IsTrue (list_all has_digest links) →
+        length payload < 2 ^ 64 →
         node_of (node_bytes links payload) ≡ Ok (record { links = map cid_bytes links; payload = Some payload }) }
     ensures len { (links : List Cid) (payload : List ℕ) → IsTrue (list_all has_digest links) →
-        length (node_bytes links payload) ≡ 44 * length links + 1 + length (varint_bytes (length payload)) + length payload }
+        length (node_bytes links payload)
+        ≡ 44 * length links + 1 + length (varint_bytes (length payload)) + length payload }
 {}

@@ -31,7 +31,8 @@ const PART_TYPE: u64 = 2;
 // The Hash of a link whose key and body begin at these offsets, and which ends where the text ends.
 pub(crate) fn read_link(bytes: &[u8], key: usize, from: usize) -> Result<Span, NodeFault>
     requires { from ≤ length bytes.now }
-    ensures hash { IfOk result (λ hash. (link_of key from (drop from bytes.now) ≡ Ok (span_bytes bytes.now hash)) × IsSpan bytes.now hash) }
+    ensures hash { IfOk result (λ hash. (link_of key from (drop from bytes.now) ≡ Ok (span_bytes bytes.now hash))
+        × IsSpan bytes.now hash) }
     ensures fault { IfErr result (λ fault. link_of key from (drop from bytes.now) ≡ Err (fault_named fault)) }
 {
     let mut at = from;
@@ -99,7 +100,8 @@ fn key_fault(before: u64, number: u64, wire_type: u64) -> Option<NodeFaultKind>
 fn has_text(bytes: &[u8], field: Field) -> bool
     requires ends { EndsAt field.content field.next }
     requires within { field.next ≤ length bytes.now }
-    ensures { name_fault field.number (content_at bytes.now field.content) ≡ (if result then None else Some read.NameText) }
+    ensures { name_fault field.number (content_at bytes.now field.content)
+        ≡ (if result then None else Some read.NameText) }
 {
     let Content::Part { from, to } = field.content else {
         return true;

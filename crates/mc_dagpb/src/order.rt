@@ -31,7 +31,8 @@ pub(crate) enum Order {
 impl Order {
     // Why a key may not stand here.
     pub(crate) fn key_fault(self, number: u64, wire_type: u64) -> Option<NodeFaultKind>
-        ensures fault { (before : List ℕ) → IsAfter before self → option_map kind_named result ≡ node_key_fault before number wire_type }
+        ensures fault { (before : List ℕ) → IsAfter before self → option_map kind_named result
+            ≡ node_key_fault before number wire_type }
         ensures number { IfNone result ((number ≡ 1) ⊎ (number ≡ 2)) }
         ensures wire_type { IfNone result (wire_type ≡ 2) }
     {
@@ -71,7 +72,8 @@ impl Order {
 
     // What stands before the field after one that may stand here.
     pub(crate) fn after(self, field: NodeField) -> Order
-        ensures { (before : List ℕ) → IsAfter before self → node_key_fault before (number_of_field field) 2 ≡ None → IsAfter (before ++ number_of_field field ∷ []) result }
+        ensures { (before : List ℕ) → IsAfter before self → node_key_fault before (number_of_field field) 2 ≡ None →
+            IsAfter (before ++ number_of_field field ∷ []) result }
     {
         match field {
             NodeField::Data(_) => self.after_data(),
@@ -81,7 +83,8 @@ impl Order {
 
     // What stands before the field after a Data that may stand here.
     fn after_data(self) -> Order
-        ensures { (before : List ℕ) → IsAfter before self → has_data before ≡ false → IsAfter (before ++ 1 ∷ []) result }
+        ensures { (before : List ℕ) → IsAfter before self → has_data before ≡ false →
+            IsAfter (before ++ 1 ∷ []) result }
     {
         match self {
             Order::Start => Order::DataFirst,
@@ -91,7 +94,8 @@ impl Order {
 
     // What stands before the field after a link that may stand here.
     fn after_link(self) -> Order
-        ensures { (before : List ℕ) → IsAfter before self → has_data (drop 1 before) ≡ false → IsAfter (before ++ 2 ∷ []) result }
+        ensures { (before : List ℕ) → IsAfter before self → has_data (drop 1 before) ≡ false →
+            IsAfter (before ++ 2 ∷ []) result }
     {
         match self {
             Order::Start => Order::Links,

@@ -14,7 +14,8 @@ use std::alloc::{AllocError, Global};
 
 /// The node of a text, by this store's profile of IPLD dag-pb: Data at most once, before or after all links, and
 /// the fields of a link in ascending order, with a Hash. The first fault, from left to right and with
-/// a look into each link when it is met, is the answer for a text that is no node. It is a copy of what `view_node` gives.
+/// a look into each link when it is met, is the answer for a text that is no node. It is a copy of what `view_node`
+/// gives.
 pub fn read_node(alloc: Global, bytes: &[u8]) -> Result<Node, NodeError>
     ensures node { IfOk result (λ node. IsNode bytes.now node.links node.payload) }
     ensures read { IfOk result (λ node. node_of bytes.now ≡ Ok (node_text node)) }

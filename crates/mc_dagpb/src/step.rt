@@ -60,7 +60,8 @@ fn step_of(bytes: &[u8], at: usize, field: Field) -> Result<Step, NodeFault>
     requires number { (field.number ≡ 1) ⊎ (field.number ≡ 2) }
     requires typed { wire_type (content_at bytes.now field.content) ≡ 2 }
     ensures step { IfOk result (λ step. StepOf bytes.now at field step) }
-    ensures fault { IfErr result (λ fault. body_fault at (field.next - at) (field_at bytes.now field) ≡ Some (fault_named fault)) }
+    ensures fault { IfErr result (λ fault. body_fault at (field.next - at) (field_at bytes.now field)
+        ≡ Some (fault_named fault)) }
 {
     let Content::Part { from, to } = field.content else {
         return Err(NodeFault {

@@ -79,7 +79,8 @@ fn with_field<'a>(
 // Bytes as text.
 fn text_of<'a>(bytes: &'a [u8], at: usize) -> Result<&'a str, DeltaFault>
     ensures text { IfOk result (λ text. (text.now ≡ bytes.now) × (is_utf8 bytes.now ≡ true)) }
-    ensures fault { IfErr result (λ fault. (is_utf8 bytes.now ≡ false) × (fault_named fault ≡ record { kind = model.TextFault; at = at })) }
+    ensures fault { IfErr result (λ fault. (is_utf8 bytes.now ≡ false)
+        × (fault_named fault ≡ record { kind = model.TextFault; at = at })) }
 {
     match str::from_utf8(bytes) {
         Ok(text) => Ok(text),

@@ -8,7 +8,8 @@ ghost use Rattle.mc_delta.specs.Written.{IsWritable};
 /// from it: each text is the one or has the other.
 pub fn deltas_are_read()
     ensures read { (text : List ℕ) (delta : Delta) → (delta_read text ≡ Ok delta) ↔ (delta_of text ≡ Some delta) }
-    ensures fault { (text : List ℕ) (fault : DeltaFault) → (delta_read text ≡ Err fault) ↔ (delta_fault text ≡ Some fault) }
+    ensures fault { (text : List ℕ) (fault : DeltaFault) →
+        (delta_read text ≡ Err fault) ↔ (delta_fault text ≡ Some fault) }
     ensures fine { (text : List ℕ) → (delta_fault text ≡ None) ↔ (is_some (delta_of text) ≡ true) }
 {}
 

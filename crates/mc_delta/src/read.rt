@@ -17,9 +17,9 @@ const TOMBSTONES: u64 = 2;
 
 const PRIORITY: u64 = 3;
 
-/// The delta of a text. Elements and tombstones are taken in their order, the last of a repeated scalar counts, and other
-/// fields are skipped. The first fault, from left to right and with a look into each element and tombstone when it is met,
-/// is the answer for a text that is no delta.
+/// The delta of a text. Elements and tombstones are taken in their order, the last of a repeated scalar counts, and
+/// other fields are skipped. The first fault, from left to right and with a look into each element and tombstone when
+/// it is met, is the answer for a text that is no delta.
 pub fn read_delta(alloc: Global, bytes: &[u8]) -> Result<Delta, DeltaError>
     ensures delta { IfOk result (λ delta. delta_of bytes.now ≡ Some delta) }
     ensures read { IfOk result (λ delta. delta_read bytes.now ≡ Ok delta) }
@@ -86,7 +86,8 @@ fn push_element(
     elements: &mut List<Element>,
     entry: Entry<'_>,
 ) -> Result<(), AllocError>
-    ensures { OnOk result (elements.new ≡ elements.old ++ record { key = entry.entry.key.now; value = entry.entry.value.now } ∷ []) }
+    ensures { OnOk result (elements.new
+        ≡ elements.old ++ record { key = entry.entry.key.now; value = entry.entry.value.now } ∷ []) }
 {
     let key = Text::from_text(alloc, entry.key)?;
     let value = Bytes::from_slice(alloc, entry.value)?;
@@ -112,7 +113,8 @@ fn take_tomb(
 }
 
 fn push_tomb(alloc: Global, tombstones: &mut List<Tomb>, entry: Entry<'_>) -> Result<(), AllocError>
-    ensures { OnOk result (tombstones.new ≡ tombstones.old ++ record { key = entry.entry.key.now; id = entry.entry.id.now } ∷ []) }
+    ensures { OnOk result (tombstones.new
+        ≡ tombstones.old ++ record { key = entry.entry.key.now; id = entry.entry.id.now } ∷ []) }
 {
     let key = Text::from_text(alloc, entry.key)?;
     let id = Text::from_text(alloc, entry.id)?;

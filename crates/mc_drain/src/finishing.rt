@@ -72,8 +72,8 @@ fn answer<K: Keeper>(replica: &Replica<K>, end: DrainEnd, before: u64) -> Result
     }
 }
 
-/// Leaves a work or a repair after workers of whom the keeper or a fetch failed, and says why: `KeeperFault` exactly where
-/// the replica has stopped, and then nothing changes; else `PeerFault`, and all that was in flight waits again.
+/// Leaves a work or a repair after workers of whom the keeper or a fetch failed, and says why: `KeeperFault` exactly
+/// where the replica has stopped, and then nothing changes; else `PeerFault`, and all that was in flight waits again.
 pub fn leave_off<K: Keeper>(replica: &mut Replica<K>) -> WorkError
     ensures works { Becomes K.Keeper (λ rose s new. (before budget : ℕ) (offers : Option Map) (root : ReplicaState) →
         HasWorkedFrom replica.old.stopped before budget offers root s →

@@ -25,8 +25,8 @@ use mc_model::{
 };
 use std::alloc::Global;
 
-/// Begins a job for the first block that waits, which is in flight then, with the bytes that the replica has stored under
-/// it; none exactly where nothing waits. Other jobs may be in flight.
+/// Begins a job for the first block that waits, which is in flight then, with the bytes that the replica has stored
+/// under it; none exactly where nothing waits. Other jobs may be in flight.
 pub fn begin_job<K: Keeper>(
     alloc: Global,
     replica: &mut Replica<K>,
@@ -95,8 +95,8 @@ pub fn deliver_job<K: Keeper>(
     }
 }
 
-/// Gives a job back, which may be one of many: its block comes to the back of those that wait, where it is in flight. It
-/// takes no memory and can't fail.
+/// Gives a job back, which may be one of many: its block comes to the back of those that wait, where it is in flight.
+/// It takes no memory and can't fail.
 pub fn give_job_back<K: Keeper>(replica: &mut Replica<K>, job: Job)
     ensures leads { Becomes K.Keeper (λ rose s new. Leads false (count s) Always s new) replica.old replica.new }
     ensures keeps { Continues K.Keeper false replica.old replica.new }

@@ -45,9 +45,10 @@ pub enum Repaired {
     },
 }
 
-/// Repairs a replica on the caller's thread: walks to the walk's end, so that every gap is wanted, and then works through
-/// what is wanted, as `work` does. Where it is known what is found, the processed blocks are then the closure of what was
-/// wanted and of the gaps, or it is `Again`. `Clean` comes exactly where no gap is left then, and `Open` where some are.
+/// Repairs a replica on the caller's thread: walks to the walk's end, so that every gap is wanted, and then works
+/// through what is wanted, as `work` does. Where it is known what is found, the processed blocks are then the closure
+/// of what was wanted and of the gaps, or it is `Again`. `Clean` comes exactly where no gap is left then, and `Open`
+/// where some are.
 /// `Stopped` comes exactly where an earlier call answered `KeeperFault`, and changes nothing.
 pub fn repair<K: Keeper, F: Fetch, W: Wait>(
     alloc: Global,
@@ -72,9 +73,9 @@ pub fn repair<K: Keeper, F: Fetch, W: Wait>(
     }
 }
 
-/// Begins a repair: all that was in flight waits again, and the walk is made to its end, so that every gap is wanted. How
-/// many blocks are processed then, at most `u64::MAX`: as many as before. Where there is no answer, the repair's is the
-/// same; `Stopped` comes exactly where an earlier call answered `KeeperFault`, and changes nothing.
+/// Begins a repair: all that was in flight waits again, and the walk is made to its end, so that every gap is wanted.
+/// How many blocks are processed then, at most `u64::MAX`: as many as before. Where there is no answer, the repair's is
+/// the same; `Stopped` comes exactly where an earlier call answered `KeeperFault`, and changes nothing.
 pub fn begin_repair<K: Keeper, W: Wait>(
     alloc: Global,
     replica: &mut Replica<K>,
@@ -115,8 +116,8 @@ pub fn begin_repair<K: Keeper, W: Wait>(
 }
 
 /// Goes on with a repair that has begun, on the caller's thread, where workers may have worked since: `before` is how
-/// many blocks were processed when it began, and the budget is that of the whole repair. The answer is that of the whole
-/// repair.
+/// many blocks were processed when it began, and the budget is that of the whole repair. The answer is that of the
+/// whole repair.
 pub fn finish_repair<K: Keeper, F: Fetch, W: Wait>(
     alloc: Global,
     replica: &mut Replica<K>,

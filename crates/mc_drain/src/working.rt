@@ -55,7 +55,8 @@ pub enum WorkError {
 /// blocks that wait are looked up and processed, until nothing waits or as many are processed as the budget says. Where
 /// it is known what is found, `Done` comes exactly where no wanted block has a good offer any more, and the processed
 /// blocks are then the closure of what was wanted; else it is `Again`, and the blocks with a good offer wait and the
-/// others are missing or bad. `Stopped` comes exactly where an earlier call answered `KeeperFault`, and changes nothing.
+/// others are missing or bad. `Stopped` comes exactly where an earlier call answered `KeeperFault`, and changes
+/// nothing.
 pub fn work<K: Keeper, F: Fetch, W: Wait>(
     alloc: Global,
     replica: &mut Replica<K>,

@@ -17,8 +17,8 @@ const LAST_LINES: usize = 512;
 /// The script that `count` steps from the number `start` on draw, with one line for each, and with the lines in which
 /// three replicas hear of each other and are compared. `count` is at most 100,000.
 ///
-/// Each step draws three times. The first draw gives the replica, the second a key and a value, a message or a number of
-/// workers, the third whether the line is `put`, `del`, `cast`, `hear` or `work`. An error is want of memory.
+/// Each step draws three times. The first draw gives the replica, the second a key and a value, a message or a number
+/// of workers, the third whether the line is `put`, `del`, `cast`, `hear` or `work`. An error is want of memory.
 pub fn script(alloc: Global, start: u64, count: u64) -> Result<Bytes, AllocError>
     requires { count ≤ 100000 }
     ensures { IfOk result (λ text. text ≡ script_text start count) }

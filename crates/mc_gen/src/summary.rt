@@ -13,8 +13,8 @@ use std::alloc::{AllocError, Global};
 // How many lines stand between the drawn ones and the first `same`.
 const LINES_BEFORE_SAME: u64 = 15;
 
-/// What is said of the output of a generated script: how many lines and bytes it has, its SHA-256, and the replies to the
-/// two `same` lines. It takes the replies one by one, and keeps none but these two.
+/// What is said of the output of a generated script: how many lines and bytes it has, its SHA-256, and the replies to
+/// the two `same` lines. It takes the replies one by one, and keeps none but these two.
 #[derive(Drop)]
 pub struct Summary {
     first_same: u64,
@@ -41,8 +41,8 @@ impl Summary {
         }
     }
 
-    /// Adds the reply to the next line. The error is want of memory; a number that 64 bits can't hold, which no output has,
-    /// counts as such.
+    /// Adds the reply to the next line. The error is want of memory; a number that 64 bits can't hold, which no output
+    /// has, counts as such.
     pub fn add(&mut self, reply: &[u8]) -> Result<(), AllocError>
         ensures { OnOk result ((count : ℕ) (replies : List (List ℕ)) →
             Sums count self.old replies → Sums count self.new (replies ++ reply.now ∷ [])) }

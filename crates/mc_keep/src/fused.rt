@@ -205,8 +205,8 @@ impl<K: Keeper> Keeper for Fused<K> {
         self.keeper.reserve(rows)
     }
 
-    /// Besides what the trait says: where the fuse fires before the effect the keeper inside is not asked; else it makes
-    /// one commit, and where no fuse fires the answer is that commit's. The fuse counts each time that it fires.
+    /// Besides what the trait says: where the fuse fires before the effect the keeper inside is not asked; else it
+    /// makes one commit, and where no fuse fires the answer is that commit's. The fuse counts each time that it fires.
     fn commit(&mut self, changes: Changes) -> Result<(), Failed>
         requires room { row_count changes ≤ K.spare self.old.keeper }
         requires fits { IfSome (K.told self.old.keeper) (λ kept. ChangesFit kept changes) }

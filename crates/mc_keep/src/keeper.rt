@@ -173,8 +173,8 @@ pub trait Keeper: Counted {
         ensures reads { ReadsAt told fuse spare own Self.faults quiet schedule (is_err result) self.old self.new }
         ensures planned { ReadsAsPlanned (schedule self.old) (schedule self.new) (is_err result) };
 
-    /// The value rows of the next keys with a value above the bound, or from it on where `inclusive`, in the order of the
-    /// keys: `most` of them, or fewer where there are no more.
+    /// The value rows of the next keys with a value above the bound, or from it on where `inclusive`, in the order of
+    /// the keys: `most` of them, or fewer where there are no more.
     fn values_from(
         &mut self,
         alloc: Global,

@@ -10,8 +10,8 @@ use mc_keep::{Changes, ElementRow, HeadRow, KeepError, Keeper, Summary, ValueRow
 use std::alloc::{AllocError, Global};
 use std::sync::Wait;
 
-/// A keeper of one of two kinds. It hands each call on, and tells what the keeper inside tells. Only one of the first kind
-/// may be quiet, and no schedule of it is known, since a desk that is used on a keeper of the other kind fails.
+/// A keeper of one of two kinds. It hands each call on, and tells what the keeper inside tells. Only one of the first
+/// kind may be quiet, and no schedule of it is known, since a desk that is used on a keeper of the other kind fails.
 #[derive(Debug, Drop)]
 pub enum AnyKeeper<A, B> {
     /// In memory.

@@ -28,14 +28,16 @@ pub(crate) fn reserve_cids(cids: &mut IndexSet<Cid>, rows: usize) -> Result<(), 
 // Adds an identifier, also where it is there.
 pub(crate) fn put_cid(cids: &mut IndexSet<Cid>, cid: Cid)
     requires room { 0 < spare cids.old }
-    ensures among { (other : Cid) → is_among cids.new.keys other ≡ (same_cid other cid || is_among cids.old.keys other) }
+    ensures among { (other : Cid) → is_among cids.new.keys other
+        ≡ (same_cid other cid || is_among cids.old.keys other) }
     ensures spare { spare cids.old ≤ spare cids.new + 1 }
 {
     let _added = cids.insert(cid);
 }
 
 pub(crate) fn drop_cid(cids: &mut IndexSet<Cid>, cid: &Cid)
-    ensures among { (other : Cid) → is_among cids.new.keys other ≡ (not (same_cid other cid.now) && is_among cids.old.keys other) }
+    ensures among { (other : Cid) → is_among cids.new.keys other
+        ≡ (not (same_cid other cid.now) && is_among cids.old.keys other) }
     ensures spare { spare cids.old ≤ spare cids.new }
 {
     if cids.is_empty() {

@@ -1,4 +1,5 @@
-// The table of element rows, with room for the next commits: the rows of a key are a chain from its last row to its first.
+// The table of element rows, with room for the next commits: the rows of a key are a chain from its last row to its
+// first.
 ghost use Rattle.std.specs.Prelude.{◌≡◌, ℕ, ◌<◌, ◌≤◌, ◌+◌, ◌∷◌, length, fold, vec_len, vec_capacity, IfOk, OnOk, cond};
 ghost use Rattle.std.specs.Prelude as prelude;
 ghost use Rattle.std.specs.HashMap.{spare};

@@ -22,7 +22,8 @@ pub(crate) fn put_marks(graph: &mut Graph, gaps: &mut IndexSet<Cid>, marks: &[Ci
     ensures graph { graph_of graph.new.blocks ≡ graph_of graph.old.blocks }
     ensures order { order_of graph.new.blocks graph.new.order.items
         ≡ order_of graph.old.blocks graph.old.order.items ++ marks.now }
-    ensures gaps { (cid : Cid) → is_among gaps.new.keys cid ≡ fold (closed_by cid) (is_among gaps.old.keys cid) marks.now }
+    ensures gaps { (cid : Cid) → is_among gaps.new.keys cid
+        ≡ fold (closed_by cid) (is_among gaps.old.keys cid) marks.now }
     ensures blocks_spare { map_spare graph.old.blocks ≤ map_spare graph.new.blocks }
     ensures order_len { vec_len graph.new.order ≤ vec_len graph.old.order + length marks.now }
     ensures order_capacity { vec_capacity graph.old.order ≤ vec_capacity graph.new.order }
@@ -33,7 +34,8 @@ pub(crate) fn put_marks(graph: &mut Graph, gaps: &mut IndexSet<Cid>, marks: &[Ci
 }
 
 fn drop_cids(gaps: &mut IndexSet<Cid>, cids: &[Cid])
-    ensures gaps { (cid : Cid) → is_among gaps.new.keys cid ≡ fold (closed_by cid) (is_among gaps.old.keys cid) cids.now }
+    ensures gaps { (cid : Cid) → is_among gaps.new.keys cid
+        ≡ fold (closed_by cid) (is_among gaps.old.keys cid) cids.now }
     ensures spare { spare gaps.old ≤ spare gaps.new }
 {
     for cid in cids {

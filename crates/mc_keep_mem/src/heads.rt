@@ -14,7 +14,8 @@ use std::alloc::{AllocError, Global};
 
 // Takes heads out.
 pub(crate) fn drop_heads(heads: &mut IndexMap<Cid, u64>, out: &[Cid])
-    ensures heads { (cid : Cid) → get same_cid heads.new cid ≡ fold (head_without cid) (get same_cid heads.old cid) out.now }
+    ensures heads { (cid : Cid) → get same_cid heads.new cid
+        ≡ fold (head_without cid) (get same_cid heads.old cid) out.now }
     ensures spare { spare heads.old ≤ spare heads.new }
 {
     for cid in out {
@@ -32,7 +33,8 @@ fn drop_head(heads: &mut IndexMap<Cid, u64>, out: &Cid)
 // Puts heads in.
 pub(crate) fn put_heads(heads: &mut IndexMap<Cid, u64>, rows: &[HeadRow])
     requires room { length rows.now ≤ spare heads.old }
-    ensures heads { (cid : Cid) → get same_cid heads.new cid ≡ fold (head_with cid) (get same_cid heads.old cid) rows.now }
+    ensures heads { (cid : Cid) → get same_cid heads.new cid
+        ≡ fold (head_with cid) (get same_cid heads.old cid) rows.now }
     ensures spare { spare heads.old ≤ spare heads.new + length rows.now }
 {
     for row in rows {

@@ -13,9 +13,9 @@ use std::alloc::{AllocError, Global};
 use std::hash::{BuildHasher, BuildHasherDefault, FoldHasher};
 use std::sync::Wait;
 
-/// A keeper in memory: nothing outlives it. It fails exactly at the calls that its plan numbers. Its tables of texts use
-/// the hasher `S`: the keys and ids of foreign blocks are chosen by strangers, and a seeded hasher wards off floods of
-/// colliding ones, which the default does not.
+/// A keeper in memory: nothing outlives it. It fails exactly at the calls that its plan numbers. Its tables of texts
+/// use the hasher `S`: the keys and ids of foreign blocks are chosen by strangers, and a seeded hasher wards off floods
+/// of colliding ones, which the default does not.
 #[derive(Drop)]
 pub struct MemKeeper<S: BuildHasher + Drop = BuildHasherDefault<FoldHasher>> {
     store: Store<S>,

@@ -15,8 +15,8 @@ use mc_keep::{KeepError, Keeper, KeeperPlan, Keepers};
 use std::alloc::{AllocError, Global};
 use std::hash::{BuildHasher, BuildHasherDefault, FoldHasher};
 
-/// Makes keepers in memory, whatever the plan of the keeper, and takes them back. The keeper with the index i takes a copy of
-/// the fault plan at place i, and one by which nothing fails where there is none.
+/// Makes keepers in memory, whatever the plan of the keeper, and takes them back. The keeper with the index i takes a
+/// copy of the fault plan at place i, and one by which nothing fails where there is none.
 #[derive(Drop)]
 pub struct MemKeepers<S: BuildHasher + Copy + Drop = BuildHasherDefault<FoldHasher>> {
     plans: List<FaultPlan>,
@@ -32,7 +32,8 @@ impl MemKeepers {
     /// fail. Takes no memory.
     pub fn new(plans: List<FaultPlan>, makes: List<u64>) -> MemKeepers
         ensures plans { result.plans ≡ plans }
-        ensures schedule { makes_of result.failing result.made result.plans ≡ record { makes = makes; makes_made = 0; keepers = map planned plans } }
+        ensures schedule { makes_of result.failing result.made result.plans
+            ≡ record { makes = makes; makes_made = 0; keepers = map planned plans } }
         ensures count { (result.faults ≡ 0) × (result.lost ≡ 0) }
     {
         MemKeepers::with_hasher(plans, makes, BuildHasherDefault::new())
@@ -44,7 +45,8 @@ impl<S: BuildHasher + Copy + Drop> MemKeepers<S> {
     /// counted from 1, fail. Takes no memory.
     pub fn with_hasher(plans: List<FaultPlan>, makes: List<u64>, hasher: S) -> MemKeepers<S>
         ensures plans { result.plans ≡ plans }
-        ensures schedule { makes_of result.failing result.made result.plans ≡ record { makes = makes; makes_made = 0; keepers = map planned plans } }
+        ensures schedule { makes_of result.failing result.made result.plans
+            ≡ record { makes = makes; makes_made = 0; keepers = map planned plans } }
         ensures count { (result.faults ≡ 0) × (result.lost ≡ 0) }
     {
         MemKeepers {
@@ -112,11 +114,13 @@ impl<S: BuildHasher + Copy + Drop> Keepers for MemKeepers<S> {
           lost = min (self.old.lost + keeper.faults.faults + sum_by (λ (desk : MemDesk). desk.faults) desks)
               (2 ^ 64 - 1);
         } }
-        ensures lost { self.new.lost ≡ min (self.old.lost + keeper.faults.faults + sum_by (λ (desk : MemDesk). desk.faults) desks) (2 ^ 64 - 1) }
+        ensures lost { self.new.lost
+            ≡ min (self.old.lost + keeper.faults.faults + sum_by (λ (desk : MemDesk). desk.faults) desks) (2 ^ 64 - 1) }
         ensures starts_same { (plan : KeeperPlan) (index : ℕ) → Some nothing_kept ≡ Some nothing_kept }
         ensures quiet_same { (plan : KeeperPlan) →
             list_all plans_nothing self.new.plans ≡ list_all plans_nothing self.old.plans }
-        ensures planned { Some (makes_of self.new.failing self.new.made self.new.plans) ≡ Some (makes_of self.old.failing self.old.made self.old.plans) }
+        ensures planned { Some (makes_of self.new.failing self.new.made self.new.plans)
+            ≡ Some (makes_of self.old.failing self.old.made self.old.plans) }
         ensures count { self.new.faults ≡ self.old.faults }
     {
         let lost = self.lost.saturating_add(keeper.faults());

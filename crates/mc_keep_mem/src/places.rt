@@ -107,8 +107,8 @@ fn put_first<S: BuildHasher>(
     found
 }
 
-/// Gives the key at a place of the table a value, by the place of its row, or takes the value away, and tells whether it
-/// had one. It takes no memory.
+/// Gives the key at a place of the table a value, by the place of its row, or takes the value away, and tells whether
+/// it had one. It takes no memory.
 pub(crate) fn set_value<S: BuildHasher>(
     keys: &mut IndexMap<String, Places, S>,
     number: usize,

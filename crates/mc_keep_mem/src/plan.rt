@@ -10,8 +10,8 @@ ghost use Rattle.mc_keep_mem.specs.Faults.{fails_never, schedule_of};
 use mc_base::{Counted, Failed, List};
 use std::alloc::{AllocError, Global};
 
-/// The numbers of the calls that are to fail, counted from 1. A commit fails before its effect or after it; `reads` number
-/// every other call of a keeper that can fail; the n-th desk that is made takes the n-th list of `desks`.
+/// The numbers of the calls that are to fail, counted from 1. A commit fails before its effect or after it; `reads`
+/// number every other call of a keeper that can fail; the n-th desk that is made takes the n-th list of `desks`.
 #[derive(Debug, Drop)]
 pub struct FaultPlan {
     /// The commits that fail without their effect.
@@ -212,7 +212,8 @@ impl Faults {
         ensures calm { fails_never self.old ≡ true → result ≡ None }
         ensures planned { CommitsAsPlanned (Some (schedule_of self.old)) (Some (schedule_of self.new)) (is_some result) None None None }
         ensures before { is_planned self.old.before (next_number self.old.commits) ≡ true → result ≡ Some false }
-        ensures after { is_planned self.old.before (next_number self.old.commits) ≡ false → is_planned self.old.after (next_number self.old.commits) ≡ true → result ≡ Some true }
+        ensures after { is_planned self.old.before (next_number self.old.commits) ≡ false →
+            is_planned self.old.after (next_number self.old.commits) ≡ true → result ≡ Some true }
     {
         self.commits = next_of(self.commits);
         if is_due(self.before.as_slice(), self.commits) {
@@ -235,7 +236,8 @@ impl Faults {
         ensures quiet_desk { fails_never self.old ≡ true → IfOk result (λ desk. is_nothing desk.failing ≡ true) }
         ensures schedule { schedule_of self.new ≡ with_desk (is_ok result) (schedule_of self.old) }
         ensures failed { is_err result ≡ is_planned self.old.failing (next_number self.old.reads) }
-        ensures takes { IfOk result (λ desk. desk_schedule_of desk ≡ record { reads = first_plan self.old.desks.items; reads_made = 0 }) }
+        ensures takes { IfOk result (λ desk. desk_schedule_of desk
+            ≡ record { reads = first_plan self.old.desks.items; reads_made = 0 }) }
         ensures goes { ReadsGo (without_desks (Some (schedule_of self.old)))
             (without_desks (Some (schedule_of self.new))) (is_err result) }
     {
@@ -254,7 +256,8 @@ impl Faults {
 
 // Takes the first plan out, or one by which nothing fails where there is none.
 fn next_desk(desks: &mut Vec<List<u64>>, alloc: Global) -> List<u64>
-    ensures quiet { list_all is_nothing desks.old.items ≡ true → (is_nothing result ≡ true) × (list_all is_nothing desks.new.items ≡ true) }
+    ensures quiet { list_all is_nothing desks.old.items ≡ true → (is_nothing result ≡ true)
+        × (list_all is_nothing desks.new.items ≡ true) }
     ensures first { result ≡ first_plan desks.old.items }
     ensures rest { desks.new.items ≡ drop 1 desks.old.items }
 {

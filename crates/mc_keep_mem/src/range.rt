@@ -16,8 +16,8 @@ use std::collections::BTreeSet;
 use std::hash::BuildHasher;
 use std::ops::Bound;
 
-/// The rows of the next keys past a bound, or from it on where `inclusive`, that have a value, at most so many. Each key
-/// with a value is in order.
+/// The rows of the next keys past a bound, or from it on where `inclusive`, that have a value, at most so many. Each
+/// key with a value is in order.
 pub(crate) fn rows_from<S: BuildHasher + Drop>(
     alloc: Global,
     ordered: &BTreeSet<String>,

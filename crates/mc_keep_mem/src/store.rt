@@ -194,7 +194,8 @@ impl<S: BuildHasher + Drop> Store<S> {
         inclusive: bool,
         most: u64,
     ) -> Result<List<ValueRow>, AllocError>
-        ensures rows { IfOk result (λ rows. AreNext (processed (kept_in self.old.tables)) bound.now inclusive most rows) }
+        ensures rows { IfOk result (λ rows.
+            AreNext (processed (kept_in self.old.tables)) bound.now inclusive most rows) }
         ensures kept { kept_in self.new.tables ≡ kept_in self.old.tables }
         ensures room { self.new.room ≡ self.old.room }
     {

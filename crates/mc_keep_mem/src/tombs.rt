@@ -60,7 +60,8 @@ pub(crate) fn has_tomb<S: BuildHasher + Drop>(tombs: &Tombs<S>, key: &str, id: &
 fn number<S: BuildHasher + Drop>(texts: &mut IndexSet<String, S>, text: Text) -> usize
     requires room { 0 < spare texts.old }
     ensures number { result ≡ number_of texts.old.keys text }
-    ensures texts { (name : String Global) × (string_bytes name ≡ text) × (texts.new.keys ≡ insert_key string_eq texts.old.keys name) }
+    ensures texts { (name : String Global) × (string_bytes name ≡ text)
+        × (texts.new.keys ≡ insert_key string_eq texts.old.keys name) }
     ensures spare { spare texts.old ≤ spare texts.new + 1 }
 {
     match texts.insert_full(text.into_string()) {
@@ -91,7 +92,8 @@ pub(crate) fn reserve_tombs<S: BuildHasher + Drop>(
     tombs: &mut Tombs<S>,
     rows: usize,
 ) -> Result<(), AllocError>
-    ensures ok { OnOk result ((rows ≤ spare tombs.new.keys) × (rows ≤ spare tombs.new.ids) × (rows ≤ spare tombs.new.pairs)) }
+    ensures ok { OnOk result ((rows ≤ spare tombs.new.keys) × (rows ≤ spare tombs.new.ids)
+        × (rows ≤ spare tombs.new.pairs)) }
     ensures tombs { (key id : List ℕ) → has_tomb_in tombs.new.keys.keys tombs.new.ids.keys tombs.new.pairs.keys key id
         ≡ has_tomb_in tombs.old.keys.keys tombs.old.ids.keys tombs.old.pairs.keys key id }
     ensures keys_spare { spare tombs.old.keys ≤ spare tombs.new.keys }
@@ -105,7 +107,8 @@ pub(crate) fn reserve_tombs<S: BuildHasher + Drop>(
 
 fn reserve_pairs(pairs: &mut HashSet<(usize, usize)>, rows: usize) -> Result<(), AllocError>
     ensures ok { OnOk result (rows ≤ spare pairs.new) }
-    ensures pairs { (pair : ℕ × ℕ) → list_any (same_pair pair) pairs.new.keys ≡ list_any (same_pair pair) pairs.old.keys }
+    ensures pairs { (pair : ℕ × ℕ) → list_any (same_pair pair) pairs.new.keys
+        ≡ list_any (same_pair pair) pairs.old.keys }
     ensures spare { spare pairs.old ≤ spare pairs.new }
 {
     pairs.reserve(rows)

@@ -17,7 +17,8 @@ pub struct FileKeeper {
 }
 
 impl FileKeeper {
-    /// Opens the file of the replica with this index in a folder, and makes it where it is not there. The folder must exist.
+    /// Opens the file of the replica with this index in a folder, and makes it where it is not there. The folder must
+    /// exist.
     pub fn open(rt: &HostRuntime, dir: &str, index: u64) -> Result<FileKeeper, KeepError>
         ensures fresh { IfOk result (λ keeper. keeper.inner.faults ≡ 0) }
     {

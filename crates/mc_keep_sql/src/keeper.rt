@@ -16,9 +16,9 @@ use std::alloc::{AllocError, Global};
 use std::rt::HostRuntime;
 use std::sync::{Mutex, Wait};
 
-/// A keeper whose tables stand in a SQLite file, or wherever the store `S` puts them. It does not tell what they hold: that
-/// they are those of the changes that were committed is shown by tests. It counts each refused statement, also one refused
-/// for memory, and each row that is not of its table's form.
+/// A keeper whose tables stand in a SQLite file, or wherever the store `S` puts them. It does not tell what they hold:
+/// that they are those of the changes that were committed is shown by tests. It counts each refused statement, also one
+/// refused for memory, and each row that is not of its table's form.
 #[derive(Drop)]
 pub struct SqlKeeper<S: Alter + Drop = FileStore<File>> {
     connection: Mutex<Connection<S>>,
@@ -28,7 +28,8 @@ pub struct SqlKeeper<S: Alter + Drop = FileStore<File>> {
 }
 
 impl SqlKeeper {
-    /// Opens the file of the replica with this index in a folder, and makes it where it is not there. The folder must exist.
+    /// Opens the file of the replica with this index in a folder, and makes it where it is not there. The folder must
+    /// exist.
     pub fn open(rt: &HostRuntime, dir: &str, index: u64) -> Result<SqlKeeper, KeepError>
         ensures fresh { IfOk result (λ keeper. keeper.faults ≡ 0) }
     {
@@ -57,7 +58,8 @@ fn letter_of(index: u64) -> char {
 }
 
 impl<S: Alter + Drop> SqlKeeper<S> {
-    /// A keeper over an open connection. Where it has no tables they are made. Fails where it has others, or another layout.
+    /// A keeper over an open connection. Where it has no tables they are made. Fails where it has others, or another
+    /// layout.
     pub fn adopt(connection: Connection<S>) -> Result<SqlKeeper<S>, KeepError>
         ensures fresh { IfOk result (λ keeper. keeper.faults ≡ 0) }
     {

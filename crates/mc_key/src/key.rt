@@ -8,8 +8,8 @@ use std::marker::Model;
 
 const LONGEST: usize = 1024;
 
-/// A borrowed text that obeys the key rule: it begins with `/`, has at most 1,024 bytes, and no part between slashes, or
-/// after the last, is empty, `.` or `..`. A contract sees it as the list of its bytes.
+/// A borrowed text that obeys the key rule: it begins with `/`, has at most 1,024 bytes, and no part between slashes,
+/// or after the last, is empty, `.` or `..`. A contract sees it as the list of its bytes.
 #[derive(Debug, Drop)]
 pub struct Key<'a> {
     text: &'a str,

@@ -2,8 +2,8 @@
 ghost use Rattle.std.specs.Prelude.{◌≡◌};
 ghost use Rattle.mc_key.specs.Prefix as prefixes;
 
-/// Whether a prefix selects a key. The slashes at the prefix's end don't count. A prefix of slashes alone, or of nothing,
-/// selects every key; any other selects those that begin with it and a slash. Takes no memory.
+/// Whether a prefix selects a key. The slashes at the prefix's end don't count. A prefix of slashes alone, or of
+/// nothing, selects every key; any other selects those that begin with it and a slash. Takes no memory.
 pub fn under(prefix: &str, key: &str) -> bool
     ensures { result ≡ prefixes.is_under prefix.now key.now }
 {

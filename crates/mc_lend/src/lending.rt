@@ -68,7 +68,8 @@ pub(crate) fn return_each<'a, K: Keeper>(
     requires many { length (peers_in sites.now) ≡ length views.old.items }
     ensures returns { Returns sites.now (lists_of rows.old) (lists_of rows.new) views.old.items }
     ensures left { views.new.items ≡ [] }
-    ensures holds { (out : ℕ) → Holds 0 (out + 1) (marks_of sites.now) rows.old → Holds 0 out (marks_of sites.now) rows.new }
+    ensures holds { (out : ℕ) → Holds 0 (out + 1) (marks_of sites.now) rows.old →
+        Holds 0 out (marks_of sites.now) rows.new }
 {
     let Some((row, rows)) = rows.split_first_mut() else {
         return;

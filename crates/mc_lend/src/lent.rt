@@ -21,9 +21,9 @@ pub struct Lent<'a, K: Keeper> {
 }
 
 /// Makes so many fetches, each of which reads every site that is a peer by a desk of its own: the first fetch by the
-/// first desk of each, the next one by the next. The sites and the lists of their desks are in one order, and a peer has
-/// as many desks. The lists have nothing until the desks are taken back. Refused is want of memory, and then all desks
-/// are where they were.
+/// first desk of each, the next one by the next. The sites and the lists of their desks are in one order, and a peer
+/// has as many desks. The lists have nothing until the desks are taken back. Refused is want of memory, and then all
+/// desks are where they were.
 pub fn lend<'a, K: Keeper>(
     alloc: Global,
     sites: &[Site<'a, K>],

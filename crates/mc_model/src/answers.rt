@@ -11,5 +11,6 @@ ghost use Rattle.mc_model.specs.Answers.{has_value, valued_keys};
 /// The keys that have a value ascend, each stands once, and they are exactly those to which `value` gives one.
 pub fn valued_keys_are_exact()
     ensures sorted { (blocks : List Block) → IsStrictlySortedBy (slice_cmp nat_cmp) (valued_keys blocks) }
-    ensures exact { (blocks : List Block) (key : List ℕ) → list_any (λ other. bytes_eq other key) (valued_keys blocks) ≡ has_value blocks key }
+    ensures exact { (blocks : List Block) (key : List ℕ) → list_any (λ other. bytes_eq other key) (valued_keys blocks)
+        ≡ has_value blocks key }
 {}

@@ -17,24 +17,30 @@ pub fn greatest_is_greatest()
     ensures same { (xs ys : List Ranked) → SameMembers xs ys → greatest xs ≡ greatest ys }
 {}
 
-/// The same blocks, in any order and number, and processed in any groups, give the same answers: the same value to every
-/// key, the same rows to every query, the same heads, and the same gaps.
+/// The same blocks, in any order and number, and processed in any groups, give the same answers: the same value to
+/// every key, the same rows to every query, the same heads, and the same gaps.
 pub fn same_blocks_same_answers()
     ensures answers { (xs ys : List Block) → SameMembers xs ys → SameAnswers xs ys }
-    ensures groups { (durable : Durable) (run : Running) (xs ys : List (List Cid)) → SameMembers (joined xs) (joined ys) → SameAnswers (processed_in_groups durable run xs) (processed_in_groups durable run ys) }
+    ensures groups { (durable : Durable) (run : Running) (xs ys : List (List Cid)) →
+        SameMembers (joined xs) (joined ys) →
+        SameAnswers (processed_in_groups durable run xs) (processed_in_groups durable run ys) }
     ensures value { (xs ys : List Block) → SameMembers xs ys → (key : List ℕ) → value_row xs key ≡ value_row ys key }
-    ensures hidden { (xs ys : List Block) → SameMembers xs ys → (key id : List ℕ) → has_tomb xs key id ≡ has_tomb ys key id }
-    ensures processed { (xs ys : List Block) → SameMembers xs ys → (cid : Cid) → is_processed xs cid ≡ is_processed ys cid }
+    ensures hidden { (xs ys : List Block) → SameMembers xs ys → (key id : List ℕ) → has_tomb xs key id
+        ≡ has_tomb ys key id }
+    ensures processed { (xs ys : List Block) → SameMembers xs ys → (cid : Cid) → is_processed xs cid
+        ≡ is_processed ys cid }
     ensures linked { (xs ys : List Block) → SameMembers xs ys → (cid : Cid) → is_linked xs cid ≡ is_linked ys cid }
     ensures gap { (xs ys : List Block) → SameMembers xs ys → (cid : Cid) → is_gap xs cid ≡ is_gap ys cid }
     ensures gaps { (xs ys : List Block) → SameMembers xs ys → SameMembers (gaps xs) (gaps ys) }
     ensures gap_count { (xs ys : List Block) → SameMembers xs ys → length (gaps xs) ≡ length (gaps ys) }
     ensures heads { (xs ys : List Block) → SameMembers xs ys → heads xs ≡ heads ys }
-    ensures head { (xs ys : List Block) → SameMembers xs ys → (cid : Cid) → is_some (head_at xs cid) ≡ is_some (head_at ys cid) }
+    ensures head { (xs ys : List Block) → SameMembers xs ys → (cid : Cid) → is_some (head_at xs cid)
+        ≡ is_some (head_at ys cid) }
 {}
 
 /// A list that has each gap once has as many identifiers as there are gaps.
 pub fn gaps_are_counted()
-    ensures { (keys : List Cid) (blocks : List Block) → IsDistinct same_cid keys → ((cid : Cid) → is_among keys cid ≡ is_gap blocks cid) →
+    ensures { (keys : List Cid) (blocks : List Block) → IsDistinct same_cid keys →
+        ((cid : Cid) → is_among keys cid ≡ is_gap blocks cid) →
         length keys ≡ length (gaps blocks) }
 {}

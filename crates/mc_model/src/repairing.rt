@@ -11,8 +11,8 @@ ghost use Rattle.mc_model.specs.State.{Durable, Running, State, IsSound, IsWhole
 ghost use Rattle.mc_model.specs.Wanted.{Queue, wanted};
 
 /// A repair has begun where nothing has changed, and each event of a drain or of a walk goes on with it. After the
-/// walk's end, where whole is true, it is a drain of what was wanted at the start and of the gaps; and so, where nothing
-/// that is wanted has a good offer, it has come to their closure.
+/// walk's end, where whole is true, it is a drain of what was wanted at the start and of the gaps; and so, where
+/// nothing that is wanted has a good offer, it has come to their closure.
 pub fn repairs_go_on()
     ensures begins { (found : Offers) (durable : Durable) (q : Queue) → IsRepairing found durable (wanted q) durable q }
     ensures step { (found : Offers) (old : Durable) (start : List Cid) (now : Durable) (run : Running) (event : Event) →
@@ -51,7 +51,8 @@ pub fn found_repairs_go_on()
 {}
 
 /// A drain of the wanted set beside a walk, in any order, by any number of workers, in any groups, ends with exactly
-/// the closure of what was wanted and of the gaps, where the walk has ended and nothing that is wanted has a good offer.
+/// the closure of what was wanted and of the gaps, where the walk has ended and nothing that is wanted has a good
+/// offer.
 pub fn repair_is_closed()
     ensures { (found : Offers) (durable : Durable) (run : Running) (events : List Event) →
         IsSound (record { durable = durable; run = Some run }) →

@@ -19,7 +19,8 @@ use std::alloc::{AllocError, Global};
 use std::sync::Wait;
 use std::thread::Threads;
 
-/// Works through the wanted blocks of a replica with so many workers beside one another, each in a thread of its own, as
+/// Works through the wanted blocks of a replica with so many workers beside one another, each in a thread of its own,
+/// as
 /// `mc_crew::work` does, and gives the replica back. The workers fetch from the sites that are peers, in order: of each
 /// its planted offer, and then its stored block, which each worker reads through a desk of its own, the first worker
 /// through the first one. The sites and the lists of their desks are in one order. Each desk comes back to its place.

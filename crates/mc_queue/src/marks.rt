@@ -18,7 +18,8 @@ pub(crate) fn mark_of(marks: &IndexMap<Cid, Mark>, cid: &Cid) -> Option<Mark>
 /// Sets the mark of a block that has none.
 pub(crate) fn add_mark(marks: &mut IndexMap<Cid, Mark>, cid: Cid, mark: Mark)
     requires room { 0 < spare marks.old }
-    ensures marks { (other : Cid) → get same_cid marks.new other ≡ cond (same_cid cid other) (Some mark) (get same_cid marks.old other) }
+    ensures marks { (other : Cid) → get same_cid marks.new other
+        ≡ cond (same_cid cid other) (Some mark) (get same_cid marks.old other) }
     ensures spare { spare marks.old ≤ spare marks.new + 1 }
 {
     let _before = marks.insert(cid, mark);
@@ -28,7 +29,8 @@ pub(crate) fn add_mark(marks: &mut IndexMap<Cid, Mark>, cid: Cid, mark: Mark)
 pub(crate) fn set_mark(marks: &mut IndexMap<Cid, Mark>, cid: &Cid, mark: Mark) -> Option<Mark>
     requires there { is_some (get same_cid marks.old cid.now) ≡ true }
     ensures was { result ≡ get same_cid marks.old cid.now }
-    ensures marks { (other : Cid) → get same_cid marks.new other ≡ cond (same_cid cid.now other) (Some mark) (get same_cid marks.old other) }
+    ensures marks { (other : Cid) → get same_cid marks.new other
+        ≡ cond (same_cid cid.now other) (Some mark) (get same_cid marks.old other) }
     ensures spare { spare marks.old ≤ spare marks.new }
 {
     match marks.get_mut(cid) {
@@ -44,7 +46,8 @@ pub(crate) fn set_mark(marks: &mut IndexMap<Cid, Mark>, cid: &Cid, mark: Mark) -
 /// Drops the mark of a block, and tells it.
 pub(crate) fn drop_mark(marks: &mut IndexMap<Cid, Mark>, cid: &Cid) -> Option<Mark>
     ensures was { result ≡ get same_cid marks.old cid.now }
-    ensures marks { (other : Cid) → get same_cid marks.new other ≡ cond (same_cid cid.now other) None (get same_cid marks.old other) }
+    ensures marks { (other : Cid) → get same_cid marks.new other
+        ≡ cond (same_cid cid.now other) None (get same_cid marks.old other) }
     ensures spare { spare marks.old ≤ spare marks.new }
 {
     marks.swap_remove(cid)

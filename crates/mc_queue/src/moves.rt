@@ -69,7 +69,8 @@ fn drain_one(store: &mut Store, from: Part) -> bool
     requires apart { same_part from Waiting ≡ false }
     ensures fits { Fits store.new }
     ensures shown { drained from (shown_in store.new) ≡ drained from (shown_in store.old) }
-    ensures more { result ≡ true → length (cids_of from (shown_in store.new)) < length (cids_of from (shown_in store.old)) }
+    ensures more { result ≡ true →
+        length (cids_of from (shown_in store.new)) < length (cids_of from (shown_in store.old)) }
     ensures end { result ≡ false → cids_of from (shown_in store.new) ≡ [] }
     ensures room { store.new.room ≡ store.old.room }
 {

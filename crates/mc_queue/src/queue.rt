@@ -31,8 +31,8 @@ pub struct Counts {
 
 /// The wanted set: the blocks that a replica has heard of and not processed, in four parts, each in the order in which
 /// they came to it. No block stands twice. Each call but `requeue` and `recall` costs the same on the average, whatever
-/// stands in the parts: places that blocks have left are passed over once, and a full part is tidied. Those two are linear
-/// in what they move.
+/// stands in the parts: places that blocks have left are passed over once, and a full part is tidied. Those two are
+/// linear in what they move.
 #[derive(Drop)]
 pub struct Queue {
     pub(crate) store: Store,
@@ -70,8 +70,8 @@ impl Queue {
         }
     }
 
-    /// Makes room for so many more blocks. No other call takes memory. On an error nothing is wanted that was not, and the
-    /// room is no less.
+    /// Makes room for so many more blocks. No other call takes memory. On an error nothing is wanted that was not, and
+    /// the room is no less.
     pub fn reserve(&mut self, blocks: u64) -> Result<(), AllocError>
         ensures ok { OnOk result (blocks ≤ spare self.new) }
         ensures queue { shown self.new ≡ shown self.old }
@@ -80,8 +80,8 @@ impl Queue {
         reserve_blocks(&mut self.store, blocks)
     }
 
-    /// A block is linked by a processed one, or with `again` a message names it: it comes to the back of waiting unless it
-    /// is wanted, with `again` also out of missing or bad. True where it came to waiting. Wants room for one block.
+    /// A block is linked by a processed one, or with `again` a message names it: it comes to the back of waiting unless
+    /// it is wanted, with `again` also out of missing or bad. True where it came to waiting. Wants room for one block.
     pub fn want(&mut self, cid: Cid, again: bool) -> bool
         requires room { 0 < spare self.old }
         ensures queue { shown self.new ≡ named again (shown self.old) cid }
@@ -111,7 +111,8 @@ impl Queue {
         forget(&mut self.store, cid);
     }
 
-    /// There was no offer for a block in flight: it comes to the back of missing. Nothing changes where it is not in flight.
+    /// There was no offer for a block in flight: it comes to the back of missing. Nothing changes where it is not in
+    /// flight.
     pub fn missing(&mut self, cid: &Cid)
         ensures queue { shown self.new ≡ cond (has cid.now (shown self.old).flight)
             (to_missing (shown self.old) cid.now) (shown self.old) }
@@ -130,8 +131,8 @@ impl Queue {
         shift(&mut self.store, *cid, Part::Flight, Part::Bad, damage);
     }
 
-    /// The job of a block in flight ended without it: it comes to the back of waiting. Nothing changes where it is not in
-    /// flight.
+    /// The job of a block in flight ended without it: it comes to the back of waiting. Nothing changes where it is not
+    /// in flight.
     pub fn back(&mut self, cid: &Cid)
         ensures queue { shown self.new ≡ cond (has cid.now (shown self.old).flight)
             (give_back (shown self.old) cid.now) (shown self.old) }

@@ -9,8 +9,8 @@ use crate::ring::Ring;
 use crate::store::Store;
 use std::alloc::AllocError;
 
-// How many places a part wants for so many blocks: twice as many and one, so that the tickets that count no more are let go
-// of seldom.
+// How many places a part wants for so many blocks: twice as many and one, so that the tickets that count no more are
+// let go of seldom.
 fn places_for(count: u64, more: u64) -> Option<u64>
     ensures { IfSome result (λ places. count + more < places) }
 {

@@ -41,7 +41,8 @@ fn compact_ring(ring: &mut Ring, marks: &IndexMap<Cid, Mark>, part: Part, next: 
     requires fits { RingFits (get same_cid marks.now) part ring.old.tickets.items ring.old.count next }
     requires room { ring.old.count < deque_capacity ring.old.tickets }
     ensures fits { RingFits (get same_cid marks.now) part ring.new.tickets.items ring.new.count next }
-    ensures live { live (get same_cid marks.now) part ring.new.tickets.items ≡ live (get same_cid marks.now) part ring.old.tickets.items }
+    ensures live { live (get same_cid marks.now) part ring.new.tickets.items
+        ≡ live (get same_cid marks.now) part ring.old.tickets.items }
     ensures count { ring.new.count ≡ ring.old.count }
     ensures capacity { deque_capacity ring.new.tickets ≡ deque_capacity ring.old.tickets }
     ensures ready { IsReady (get same_cid marks.now) part ring.new next }
@@ -72,7 +73,8 @@ pub(crate) fn make_ready(
     requires fits { RingFits (get same_cid marks.now) part ring.old.tickets.items ring.old.count next }
     requires room { ring.old.count < deque_capacity ring.old.tickets }
     ensures fits { RingFits (get same_cid marks.now) part ring.new.tickets.items ring.new.count next }
-    ensures live { live (get same_cid marks.now) part ring.new.tickets.items ≡ live (get same_cid marks.now) part ring.old.tickets.items }
+    ensures live { live (get same_cid marks.now) part ring.new.tickets.items
+        ≡ live (get same_cid marks.now) part ring.old.tickets.items }
     ensures count { ring.new.count ≡ ring.old.count }
     ensures capacity { deque_capacity ring.new.tickets ≡ deque_capacity ring.old.tickets }
     ensures ready { goes_to to part ≡ true → IsReady (get same_cid marks.now) part ring.new next }
@@ -115,9 +117,11 @@ fn drop_front(tickets: &mut VecDeque<Ticket>)
 
 /// The block at the front. Tickets before it that count no more are let go.
 pub(crate) fn first(ring: &mut Ring, marks: &IndexMap<Cid, Mark>, part: Part) -> Option<Cid>
-    ensures live { live (get same_cid marks.now) part ring.new.tickets.items ≡ live (get same_cid marks.now) part ring.old.tickets.items }
+    ensures live { live (get same_cid marks.now) part ring.new.tickets.items
+        ≡ live (get same_cid marks.now) part ring.old.tickets.items }
     ensures first { result ≡ first_of (cids_in (live (get same_cid marks.now) part ring.old.tickets.items)) }
-    ensures before { (next : ℕ) → are_before next ring.old.tickets.items ≡ true → are_before next ring.new.tickets.items ≡ true }
+    ensures before { (next : ℕ) → are_before next ring.old.tickets.items ≡ true →
+        are_before next ring.new.tickets.items ≡ true }
     ensures count { ring.new.count ≡ ring.old.count }
     ensures capacity { deque_capacity ring.new.tickets ≡ deque_capacity ring.old.tickets }
 {
@@ -139,8 +143,10 @@ fn is_of(ticket: &Ticket, cid: &Cid) -> bool
 /// Lets go of the ticket at the front where it is of this block, which is not in the part.
 pub(crate) fn pass(ring: &mut Ring, marks: &IndexMap<Cid, Mark>, part: Part, cid: &Cid)
     requires out { is_in part (get same_cid marks.now cid.now) ≡ false }
-    ensures live { live (get same_cid marks.now) part ring.new.tickets.items ≡ live (get same_cid marks.now) part ring.old.tickets.items }
-    ensures before { (next : ℕ) → are_before next ring.old.tickets.items ≡ true → are_before next ring.new.tickets.items ≡ true }
+    ensures live { live (get same_cid marks.now) part ring.new.tickets.items
+        ≡ live (get same_cid marks.now) part ring.old.tickets.items }
+    ensures before { (next : ℕ) → are_before next ring.old.tickets.items ≡ true →
+        are_before next ring.new.tickets.items ≡ true }
     ensures count { ring.new.count ≡ ring.old.count }
     ensures capacity { deque_capacity ring.new.tickets ≡ deque_capacity ring.old.tickets }
 {

@@ -49,8 +49,8 @@ pub(crate) struct LastBlock {
     pub(crate) hidden: bool,
 }
 
-// Whether a tombstone of the group hides the elements of the key in a processed block. The block's id is made only where
-// it is not the one that was seen last.
+// Whether a tombstone of the group hides the elements of the key in a processed block. The block's id is made only
+// where it is not the one that was seen last.
 fn see(
     alloc: Global,
     key: &str,

@@ -63,8 +63,8 @@ pub fn acknowledged_deletes_are_processed()
         Step w (Del r key) entry (Deleted count) w2 → HasDeleted w r key count w2 }
 {}
 
-/// After a storm that was answered by `stormed M S`, its replica has processed at least M blocks more, in the world after
-/// it and, in a run, in the last one. The line may stand at any place, counted from 0.
+/// After a storm that was answered by `stormed M S`, its replica has processed at least M blocks more, in the world
+/// after it and, in a run, in the last one. The line may stand at any place, counted from 0.
 pub fn acknowledged_storms_are_processed()
     ensures step { (w : WorldState) (r writers writes : ℕ) (entry : Entry) (made same : ℕ) (w2 : WorldState) →
         Step w (Storm r writers writes) entry (Stormed made same) w2 → HasMore w r made w2 }
@@ -145,8 +145,8 @@ pub fn stopped_is_exact()
 {}
 
 /// After a repair that was answered by `clean`, no gap is left at its replica, and where no stored block leads back to
-/// itself, the processed blocks are exactly those that its heads reach. In a run the line may stand at any place, counted
-/// from 0.
+/// itself, the processed blocks are exactly those that its heads reach. In a run the line may stand at any place,
+/// counted from 0.
 pub fn clean_repairs_are_reached()
     ensures step { (w : WorldState) (r workers : ℕ) (entry : Entry) (w2 : WorldState) →
         Step w (Repair r workers) entry Clean w2 → HasSettled w2 r }

@@ -24,9 +24,9 @@ pub fn lines_are_commands()
 
 /// The one line that is written for a command is read as it, where the command's words can be written: the replica is
 /// one of `a` to `h`, a key and a prefix are UTF-8 of at least one byte and without a space, a value is bytes, a
-/// number is below 2^64, an identifier has 32 bytes, the two replicas of a link differ, and a number with a greatest one is
-/// from 1 to it: that of a commit to 1,000,000, those of workers and writers to 16, a budget to 1,048,576, and that of a
-/// writer's writes to 10,000.
+/// number is below 2^64, an identifier has 32 bytes, the two replicas of a link differ, and a number with a greatest
+/// one is from 1 to it: that of a commit to 1,000,000, those of workers and writers to 16, a budget to 1,048,576, and
+/// that of a writer's writes to 10,000.
 pub fn commands_are_read_again()
     ensures { (command : Command) → IsWritable command → line_of (command_text command) ≡ Some (Some command) }
 {

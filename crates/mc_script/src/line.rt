@@ -46,9 +46,9 @@ impl From<AllocError> for LineError {
 /// them and none at either end. Only the space parts words: a tab, a carriage return or a NUL is part of one.
 /// `Bad` comes exactly where the line is not UTF-8, or its words are no command.
 ///
-/// The two replicas of a link differ, the number of a commit is from 1 to 1,000,000, those of workers and writers are from
-/// 1 to 16, that of a writer's writes from 1 to 10,000, and a budget from 1 to 1,048,576 (`limits`). No limit on a line or
-/// a script is looked at here: how long they may be is the caller's.
+/// The two replicas of a link differ, the number of a commit is from 1 to 1,000,000, those of workers and writers are
+/// from 1 to 16, that of a writer's writes from 1 to 10,000, and a budget from 1 to 1,048,576 (`limits`). No limit on a
+/// line or a script is looked at here: how long they may be is the caller's.
 pub fn read_line(alloc: Global, line: &[u8]) -> Result<Option<Command>, LineError>
     ensures ok { IfOk result (λ read. line_of line.now ≡ Some read) }
     ensures limits { IfOk result (λ read. IfSome read IsInLimits) }

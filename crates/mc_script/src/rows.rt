@@ -11,7 +11,8 @@ use std::alloc::{AllocError, Global};
 
 // The number of rows, and a line for each.
 pub fn write_rows(alloc: Global, rows: &[(Text, Bytes)], out: &mut Bytes) -> Result<(), AllocError>
-    ensures ok { OnOk result (out.new ≡ out.old ++ number_line (codes "rows") (length rows.now) ++ flat_map row_text rows.now) }
+    ensures ok { OnOk result (out.new
+        ≡ out.old ++ number_line (codes "rows") (length rows.now) ++ flat_map row_text rows.now) }
     ensures err { OnErr result (out.new ≡ out.old) }
 {
     let len = out.len();
@@ -27,7 +28,8 @@ pub fn write_rows(alloc: Global, rows: &[(Text, Bytes)], out: &mut Bytes) -> Res
 
 // The number of heads, and a line for each.
 pub fn write_heads(alloc: Global, heads: &[(Cid, u64)], out: &mut Bytes) -> Result<(), AllocError>
-    ensures ok { OnOk result (out.new ≡ out.old ++ number_line (codes "heads") (length heads.now) ++ flat_map head_text heads.now) }
+    ensures ok { OnOk result (out.new
+        ≡ out.old ++ number_line (codes "heads") (length heads.now) ++ flat_map head_text heads.now) }
     ensures err { OnErr result (out.new ≡ out.old) }
 {
     let len = out.len();

@@ -6,8 +6,8 @@ use std::alloc::{AllocError, Global};
 // More than a keeper of a test has values.
 const MOST: u64 = 1_000;
 
-/// The answers of a keeper to `summary` and `heads`, and those to `values_from` and `holder` at each key, in order of the
-/// keys.
+/// The answers of a keeper to `summary` and `heads`, and those to `values_from` and `holder` at each key, in order of
+/// the keys.
 pub(crate) fn shown<K: Keeper>(keeper: &mut K, alloc: Global) -> Result<String, KeepError> {
     let mut text = String::new(alloc);
     push_summary(keeper, alloc, &mut text)?;

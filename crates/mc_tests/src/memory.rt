@@ -353,7 +353,8 @@ fn first_read_fails<M: Keepers>(keepers: &mut M, alloc: Global, index: u64) -> O
     Some(fails)
 }
 
-// Whether just the first make fails, and then just the keeper with the index 1, whose failure is kept when it is taken back.
+// Whether just the first make fails, and then just the keeper with the index 1, whose failure is kept when it is taken
+// back.
 fn makes_as_planned<M: Keepers + Drop>(keepers: M, alloc: Global) -> bool {
     let mut keepers = keepers;
     first_read_fails(&mut keepers, alloc, 0).is_none()

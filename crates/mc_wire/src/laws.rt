@@ -5,8 +5,10 @@ ghost use Rattle.mc_base.specs.WireRead.{front_varint, fields_of};
 
 /// A varint by its bytes and value is the one that is read at the front of a text.
 pub fn varints_are_read()
-    ensures read { (bytes : List ℕ) (value : ℕ) (rest : List ℕ) → IsVarint bytes value → front_varint (bytes ++ rest) ≡ Ok (value, length bytes) }
-    ensures found { (text : List ℕ) (value len : ℕ) → front_varint text ≡ Ok (value, len) → IsVarint (take len text) value × (len ≤ length text) }
+    ensures read { (bytes : List ℕ) (value : ℕ) (rest : List ℕ) → IsVarint bytes value → front_varint (bytes ++ rest)
+        ≡ Ok (value, length bytes) }
+    ensures found { (text : List ℕ) (value len : ℕ) → front_varint text ≡ Ok (value, len) →
+        IsVarint (take len text) value × (len ≤ length text) }
 {}
 
 /// A text is the concatenation of the pieces of some fields exactly where these fields are read from it.

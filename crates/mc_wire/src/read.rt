@@ -46,8 +46,8 @@ pub fn next_key(bytes: &[u8], at: usize) -> Result<Option<Key>, WireFaultAt>
     }
 }
 
-/// The field that a key begins. The fault is that of the field number, or else of the wire type, or else of the content.
-/// Takes no memory.
+/// The field that a key begins. The fault is that of the field number, or else of the wire type, or else of the
+/// content. Takes no memory.
 pub fn read_field(bytes: &[u8], key: Key) -> Result<Field, WireFault>
     requires { key.next ≤ length bytes.now }
     ensures field { IfOk result (λ field. FieldOf bytes.now key field) }

@@ -25,8 +25,8 @@ pub struct Hand<S: Shop, F: Fetch> {
 
 /// Runs one worker for each hand, in threads of their own, of which at most 16 run at a time. Each takes jobs from the
 /// shop until there is none or it is at its end, passes the gate with each, looks the block up, and delivers what was
-/// found. Where its fetch gives no answer it gives the job back and ends. The call returns when all have ended, and then
-/// no seat has a job out.
+/// found. Where its fetch gives no answer it gives the job back and ends. The call returns when all have ended, and
+/// then no seat has a job out.
 pub fn run_workers<
     S: Shop + Sync,
     F: Fetch + Send,

@@ -47,16 +47,16 @@ impl From<AllocError> for ActError {
     }
 }
 
-/// Executes one command, whose numbers are within the limits of its line. The world and the reply are by `Step`, and the
-/// record grows by one entry, which names exactly the keepers and desks whose counts rose; where all keepers and desks
-/// are quiet and have not failed, it names none that failed by itself. `BadLine` comes exactly where the command names a
-/// replica or a message that isn't there, and changes nothing. After `Memory` the record is as it was, and the command
-/// is done, or its replica is what a want of memory in the call leaves: as it was, after some first blocks of a delete,
-/// with the first block that waited at the back of those that wait, after some blocks of a work or a repair, with
-/// nothing in flight, or after some first calls of a storm's writers. What a work or a repair comes to depends on no
-/// number of workers, and on no gate. The workers, each of which passes the gate with each block that it has taken, and the
-/// writers of a storm run in these threads. Each fault that is answered is paid by a count that rose, or by a fuse that
-/// is armed no more.
+/// Executes one command, whose numbers are within the limits of its line. The world and the reply are by `Step`, and
+/// the record grows by one entry, which names exactly the keepers and desks whose counts rose; where all keepers and
+/// desks are quiet and have not failed, it names none that failed by itself. `BadLine` comes exactly where the command
+/// names a replica or a message that isn't there, and changes nothing. After `Memory` the record is as it was, and the
+/// command is done, or its replica is what a want of memory in the call leaves: as it was, after some first blocks of a
+/// delete, with the first block that waited at the back of those that wait, after some blocks of a work or a repair,
+/// with nothing in flight, or after some first calls of a storm's writers. What a work or a repair comes to depends on
+/// no number of workers, and on no gate. The workers, each of which passes the gate with each block that it has taken,
+/// and the writers of a storm run in these threads. Each fault that is answered is paid by a count that rose, or by a
+/// fuse that is armed no more.
 pub fn act<K: Keeper + Send + Sync, G: Gate + Sync, T: Threads + Sync, W: Wait + Sync>(
     world: &mut World<Fused<K>>,
     alloc: Global,

@@ -30,7 +30,8 @@ use std::alloc::{AllocError, Global};
 use std::sync::Wait;
 use std::thread::Threads;
 
-// Works through what a replica wants, at most as many blocks as the budget says, over the replicas that it fetches from.
+// Works through what a replica wants, at most as many blocks as the budget says, over the replicas that it fetches
+// from.
 pub(crate) fn work_in<K: Keeper + Send + Sync, G: Gate + Sync, T: Threads + Sync, W: Wait + Sync>(
     world: &mut World<K>,
     alloc: Global,

@@ -94,9 +94,9 @@ impl<K: Keeper, J: Naming> Node<Stored<K, J>> {
     }
 
     /// Ends the node and hands its replica out, tied to a log that begins with all that the seat has seen. The `mine`
-    /// of a seat with all parts has every place after the root. Of a node that was made sealed of some replica, what comes
-    /// back is what the calls of workers led to from there, and it has stopped exactly where one of them failed. Takes no
-    /// memory.
+    /// of a seat with all parts has every place after the root. Of a node that was made sealed of some replica, what
+    /// comes back is what the calls of workers led to from there, and it has stopped exactly where one of them failed.
+    /// Takes no memory.
     pub fn close<W: Wait>(self, seat: NodeSeat<Stored<K, J>, K>, wait: &W) -> Replica<K>
         requires own { IsSeatOf self.turn seat.seat }
         ensures log { (log : _) × IsTaken (knows seat) log

@@ -78,7 +78,8 @@ impl<T: Story> Turn<T> {
         requires own { IsSeatOf self.now seat.old }
         ensures same { IsSameSeat seat.old seat.new }
         ensures taken { IsTaken (view seat.old) (T.list result.value) }
-        ensures held { (words : List ℕ) × All (λ word. word ≢ 0) words × (view seat.new ≡ held_view (view seat.old) (words ++ 0 ∷ []) (T.list result.value)) }
+        ensures held { (words : List ℕ) × All (λ word. word ≢ 0) words
+            × (view seat.new ≡ held_view (view seat.old) (words ++ 0 ∷ []) (T.list result.value)) }
     {
         for _ in wait.forever() {
             if let Ok(held) = self.try_take(seat) {
