@@ -62,10 +62,10 @@ impl From<AllocError> for ExecuteError {
     }
 }
 
-/// Executes a line, and writes its reply. `Bad` comes exactly where the line is no command, or names a replica or a
-/// message that isn't there, and then nothing is written and nothing changes. `Failed` comes only where the sink
-/// failed, and then some first bytes of the reply are written. Under `Memory` nothing is written, and the command was
-/// done, or nothing or a part of it.
+/// Executes a line, and writes its reply, whose text is made in the buffer `text`. `Bad` comes exactly where the line
+/// is no command, or names a replica or a message that isn't there, and then nothing is written and nothing changes.
+/// `Failed` comes only where the sink failed, and then some first bytes of the reply are written. Under `Memory`
+/// nothing is written, and the command was done, or nothing or a part of it.
 pub fn execute_line<
     K: Keeper + Send + Sync,
     O: Sink,
@@ -76,6 +76,7 @@ pub fn execute_line<
     alloc: Global,
     world: &mut World<Fused<K>>,
     line: &[u8],
+    text: &mut Bytes,
     out: &mut O,
     gate: &G,
     threads: &T,
@@ -97,7 +98,7 @@ where
     ensures cause { Counts (O.faults out.old) (O.faults out.new) (IsErrOf result ExecuteError.Failed) }
 {
     match read_line(alloc, line) {
-        Ok(Some(command)) => answer(alloc, world, &command, out, gate, threads, wait),
+        Ok(Some(command)) => answer(alloc, world, &command, text, out, gate, threads, wait),
         Ok(None) => Ok(()),
         Err(LineError::Bad) => Err(ExecuteError::Bad),
         Err(LineError::Memory) => Err(ExecuteError::Memory),
@@ -115,6 +116,7 @@ pub fn execute_and_clear<
     alloc: Global,
     world: &mut World<Fused<K>>,
     line: &[u8],
+    text: &mut Bytes,
     out: &mut O,
     gate: &G,
     threads: &T,
@@ -137,7 +139,7 @@ where
     ensures entries { world.new.entries ≡ [] }
     ensures cause { Counts (O.faults out.old) (O.faults out.new) (IsErrOf result ExecuteError.Failed) }
 {
-    let result = execute_line(alloc, world, line, out, gate, threads, wait);
+    let result = execute_line(alloc, world, line, text, out, gate, threads, wait);
     clear_record(alloc, &mut world.entries);
     result
 }
@@ -156,6 +158,7 @@ fn answer<K: Keeper + Send + Sync, O: Sink, G: Gate + Sync, T: Threads + Sync, W
     alloc: Global,
     world: &mut World<Fused<K>>,
     command: &Command,
+    text: &mut Bytes,
     out: &mut O,
     gate: &G,
     threads: &T,
@@ -182,11 +185,16 @@ where
         Err(ActError::BadLine) => return Err(ExecuteError::Bad),
         Err(ActError::Memory) => return Err(ExecuteError::Memory),
     };
-    write_answer(alloc, &reply, out)
+    write_answer(alloc, &reply, text, out)
 }
 
-// Writes a reply.
-fn write_answer<O: Sink>(alloc: Global, reply: &Reply, out: &mut O) -> Result<(), ExecuteError>
+// Writes a reply, whose text is made in a buffer.
+fn write_answer<O: Sink>(
+    alloc: Global,
+    reply: &Reply,
+    text: &mut Bytes,
+    out: &mut O,
+) -> Result<(), ExecuteError>
     ensures ok { OnOk result (Appends (O.written out.old) (O.written out.new) (reply_text reply.now)) }
     ensures not_bad { IsErrOf result ExecuteError.Bad → ⊥ }
     ensures failed { IsErrOf result ExecuteError.Failed →
@@ -194,8 +202,8 @@ fn write_answer<O: Sink>(alloc: Global, reply: &Reply, out: &mut O) -> Result<()
     ensures memory { IsErrOf result ExecuteError.Memory → Keeps (O.written out.old) (O.written out.new) }
     ensures cause { Counts (O.faults out.old) (O.faults out.new) (IsErrOf result ExecuteError.Failed) }
 {
-    let mut text = Bytes::new(alloc);
-    write_reply(alloc, reply, &mut text)?;
+    text.clear();
+    write_reply(alloc, reply, text)?;
     write_text(out, text.as_slice())?;
     Ok(())
 }

@@ -54,6 +54,7 @@ where
         return Summed::Short;
     };
     let mut executed: u64 = 0;
+    let mut text = Bytes::new(alloc);
     loop {
         match reader.next_line(&mut source) {
             Ok(true) => {}
@@ -62,7 +63,16 @@ where
             // A source in memory of which no call is planned to fail does not fail.
             Err(ReadError::Failed) | Err(ReadError::Memory) => return Summed::Short,
         }
-        match sum_line(alloc, world, reader.line(), summary, gate, threads, wait) {
+        match sum_line(
+            alloc,
+            world,
+            reader.line(),
+            &mut text,
+            summary,
+            gate,
+            threads,
+            wait,
+        ) {
             Ok(()) => executed += 1,
             Err(ExecuteError::Bad) => return Summed::Bad { line: executed + 1 },
             Err(ExecuteError::Failed) | Err(ExecuteError::Memory) => return Summed::Short,
@@ -75,6 +85,7 @@ fn sum_line<K: Keeper + Send + Sync, G: Gate + Sync, T: Threads + Sync, W: Wait 
     alloc: Global,
     world: &mut World<Fused<K>>,
     line: &[u8],
+    text: &mut Bytes,
     summary: &mut Summary,
     gate: &G,
     threads: &T,
@@ -93,7 +104,7 @@ where
     ensures entries { world.new.entries ≡ [] }
 {
     let mut reply = MemorySink::new(Bytes::new(alloc), 0, List::new(alloc));
-    match execute_and_clear(alloc, world, line, &mut reply, gate, threads, wait) {
+    match execute_and_clear(alloc, world, line, text, &mut reply, gate, threads, wait) {
         Ok(()) => {}
         Err(error) => return Err(error),
     }

@@ -6,8 +6,8 @@ use Rattle.mc_world.proofs.MemberWords.{members}
 use Rattle.mc_app.proofs.SummingFacts.{IsSumming}
 use Rattle.mc_app.proofs.summing.sum_script.Given as goal
 
-abbrev pub invariant-loop-reader : goal.invariant-loop-reader
-invariant-loop-reader g l = IsSumming (l.world.entries ≡ [])
+abbrev pub invariant-loop-text : goal.invariant-loop-text
+invariant-loop-text g l = IsSumming (l.world.entries ≡ [])
     (λ w. w ≡ state (fused_members (members g.K.Keeper g.K.Counted)) g.K.Desk.Counted.faults l.fn.world)
     (tally (fused_members (members g.K.Keeper g.K.Counted)) g.K.Desk.Counted.faults l.fn.world)
     l.fn.script (l.reader.ahead ++ drop l.source.at l.source.bytes) l.reader.given l.executed
@@ -15,5 +15,5 @@ invariant-loop-reader g l = IsSumming (l.world.entries ≡ [])
     (tally (fused_members (members g.K.Keeper g.K.Counted)) g.K.Desk.Counted.faults l.world)
     l.fn.summary l.summary
 
-abbrev pub decreases-loop-reader : goal.decreases-loop-reader
-decreases-loop-reader g l = script_max - l.reader.given
+abbrev pub decreases-loop-text : goal.decreases-loop-text
+decreases-loop-text g l = script_max - l.reader.given
