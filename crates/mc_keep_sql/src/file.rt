@@ -1,8 +1,9 @@
 // The keeper over a SQLite file.
 ghost use Rattle.std.specs.Prelude.{◌≡◌, ◌-◌, ◌^◌, false, None, IfOk};
 
+use crate::database::FileDatabase;
 use crate::desk::SqlDesk;
-use crate::keeper::SqlKeeper;
+use crate::keeper::DatabaseKeeper;
 use mc_base::{Bytes, Cid, Counted, Failed, List};
 use mc_keep::{Changes, ElementRow, HeadRow, KeepError, Keeper, Summary, ValueRow};
 use std::alloc::{AllocError, Global};
@@ -13,7 +14,7 @@ use std::sync::Wait;
 /// keepers can then name it, which it can't name the other: the check would compare the parts of its connection.
 #[derive(Drop)]
 pub struct FileKeeper {
-    inner: SqlKeeper,
+    inner: DatabaseKeeper<FileDatabase>,
 }
 
 impl FileKeeper {
@@ -22,7 +23,7 @@ impl FileKeeper {
     pub fn open(rt: &HostRuntime, dir: &str, index: u64) -> Result<FileKeeper, KeepError>
         ensures fresh { IfOk result (λ keeper. keeper.inner.faults ≡ 0) }
     {
-        match SqlKeeper::open(rt, dir, index) {
+        match DatabaseKeeper::open_file(rt, dir, index) {
             Ok(inner) => Ok(FileKeeper { inner }),
             Err(error) => Err(error),
         }
@@ -33,7 +34,7 @@ impl FileKeeper {
     /// Copies the log into the file, and closes both. Where that fails the log stays beside the file, with all commits.
     pub fn close(self) {
         let FileKeeper { inner } = self;
-        let _ = inner.into_connection().close();
+        inner.into_database().close();
     }
 }
 

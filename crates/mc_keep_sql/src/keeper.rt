@@ -4,14 +4,15 @@ ghost use Rattle.std.specs.Result.{is_err};
 ghost use Rattle.mc_keep.specs.Causes.{CountGoes};
 ghost use Rattle.mc_keep.specs.Plan.{is_fault};
 
-use crate::changing::{change, counts_after};
+use crate::changing::counts_after;
 use crate::counts::Counts;
+use crate::database::{Database, FileDatabase, Work};
 use crate::desk::SqlDesk;
-use crate::opening::prepare_tables;
+use crate::opening::opened;
 use crate::reading;
 use mc_base::{Bytes, Cid, Counted, Failed, List};
 use mc_keep::{Changes, ElementRow, HeadRow, KeepError, Keeper, Summary, ValueRow};
-use sqlite::{Alter, Connection, Error, ErrorCode, File, FileStore};
+use sqlite::{Alter, Connection, File, FileStore};
 use std::alloc::{AllocError, Global};
 use std::rt::HostRuntime;
 use std::sync::{Mutex, Wait};
@@ -19,9 +20,12 @@ use std::sync::{Mutex, Wait};
 /// A keeper whose tables stand in a SQLite file, or wherever the store `S` puts them. It does not tell what they hold:
 /// that they are those of the changes that were committed is shown by tests. It counts each refused statement, also one
 /// refused for memory, and each row that is not of its table's form.
+pub type SqlKeeper<S = FileStore<File>> = DatabaseKeeper<Connection<S>>;
+
+/// The same over any database.
 #[derive(Drop)]
-pub struct SqlKeeper<S: Alter + Drop = FileStore<File>> {
-    connection: Mutex<Connection<S>>,
+pub struct DatabaseKeeper<D> {
+    database: Mutex<D>,
     // None where a commit has failed, since it may have happened.
     counts: Option<Counts>,
     faults: u64,
@@ -33,27 +37,10 @@ impl SqlKeeper {
     pub fn open(rt: &HostRuntime, dir: &str, index: u64) -> Result<SqlKeeper, KeepError>
         ensures fresh { IfOk result (λ keeper. keeper.faults ≡ 0) }
     {
-        let letter = letter_of(index);
-        let path = format!(in rt.alloc(); "{dir}/{letter}.db")?;
-        match Connection::open(rt, path.as_str()) {
-            Ok(connection) => SqlKeeper::adopt(connection),
-            Err(Error::SqliteFailure(ErrorCode::OutOfMemory)) => Err(KeepError::Memory),
-            Err(_) => Err(KeepError::Failed),
+        match DatabaseKeeper::open_file(rt, dir, index) {
+            Ok(keeper) => Ok(keeper.into_sql()),
+            Err(error) => Err(error),
         }
-    }
-}
-
-// The letter of the replica with this index.
-fn letter_of(index: u64) -> char {
-    match index {
-        0 => 'a',
-        1 => 'b',
-        2 => 'c',
-        3 => 'd',
-        4 => 'e',
-        5 => 'f',
-        6 => 'g',
-        _ => 'h',
     }
 }
 
@@ -63,26 +50,77 @@ impl<S: Alter + Drop> SqlKeeper<S> {
     pub fn adopt(connection: Connection<S>) -> Result<SqlKeeper<S>, KeepError>
         ensures fresh { IfOk result (λ keeper. keeper.faults ≡ 0) }
     {
-        let mut connection = connection;
-        prepare_tables(&mut connection)?;
-        let counts = Counts::new(&mut connection)?;
-        Ok(SqlKeeper {
-            connection: Mutex::new(connection),
-            counts: Some(counts),
-            faults: 0,
-        })
+        DatabaseKeeper::over(connection)
     }
 
     /// The connection, for whoever closes it. Nothing is written.
     pub fn into_connection(self) -> Connection<S> {
-        let SqlKeeper {
-            connection,
+        self.into_database()
+    }
+}
+
+impl DatabaseKeeper<FileDatabase> {
+    // A keeper over the file of the replica with this index.
+    pub(crate) fn open_file(
+        rt: &HostRuntime,
+        dir: &str,
+        index: u64,
+    ) -> Result<DatabaseKeeper<FileDatabase>, KeepError>
+        ensures fresh { IfOk result (λ keeper. keeper.faults ≡ 0) }
+    {
+        match FileDatabase::open(rt, dir, index) {
+            Ok(database) => DatabaseKeeper::over(database),
+            Err(error) => Err(error),
+        }
+    }
+
+    // The same keeper over the file's connection.
+    fn into_sql(self) -> SqlKeeper
+        ensures { result.faults ≡ self.faults }
+    {
+        let DatabaseKeeper {
+            database,
+            counts,
+            faults,
+        } = self;
+        DatabaseKeeper {
+            database: Mutex::new(database.into_inner().into_connection()),
+            counts,
+            faults,
+        }
+    }
+}
+
+impl<D: Database + Drop> DatabaseKeeper<D> {
+    // A keeper over a database. Where it has no tables they are made. Fails where it has others, or another layout.
+    fn over(database: D) -> Result<DatabaseKeeper<D>, KeepError>
+        ensures fresh { IfOk result (λ keeper. keeper.faults ≡ 0) }
+    {
+        let mut database = database;
+        match opened(&mut database) {
+            Ok(counts) => Ok(DatabaseKeeper {
+                database: Mutex::new(database),
+                counts: Some(counts),
+                faults: 0,
+            }),
+            Err(Failed) => Err(KeepError::Failed),
+        }
+    }
+}
+
+impl<D> DatabaseKeeper<D> {
+    // Its database, for whoever closes it.
+    pub(crate) fn into_database(self) -> D {
+        let DatabaseKeeper {
+            database,
             counts: _,
             faults: _,
         } = self;
-        connection.into_inner()
+        database.into_inner()
     }
+}
 
+impl<D: Database> DatabaseKeeper<D> {
     // Counts the answer of a call, where it failed.
     fn count<T>(&mut self, answer: Result<T, KeepError>) -> Result<T, KeepError>
         ensures count { CountGoes (is_fault result) self.old.faults self.new.faults }
@@ -110,7 +148,7 @@ impl<S: Alter + Drop> SqlKeeper<S> {
         if let Some(counts) = self.counts {
             return Ok(counts);
         }
-        let counts = Counts::new(self.connection.get_mut())?;
+        let counts = Counts::new(self.database.get_mut())?;
         self.counts = Some(counts);
         Ok(counts)
     }
@@ -120,13 +158,16 @@ impl<S: Alter + Drop> SqlKeeper<S> {
     {
         let counts = self.known_counts()?;
         self.counts = None;
-        let gone = change(self.connection.get_mut(), counts.marks, changes)?;
+        let gone = self.database.get_mut().transact(Work::Commit {
+            marks: counts.marks,
+            changes,
+        })?;
         self.counts = Some(counts_after(&counts, changes, gone));
         Ok(())
     }
 }
 
-impl<S: Alter + Drop> Counted for SqlKeeper<S> {
+impl<D: Database> Counted for DatabaseKeeper<D> {
     ghost faults = { λ keeper. keeper.faults };
 
     fn faults(&self) -> u64 {
@@ -134,7 +175,7 @@ impl<S: Alter + Drop> Counted for SqlKeeper<S> {
     }
 }
 
-impl<S: Alter + Drop> Keeper for SqlKeeper<S> {
+impl<D: Database> Keeper for DatabaseKeeper<D> {
     type Desk = SqlDesk;
 
     ghost told = { λ keeper. None };
@@ -170,9 +211,9 @@ impl<S: Alter + Drop> Keeper for SqlKeeper<S> {
         cid: &Cid,
         wait: &W,
     ) -> Result<Option<Bytes>, KeepError> {
-        let mut connection = self.connection.lock(wait);
-        let answer = reading::block(&mut connection, alloc, cid);
-        drop(connection);
+        let mut database = self.database.lock(wait);
+        let answer = reading::block(&mut *database, alloc, cid);
+        drop(database);
         desk.count(answer)
     }
 
@@ -185,57 +226,57 @@ impl<S: Alter + Drop> Keeper for SqlKeeper<S> {
     }
 
     fn block(&mut self, alloc: Global, cid: &Cid) -> Result<Option<Bytes>, KeepError> {
-        let answer = reading::block(self.connection.get_mut(), alloc, cid);
+        let answer = reading::block(self.database.get_mut(), alloc, cid);
         self.count(answer)
     }
 
     fn stored(&mut self, cid: &Cid) -> Result<bool, Failed> {
-        let answer = reading::stored(self.connection.get_mut(), cid);
+        let answer = reading::stored(self.database.get_mut(), cid);
         self.count_failed(answer)
     }
 
     fn position(&mut self, cid: &Cid) -> Result<Option<u64>, Failed> {
-        let answer = reading::position(self.connection.get_mut(), cid);
+        let answer = reading::position(self.database.get_mut(), cid);
         self.count_failed(answer)
     }
 
     fn at(&mut self, position: u64) -> Result<Option<Cid>, Failed> {
-        let answer = reading::at(self.connection.get_mut(), position);
+        let answer = reading::at(self.database.get_mut(), position);
         self.count_failed(answer)
     }
 
     fn linked(&mut self, cid: &Cid) -> Result<bool, Failed> {
-        let answer = reading::linked(self.connection.get_mut(), cid);
+        let answer = reading::linked(self.database.get_mut(), cid);
         self.count_failed(answer)
     }
 
     fn heads(&mut self, alloc: Global) -> Result<List<HeadRow>, KeepError> {
-        let answer = reading::heads(self.connection.get_mut(), alloc);
+        let answer = reading::heads(self.database.get_mut(), alloc);
         self.count(answer)
     }
 
     fn live_elements(&mut self, alloc: Global, key: &str) -> Result<List<ElementRow>, KeepError> {
-        let answer = reading::live_elements(self.connection.get_mut(), alloc, key);
+        let answer = reading::live_elements(self.database.get_mut(), alloc, key);
         self.count(answer)
     }
 
     fn hidden(&mut self, key: &str, id: &str) -> Result<bool, Failed> {
-        let answer = reading::hidden(self.connection.get_mut(), key, id);
+        let answer = reading::hidden(self.database.get_mut(), key, id);
         self.count_failed(answer)
     }
 
     fn value(&mut self, alloc: Global, key: &str) -> Result<Option<ValueRow>, KeepError> {
-        let answer = reading::value(self.connection.get_mut(), alloc, key);
+        let answer = reading::value(self.database.get_mut(), alloc, key);
         self.count(answer)
     }
 
     fn holder(&mut self, alloc: Global, key: &str) -> Result<Option<Cid>, KeepError> {
-        let answer = reading::holder(self.connection.get_mut(), alloc, key);
+        let answer = reading::holder(self.database.get_mut(), alloc, key);
         self.count(answer)
     }
 
     fn has(&mut self, key: &str) -> Result<bool, Failed> {
-        let answer = reading::has(self.connection.get_mut(), key);
+        let answer = reading::has(self.database.get_mut(), key);
         self.count_failed(answer)
     }
 
@@ -246,7 +287,7 @@ impl<S: Alter + Drop> Keeper for SqlKeeper<S> {
         inclusive: bool,
         most: u64,
     ) -> Result<List<ValueRow>, KeepError> {
-        let answer = reading::values_from(self.connection.get_mut(), alloc, bound, inclusive, most);
+        let answer = reading::values_from(self.database.get_mut(), alloc, bound, inclusive, most);
         self.count(answer)
     }
 

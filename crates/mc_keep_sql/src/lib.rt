@@ -5,6 +5,7 @@
 mod cells;
 mod changing;
 mod counts;
+mod database;
 mod desk;
 mod file;
 mod keeper;

@@ -1,0 +1,90 @@
+// What a keeper asks of its database.
+use crate::changing;
+use mc_base::Failed;
+use mc_keep::{Changes, KeepError};
+use sqlite::types::ValueRef;
+use sqlite::{Alter, Connection, Error, ErrorCode, File, FileStore, Row};
+use std::rt::HostRuntime;
+
+/// What is done in one transaction.
+#[derive(Clone, Copy)]
+pub enum Work<'a> {
+    /// The tables of an empty file are made.
+    Tables,
+    /// Changes are written, where so many blocks have been marked before.
+    Commit {
+        /// How many blocks have been marked.
+        marks: u64,
+        /// What is written.
+        changes: &'a Changes,
+    },
+}
+
+/// What a keeper asks of its database. A caller over any database knows nothing of the store below it.
+pub trait Database {
+    /// All rows of the answer.
+    fn rows(&mut self, sql: &str, params: &[ValueRef<'_>]) -> Result<Vec<Row>, Failed>;
+
+    /// Does the work in one transaction, and answers how many heads are none any more. Where it fails the work has been
+    /// done wholly or not at all.
+    fn transact(&mut self, work: Work<'_>) -> Result<u64, Failed>;
+}
+
+impl<S: Alter> Database for Connection<S> {
+    fn rows(&mut self, sql: &str, params: &[ValueRef<'_>]) -> Result<Vec<Row>, Failed> {
+        match self.query_all(sql, params) {
+            Ok(rows) => Ok(rows),
+            Err(_) => Err(Failed),
+        }
+    }
+
+    fn transact(&mut self, work: Work<'_>) -> Result<u64, Failed> {
+        changing::transact(self, work)
+    }
+}
+
+/// A connection to a file, as a type without parameters. Where a generic call is given the file's store, the check
+/// compares all that the store promises, which takes it 20 seconds a call; so no other type's calls do that.
+#[derive(Drop)]
+pub struct FileDatabase {
+    connection: Connection<FileStore<File>>,
+}
+
+impl FileDatabase {
+    // Opens the file of the replica with this index in a folder, and makes it where it is not there.
+    pub(crate) fn open(rt: &HostRuntime, dir: &str, index: u64) -> Result<FileDatabase, KeepError> {
+        let letter = letter_of(index);
+        let path = format!(in rt.alloc(); "{dir}/{letter}.db")?;
+        match Connection::open(rt, path.as_str()) {
+            Ok(connection) => Ok(FileDatabase { connection }),
+            Err(Error::SqliteFailure(ErrorCode::OutOfMemory)) => Err(KeepError::Memory),
+            Err(_) => Err(KeepError::Failed),
+        }
+    }
+
+    // Its connection, which stays open.
+    pub(crate) fn into_connection(self) -> Connection<FileStore<File>> {
+        let FileDatabase { connection } = self;
+        connection
+    }
+
+    // Copies the log into the file, and closes both. Where that fails the log stays beside the file, with all commits.
+    pub(crate) fn close(self) {
+        let _ = self.into_connection().close();
+    }
+}
+
+// The letter of the replica with this index.
+fn letter_of(index: u64) -> char {
+    b'a'.saturating_add(index.min(7) as u8) as char
+}
+
+impl Database for FileDatabase {
+    fn rows(&mut self, sql: &str, params: &[ValueRef<'_>]) -> Result<Vec<Row>, Failed> {
+        self.connection.rows(sql, params)
+    }
+
+    fn transact(&mut self, work: Work<'_>) -> Result<u64, Failed> {
+        self.connection.transact(work)
+    }
+}
