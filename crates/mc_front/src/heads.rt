@@ -27,7 +27,7 @@ pub(crate) fn new_heads<K: Keeper>(
         heads ≡ rows_of_heads (processed kept) (cids_in links.now) blocks.now) }
     ensures reads { Reads K.Keeper (is_fault result) keeper.old keeper.new }
 {
-    let mut heads = List::with_capacity(alloc, blocks.len())?;
+    let mut heads = List::new(alloc);
     for block in blocks {
         if !is_led_to(keeper, links, &block.cid)? {
             add(&mut heads, head_of(block))?;

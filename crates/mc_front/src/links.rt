@@ -40,7 +40,7 @@ pub(crate) fn old_heads<K: Keeper>(
     ensures old { IfTold (K.told keeper.old) result (λ kept old. old ≡ filter (is_among kept.order) links.now) }
     ensures reads { Reads K.Keeper (is_fault result) keeper.old keeper.new }
 {
-    let mut old = List::with_capacity(alloc, links.len())?;
+    let mut old = List::new(alloc);
     for link in links {
         if is_processed(keeper, link)? {
             add(&mut old, *link)?;
