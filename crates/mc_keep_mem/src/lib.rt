@@ -14,6 +14,7 @@ mod live;
 mod next;
 mod places;
 mod plan;
+mod spot;
 mod store;
 mod tables;
 mod tombs;

@@ -14,6 +14,7 @@ ghost use Rattle.mc_keep_mem.specs.Values.{row_in, IsCovered};
 use crate::elements::{Elements, Node};
 use crate::holder::place_with;
 use crate::places::{find_key, set_value, value_place};
+use crate::spot::Spot;
 use mc_base::Text;
 use mc_keep::{ValueChange, ValueRow};
 use std::alloc::{AllocError, Global};
@@ -116,7 +117,7 @@ fn place_row<S: BuildHasher + Drop>(
     let Some((number, place)) = place_with(elements, key, row.priority, row.value.as_slice()) else {
         unreachable!();
     };
-    let had = set_value(&mut elements.keys, number, Some(place));
+    let had = set_value(&mut elements.keys, number, Spot::at(place));
     (number, had)
 }
 
@@ -130,7 +131,7 @@ fn remove_row<S: BuildHasher + Drop>(elements: &mut Elements<S>, key: &str)
     ensures keys_spare { spare elements.old.keys ≤ spare elements.new.keys }
 {
     if let Some((number, _)) = find_key(&elements.keys, key) {
-        let _had = set_value(&mut elements.keys, number, None);
+        let _had = set_value(&mut elements.keys, number, Spot::none());
     }
 }
 
