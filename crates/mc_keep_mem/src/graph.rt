@@ -1,6 +1,6 @@
 // The stored blocks, in the order in which they came, and the order of the processed ones, with room for the next
 // commits.
-ghost use Rattle.std.specs.Prelude.{◌≡◌, ◌≤◌, ◌<◌, ◌+◌, [], ◌∷◌, ◌++◌, true, false, length, slice_get};
+ghost use Rattle.std.specs.Prelude.{◌≡◌, ◌≤◌, ◌<◌, ◌+◌, ◌-◌, ◌^◌, [], ◌∷◌, ◌++◌, true, false, length, slice_get};
 ghost use Rattle.std.specs.Prelude.{IfOk, OnOk, Some, cond, fold, vec_len, vec_capacity};
 ghost use Rattle.std.specs.List.{list_all, list_any, position};
 ghost use Rattle.indexmap.specs.IndexMap.{keys, spare};
@@ -11,6 +11,7 @@ ghost use Rattle.mc_model.specs.Front.{same_cid, is_among};
 ghost use Rattle.mc_model.specs.Kept.{bytes_at, is_stored, cids_of};
 ghost use Rattle.mc_keep_mem.specs.Graph.{graph_of, order_of, position_in, IsOrdered};
 
+use crate::spot::Spot;
 use indexmap::IndexMap;
 use mc_base::{Bytes, Cid};
 use mc_keep::Stored;
@@ -20,7 +21,7 @@ use std::alloc::{AllocError, Global};
 #[derive(Debug, Drop)]
 pub(crate) struct BlockRow {
     pub(crate) bytes: Bytes,
-    pub(crate) position: Option<usize>,
+    pub(crate) position: Spot,
 }
 
 /// The stored blocks, and the places of the processed ones among them, in their order.
@@ -60,7 +61,7 @@ fn put_block(graph: &mut Graph, stored: Stored)
     let Stored { cid, bytes } = stored;
     let row = BlockRow {
         bytes,
-        position: None,
+        position: Spot::none(),
     };
     let _none = graph.blocks.insert(cid, row);
 }
@@ -95,7 +96,7 @@ fn process(graph: &mut Graph, cid: &Cid)
     let Some((place, _, row)) = graph.blocks.get_full(cid) else {
         unreachable!();
     };
-    if row.position.is_some() {
+    if row.position.place().is_some() {
         return;
     }
     let position = count_of(&graph.order);
@@ -104,13 +105,15 @@ fn process(graph: &mut Graph, cid: &Cid)
 }
 
 fn count_of(order: &Vec<usize>) -> usize
-    ensures { result ≡ length order.now.items }
+    ensures count { result ≡ length order.now.items }
+    ensures small { result < 2 ^ 64 - 1 }
 {
     order.as_slice().len()
 }
 
 // Gives the block at a place its position in the order.
 fn set_position(blocks: &mut IndexMap<Cid, BlockRow>, place: usize, position: usize)
+    requires small { position < 2 ^ 64 - 1 }
     ensures graph { graph_of blocks.new ≡ graph_of blocks.old }
     ensures keys { keys blocks.new ≡ keys blocks.old }
     ensures positions { (cid : Cid) (row : BlockRow) → slice_get blocks.old.entries place ≡ Some (cid, row) →
@@ -119,7 +122,7 @@ fn set_position(blocks: &mut IndexMap<Cid, BlockRow>, place: usize, position: us
     ensures spare { spare blocks.old ≤ spare blocks.new }
 {
     if let Some(row) = blocks.get_index_mut(place) {
-        row.position = Some(position);
+        row.position = Spot::at(position);
     }
 }
 
@@ -152,7 +155,7 @@ pub(crate) fn position_of(graph: &Graph, cid: &Cid) -> Option<usize>
     ensures { result ≡ position (same_cid cid.now) (order_of graph.now.blocks graph.now.order.items) }
 {
     match graph.blocks.get(cid) {
-        Some(row) => row.position,
+        Some(row) => row.position.place(),
         None => None,
     }
 }

@@ -1,5 +1,5 @@
 // The block of a value is looked for along the rows of its key, from the one that came last.
-ghost use Rattle.std.specs.Prelude.{◌≡◌, true, IfOk, IfSome};
+ghost use Rattle.std.specs.Prelude.{◌≡◌, ◌<◌, ◌-◌, ◌^◌, true, IfOk, IfSome};
 ghost use Rattle.std.specs.Option.{option_and_then, option_map};
 ghost use Rattle.mc_model.specs.Rank.{same_ranked};
 ghost use Rattle.mc_keep_mem.specs.Chains.{row_at, rows_in, row_of_node};
@@ -52,6 +52,7 @@ pub(crate) fn place_with<S: BuildHasher + Drop>(
 ) -> Option<(usize, usize)>
     ensures row { option_and_then (row_at elements.now.nodes.items key.now) (option_map (λ found. found.1) result)
         ≡ row_with (priority, value.now) (rows_in elements.now.nodes.items (last_in elements.now.keys) key.now) }
+    ensures small { IfSome result (λ found. found.1 < 2 ^ 64 - 1) }
     ensures place { IfSome result (λ found. stands_at (texts_in elements.now.keys) key.now found.0 ≡ true) }
 {
     let Some((number, last)) = find_key(&elements.keys, key) else {

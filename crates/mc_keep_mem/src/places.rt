@@ -5,16 +5,17 @@ ghost use Rattle.std.specs.HashMap.{spare, get_by_text};
 ghost use Rattle.std.specs.Str.{bytes_eq};
 ghost use Rattle.mc_keep_mem.specs.Places.{last_in, value_in, texts_in, stands_at, KeepsTexts};
 
+use crate::spot::Spot;
 use indexmap::IndexMap;
 use mc_base::Text;
 use std::alloc::AllocError;
 use std::hash::BuildHasher;
 
 /// Where the rows of a key are: the one that came last, and the one with the key's value, where it has a value.
-#[derive(Clone, Copy, Debug, Drop)]
+#[derive(Debug, Drop)]
 pub(crate) struct Places {
     pub(crate) last: usize,
-    pub(crate) value: Option<usize>,
+    pub(crate) value: Spot,
 }
 
 /// The place of the last row of a key, or none where it has no row. It takes no memory.
@@ -38,7 +39,7 @@ pub(crate) fn value_place<S: BuildHasher>(
     ensures { result ≡ value_in keys.now key.now }
 {
     match keys.get(key) {
-        Some(places) => places.value,
+        Some(places) => places.value.place(),
         None => None,
     }
 }
@@ -99,7 +100,7 @@ fn put_first<S: BuildHasher>(
 {
     let places = Places {
         last: place,
-        value: None,
+        value: Spot::none(),
     };
     let Ok(found) = keys.insert_full(key.into_string(), places) else {
         unreachable!();
@@ -112,7 +113,7 @@ fn put_first<S: BuildHasher>(
 pub(crate) fn set_value<S: BuildHasher>(
     keys: &mut IndexMap<String, Places, S>,
     number: usize,
-    value: Option<usize>,
+    value: Spot,
 ) -> bool
     ensures before { (key : List ℕ) → stands_at (texts_in keys.old) key number ≡ true →
         result ≡ is_some (value_in keys.old key) }
@@ -124,9 +125,9 @@ pub(crate) fn set_value<S: BuildHasher>(
 {
     match keys.get_index_mut(number) {
         Some(places) => {
-            let before = places.value;
+            let had = places.value.place().is_some();
             places.value = value;
-            before.is_some()
+            had
         }
         None => false,
     }

@@ -15,6 +15,7 @@ use crate::elements::{Elements, Node};
 use crate::holder::place_with;
 use crate::order::drop_key;
 use crate::places::{find_key, set_value, value_place};
+use crate::spot::Spot;
 use mc_base::Text;
 use mc_keep::{ValueChange, ValueRow};
 use std::alloc::{AllocError, Global};
@@ -117,7 +118,7 @@ fn place_row<S: BuildHasher + Drop>(
     let Some((number, place)) = place_with(elements, key, row.priority, row.value.as_slice()) else {
         unreachable!();
     };
-    let had = set_value(&mut elements.keys, number, Some(place));
+    let had = set_value(&mut elements.keys, number, Spot::at(place));
     (number, had)
 }
 
@@ -149,7 +150,7 @@ fn drop_value<S: BuildHasher + Drop>(elements: &mut Elements<S>, key: &str)
     ensures keys_spare { spare elements.old.keys ≤ spare elements.new.keys }
 {
     if let Some((number, _)) = find_key(&elements.keys, key) {
-        let _had = set_value(&mut elements.keys, number, None);
+        let _had = set_value(&mut elements.keys, number, Spot::none());
     }
 }
 

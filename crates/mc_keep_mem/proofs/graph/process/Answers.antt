@@ -18,7 +18,7 @@ unreachable-requires c =
 pub returns-then-is_some-clause-order : goal.returns-then-is_some-clause-order
 returns-then-is_some-clause-order c =
     sym (order_with c.args.graph.now.blocks c.args.graph.now.order.items c.args.cid.now true c.args.graph.now.ordered
-    (noted_row c.args.graph.now.blocks c.args.cid.now c.in-Some.row.now c.in-Some.ensures.value ∙ sym c.is_some.ensures ∙ c.if-is_some.true))
+    (noted_row c.args.graph.now.blocks c.args.cid.now c.in-Some.row.now c.in-Some.ensures.value ∙ sym (c.is_some.ensures ∙ ap is_some c.place.ensures) ∙ c.if-is_some.true))
 
 pub invariant_of-graph : goal.invariant_of-graph
 invariant_of-graph c =
@@ -27,13 +27,13 @@ invariant_of-graph c =
     let cid = c.args.cid.now in
     let is : cid ≡ c.in-Some.field-0-1.now = stored_key blocks cid c.in-Some.place c.in-Some.field-0-1.now c.in-Some.row.now c.in-Some.ensures.index c.in-Some.ensures.entry in
     let at : slice_get (keys blocks) c.in-Some.place ≡ Some cid = key_at blocks c.in-Some.place c.in-Some.field-0-1.now c.in-Some.row.now c.in-Some.ensures.entry ∙ ap (λ (z : Cid). Some z) (sym is) in
-    let free : is_some (position_in blocks cid) ≡ false = noted_row blocks cid c.in-Some.row.now c.in-Some.ensures.value ∙ sym c.is_some.ensures ∙ c.if-is_some.false in
+    let free : is_some (position_in blocks cid) ≡ false = noted_row blocks cid c.in-Some.row.now c.in-Some.ensures.value ∙ sym (c.is_some.ensures ∙ ap is_some c.place.ensures) ∙ c.if-is_some.false in
     record {
       ordered = subst (λ z. IsOrdered c.set_position.new.blocks z) (sym c.push_reserved.ensures.items)
           (ordered_set blocks c.set_position.new.blocks cid c.in-Some.place order c.set_position.ensures.keys at c.args.graph.now.ordered (none_there (position_in blocks cid) free)
           (λ other. c.set_position.ensures.positions c.in-Some.field-0-1.now c.in-Some.row.now c.in-Some.ensures.entry other
           ∙ ap (λ (z : Cid). cond (same_cid other z) (Some c.count_of-position.result) (position_in blocks other)) (sym is)
-          ∙ ap (λ (z : ℕ). cond (same_cid other cid) (Some z) (position_in blocks other)) c.count_of-position.ensures));
+          ∙ ap (λ (z : ℕ). cond (same_cid other cid) (Some z) (position_in blocks other)) c.count_of-position.ensures.count));
     }
 
 pub returns-clause-order : goal.returns-clause-order
@@ -43,7 +43,7 @@ returns-clause-order c =
     let cid = c.args.cid.now in
     let is : cid ≡ c.in-Some.field-0-1.now = stored_key blocks cid c.in-Some.place c.in-Some.field-0-1.now c.in-Some.row.now c.in-Some.ensures.index c.in-Some.ensures.entry in
     let at : slice_get (keys blocks) c.in-Some.place ≡ Some cid = key_at blocks c.in-Some.place c.in-Some.field-0-1.now c.in-Some.row.now c.in-Some.ensures.entry ∙ ap (λ (z : Cid). Some z) (sym is) in
-    let free : is_some (position_in blocks cid) ≡ false = noted_row blocks cid c.in-Some.row.now c.in-Some.ensures.value ∙ sym c.is_some.ensures ∙ c.if-is_some.false in
+    let free : is_some (position_in blocks cid) ≡ false = noted_row blocks cid c.in-Some.row.now c.in-Some.ensures.value ∙ sym (c.is_some.ensures ∙ ap is_some c.place.ensures) ∙ c.if-is_some.false in
     ap (order_of c.set_position.new.blocks) c.push_reserved.ensures.items
     ∙ order_set blocks c.set_position.new.blocks cid c.in-Some.place order c.set_position.ensures.keys at
     ∙ sym (order_with blocks order cid false c.args.graph.now.ordered free)

@@ -6,15 +6,15 @@ use Rattle.mc_keep_mem.proofs.OrderFacts.{graph_kept, position_set, row_at_place
 use Rattle.mc_keep_mem.proofs.graph.set_position.Goals as goal
 
 pub returns-in-Some-clause-keys : goal.returns-in-Some-clause-keys
-returns-in-Some-clause-keys c = keys-with_value_at c.args.blocks.now c.args.place (record { bytes = c.in-Some.row.now.bytes; position = Some c.args.position })
+returns-in-Some-clause-keys c = keys-with_value_at c.args.blocks.now c.args.place (record { bytes = c.in-Some.row.now.bytes; position = c.at-row.result })
 
 pub returns-in-Some-clause-graph : goal.returns-in-Some-clause-graph
-returns-in-Some-clause-graph c = graph_kept c.args.blocks.now.entries c.args.place c.in-Some.row.now (record { bytes = c.in-Some.row.now.bytes; position = Some c.args.position }) (sym c.in-Some.ensures.value) refl
+returns-in-Some-clause-graph c = graph_kept c.args.blocks.now.entries c.args.place c.in-Some.row.now (record { bytes = c.in-Some.row.now.bytes; position = c.at-row.result }) (sym c.in-Some.ensures.value) refl
 
 pub returns-in-Some-clause-positions : goal.returns-in-Some-clause-positions
 returns-in-Some-clause-positions c = λ cid row at.
-    let new : BlockRow = record { bytes = c.in-Some.row.now.bytes; position = Some c.args.position } in
-    position_set c.args.blocks.now (with_value_at c.args.blocks.now c.args.place new) cid new c.args.position refl
+    let new : BlockRow = record { bytes = c.in-Some.row.now.bytes; position = c.at-row.result } in
+    position_set c.args.blocks.now (with_value_at c.args.blocks.now c.args.place new) cid new c.args.position c.at-row.ensures
     (updates-with_value_at c.args.blocks.now c.args.place new same_cid_equiv c.in-Some.ensures.unique cid row at).0
 
 pub returns-in_default-clause-positions : goal.returns-in_default-clause-positions

@@ -9,7 +9,7 @@ pub returns-in-Some-clause-before : goal.returns-in-Some-clause-before
 returns-in-Some-clause-before g c = λ key named.
     let old : Places = c.in-Some.places.now in
     let new : Places = record { last = old.last; value = c.args.value } in
-    c.is_some.ensures ∙ sym (ap is_some (value_was c.args.keys.now c.args.number old new c.in-Some.ensures.unique (sym c.in-Some.ensures.value) key named))
+    c.is_some-had.ensures ∙ ap is_some c.place.ensures ∙ sym (ap is_some (value_was c.args.keys.now c.args.number old new c.in-Some.ensures.unique (sym c.in-Some.ensures.value) key named))
 
 pub returns-in-Some-clause-lasts : goal.returns-in-Some-clause-lasts
 returns-in-Some-clause-lasts g c =

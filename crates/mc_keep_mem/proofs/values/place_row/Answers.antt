@@ -1,5 +1,6 @@
-use Rattle.std.proofs.Common.{◌≡◌, ◌∙◌, Some, refl, ap, List}
+use Rattle.std.proofs.Common.{◌≡◌, ◌∙◌, Some, cond, refl, ap, List, ℕ}
 use Rattle.std.specs.Prelude.{is_some}
+use Rattle.std.specs.Str.{bytes_eq}
 use Rattle.mc_model.specs.Rank.{Ranked}
 use Rattle.mc_keep.specs.declared.rows.ElementRow.{ElementRow}
 use Rattle.mc_keep_mem.specs.Chains.{row_at, rows_in}
@@ -17,7 +18,9 @@ returns-clause-rows g c =
     let rows : List ElementRow = rows_in nodes (last_in c.args.elements.now.keys) c.args.key.now in
     let found : row_at nodes c.args.key.now c.in-Some.place ≡ row_with ranked rows =
     rw c.as_slice.ensures at c.in-Some.ensures.row in
-    row_set nodes (value_in c.args.elements.now.keys) (value_in c.set_value-had.new.keys) c.args.key.now c.in-Some.place ranked rows found c.requires.brought (c.set_value-had.ensures.values c.args.key.now c.in-Some.ensures.place)
+    let placed : (other : List ℕ) → value_in c.set_value-had.new.keys other ≡ cond (bytes_eq c.args.key.now other) (Some c.in-Some.place) (value_in c.args.elements.now.keys other) =
+    λ other. c.set_value-had.ensures.values c.args.key.now c.in-Some.ensures.place other ∙ ap (λ z. cond (bytes_eq c.args.key.now other) z (value_in c.args.elements.now.keys other)) c.at.ensures in
+    row_set nodes (value_in c.args.elements.now.keys) (value_in c.set_value-had.new.keys) c.args.key.now c.in-Some.place ranked rows found c.requires.brought placed
 
 pub returns-clause-backed : goal.returns-clause-backed
 returns-clause-backed g c = λ hidden backed.
@@ -28,6 +31,8 @@ returns-clause-backed g c = λ hidden backed.
     let rows : List ElementRow = rows_in nodes lasts c.args.key.now in
     let found : row_at nodes c.args.key.now c.in-Some.place ≡ row_with ranked rows =
     rw c.as_slice.ensures at c.in-Some.ensures.row in
+    let placed : (other : List ℕ) → value_in c.set_value-had.new.keys other ≡ cond (bytes_eq c.args.key.now other) (Some c.in-Some.place) (value_in c.args.elements.now.keys other) =
+    λ other. c.set_value-had.ensures.values c.args.key.now c.in-Some.ensures.place other ∙ ap (λ z. cond (bytes_eq c.args.key.now other) z (value_in c.args.elements.now.keys other)) c.at.ensures in
     backed_same hidden hidden nodes nodes lasts (last_in c.set_value-had.new.keys) values values (λ key id. refl) refl (same_rows nodes nodes lasts (last_in c.set_value-had.new.keys) refl c.set_value-had.ensures.lasts) (λ key. refl)
-    (backed_set hidden nodes lasts (value_in c.args.elements.now.keys) values c.args.key.now (Some c.in-Some.place) (c.set_value-had.ensures.values c.args.key.now c.in-Some.ensures.place)
+    (backed_set hidden nodes lasts (value_in c.args.elements.now.keys) values c.args.key.now (Some c.in-Some.place) placed
     (found_stands (hidden c.args.key.now) ranked rows (row_at nodes c.args.key.now c.in-Some.place) found (ap is_some found ∙ c.requires.brought)) backed)

@@ -1,0 +1,43 @@
+// A place in a table, or none, in one word, where an `Option` takes two.
+ghost use Rattle.std.specs.Prelude.{◌≡◌, ◌<◌, ◌-◌, ◌^◌, None, Some};
+
+use std::marker::Model;
+
+/// A place, or none. It is kept as the number after the place, and 0 where there is none.
+#[derive(Debug, Drop)]
+pub(crate) struct Spot {
+    after: usize,
+}
+
+impl Model for Spot {
+    ghost use Rattle.std.specs.Prelude.{ℕ, nat_eq, cond, ◌-◌, None, Some};
+    ghost use Rattle.std.specs.Prelude as prelude;
+
+    ghost Value = { prelude.Option ℕ };
+
+    ghost view = { λ spot. cond (nat_eq spot.after 0) None (Some (spot.after - 1)) };
+}
+
+impl Spot {
+    pub(crate) fn none() -> Spot
+        ensures { result ≡ None }
+    {
+        Spot { after: 0 }
+    }
+
+    pub(crate) fn at(place: usize) -> Spot
+        requires small { place < 2 ^ 64 - 1 }
+        ensures { result ≡ Some place }
+    {
+        Spot { after: place + 1 }
+    }
+
+    pub(crate) fn place(&self) -> Option<usize>
+        ensures { result ≡ self.now }
+    {
+        if self.after == 0 {
+            return None;
+        }
+        Some(self.after - 1)
+    }
+}
