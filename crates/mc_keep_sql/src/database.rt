@@ -44,8 +44,8 @@ impl<S: Alter> Database for Connection<S> {
 }
 
 /// A connection to a file, as a type without parameters. Where a generic call is given the file's store, the check
-/// compares all that the store promises, which takes it 20 seconds a call; so no other type's calls do that.
-#[derive(Drop)]
+/// compares all that the store promises, which takes it 20 seconds a call; so no other type's calls do that. Dropping
+/// it writes nothing.
 pub struct FileDatabase {
     connection: Connection<FileStore<File>>,
 }
@@ -71,6 +71,13 @@ impl FileDatabase {
     // Copies the log into the file, and closes both. Where that fails the log stays beside the file, with all commits.
     pub(crate) fn close(self) {
         let _ = self.into_connection().close();
+    }
+}
+
+// It writes nothing: the log stays beside the file.
+impl Drop for FileDatabase {
+    fn drop(self) {
+        let _ = self.into_connection().into_store().close();
     }
 }
 
