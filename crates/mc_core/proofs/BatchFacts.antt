@@ -41,25 +41,25 @@ told_batch (Some kept) fuse stop run after up =
     subst (λ b. Goes (Batch after ∷ []) (at kept fuse (run_of b run)) (at kept fuse (run_of b (with_batch run after)))) (sym up) (batch_goes kept fuse run after)
 
 -- a call that changes the batch, after reads
-pub batch_call : {T : Type 0} (Refusal : ReplicaState → Option CoreError → Type 0) (Uptake : ReplicaState → List Event → T → Type 0) (told told_new : Option Kept) (fuse fuse_new : Option Fuse) (stop : Bool) (run : Running) (after : Option OpenBatch) (rose : Type 0) (value : T)
+pub batch_call : {T : Type 0} (Refusal : ReplicaState → Option CoreError → Type 0) (Makes : ReplicaState → List Event → T → Type 0) (told told_new : Option Kept) (fuse fuse_new : Option Fuse) (stop : Bool) (run : Running) (after : Option OpenBatch) (rose : Type 0) (value : T)
     → stop ≡ false → told_new ≡ told → fuse_new ≡ fuse
-    → IfSome told (λ kept. Refusal (at kept fuse (run_of false run)) None × Uptake (at kept fuse (run_of false run)) (Batch after ∷ []) value)
-    → Told (state_of told fuse (run_of stop run)) (state_of told_new fuse_new (run_of stop (with_batch run after))) (Calls Refusal Uptake rose (Ok value))
-batch_call Refusal Uptake None told_new fuse fuse_new stop run after rose value up e f uptake = tt
-batch_call Refusal Uptake (Some kept) told_new fuse fuse_new stop run after rose value up e f uptake =
-    subst (λ t. Told (state_of (Some kept) fuse (run_of stop run)) (state_of t fuse_new (run_of stop (with_batch run after))) (Calls Refusal Uptake rose (Ok value))) (sym e)
-    (subst (λ x. Calls Refusal Uptake rose (Ok value) (at kept fuse (run_of stop run)) (at kept x (run_of stop (with_batch run after)))) (sym f)
-    (subst (λ b. Calls Refusal Uptake rose (Ok value) (at kept fuse (run_of b run)) (at kept fuse (run_of b (with_batch run after)))) (sym up)
-    (record { allowed = uptake.0; events = Batch after ∷ []; uptake = uptake.1; goes = batch_goes kept fuse run after })))
+    → IfSome told (λ kept. Refusal (at kept fuse (run_of false run)) None × Makes (at kept fuse (run_of false run)) (Batch after ∷ []) value)
+    → Told (state_of told fuse (run_of stop run)) (state_of told_new fuse_new (run_of stop (with_batch run after))) (Calls Refusal Makes rose (Ok value))
+batch_call Refusal Makes None told_new fuse fuse_new stop run after rose value up e f uptake = tt
+batch_call Refusal Makes (Some kept) told_new fuse fuse_new stop run after rose value up e f uptake =
+    subst (λ t. Told (state_of (Some kept) fuse (run_of stop run)) (state_of t fuse_new (run_of stop (with_batch run after))) (Calls Refusal Makes rose (Ok value))) (sym e)
+    (subst (λ x. Calls Refusal Makes rose (Ok value) (at kept fuse (run_of stop run)) (at kept x (run_of stop (with_batch run after)))) (sym f)
+    (subst (λ b. Calls Refusal Makes rose (Ok value) (at kept fuse (run_of b run)) (at kept fuse (run_of b (with_batch run after)))) (sym up)
+    (record { allowed = uptake.0; events = Batch after ∷ []; makes = uptake.1; goes = batch_goes kept fuse run after })))
 
 -- a call that ended early, with the batch as it was
-pub early_batch : {T : Type 0} (Refusal : ReplicaState → Option CoreError → Type 0) (Uptake : ReplicaState → List Event → T → Type 0) (told told_new : Option Kept) (fuse fuse_new : Option Fuse) (stop stop_new : Bool) (run : Running) (after : Option OpenBatch) (rose : Type 0) (error : CoreError)
+pub early_batch : {T : Type 0} (Refusal : ReplicaState → Option CoreError → Type 0) (Makes : ReplicaState → List Event → T → Type 0) (told told_new : Option Kept) (fuse fuse_new : Option Fuse) (stop stop_new : Bool) (run : Running) (after : Option OpenBatch) (rose : Type 0) (error : CoreError)
     → after ≡ run.batch → stop ≡ false → told_new ≡ told → fuse_new ≡ fuse → stop_new ≡ stops error false → (is_fault_kind (kind_of error) ≡ true → rose)
     → IfSome told (λ kept. IsDue (Refusal (at kept fuse (run_of false run))) error)
-    → Told (state_of told fuse (run_of stop run)) (state_of told_new fuse_new (run_of stop_new (with_batch run after))) (Calls Refusal Uptake rose (Err error))
-early_batch Refusal Uptake told told_new fuse fuse_new stop stop_new run after rose error same up e f g r due =
-    subst (λ b. Told (state_of told fuse (run_of stop run)) (state_of told_new fuse_new (run_of stop_new (with_batch run b))) (Calls Refusal Uptake rose (Err error))) (sym same)
-    (early_call Refusal Uptake told told_new fuse fuse_new stop stop_new run rose error up e f g r due)
+    → Told (state_of told fuse (run_of stop run)) (state_of told_new fuse_new (run_of stop_new (with_batch run after))) (Calls Refusal Makes rose (Err error))
+early_batch Refusal Makes told told_new fuse fuse_new stop stop_new run after rose error same up e f g r due =
+    subst (λ b. Told (state_of told fuse (run_of stop run)) (state_of told_new fuse_new (run_of stop_new (with_batch run b))) (Calls Refusal Makes rose (Err error))) (sym same)
+    (early_call Refusal Makes told told_new fuse fuse_new stop stop_new run rose error up e f g r due)
 
 none_after : (first second : Option CoreError) → first ≡ None → second ≡ None → None ≡ option_or first second
 none_after first second e f = sym (ap (λ x. option_or x second) e ∙ f)

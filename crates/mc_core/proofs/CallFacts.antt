@@ -22,16 +22,16 @@ abbrev pub at : Kept → Option Fuse → Option Running → ReplicaState
 at kept fuse run = record { state = record { durable = durable_of kept; run = run }; fuse = fuse }
 
 -- a fault before the first commit
-pub nothing_done : {T : Type 0} (Uptake : List Event → T → Type 0) (rose : Type 0) (s : ReplicaState) → rose → Faults Uptake rose s (stopped s)
-nothing_done Uptake rose s r = record {
+pub nothing_done : {T : Type 0} (Makes : List Event → T → Type 0) (rose : Type 0) (s : ReplicaState) → rose → Faults Makes rose s (stopped s)
+nothing_done Makes rose s r = record {
   events = [];
   begins = inl refl;
   breaks = record { so_far = []; rest = []; split = refl; may = tt; fate = (r, refl) };
 }
 
-module _ {T : Type 0} (Refusal : ReplicaState → Option CoreError → Type 0) (Uptake : ReplicaState → List Event → T → Type 0) where
+module _ {T : Type 0} (Refusal : ReplicaState → Option CoreError → Type 0) (Makes : ReplicaState → List Event → T → Type 0) where
   abbrev pub Calls : Type 0 → Result T CoreError → ReplicaState → ReplicaState → Type 0
-  Calls rose result s new = Call (Refusal s) (Uptake s) (λ left. left ≡ s) rose result s new
+  Calls rose result s new = Call (Refusal s) (Makes s) (λ left. left ≡ s) rose result s new
 
   -- a call on a replica that has stopped
   pub stopped_call : (told : Option Kept) (fuse : Option Fuse) (stop : Bool) (run : Running) (rose : Type 0) → stop ≡ true
@@ -43,13 +43,13 @@ module _ {T : Type 0} (Refusal : ReplicaState → Option CoreError → Type 0) (
 
   -- what such an error leaves of a running replica
   abbrev Ends : Kind → CoreError → Type 0 → ReplicaState → ReplicaState → Type 0
-  Ends kind error rose s new = ByKind (IsRefused (Refusal s) error s new) (Faults (Uptake s) rose s new) (new ≡ s) kind
+  Ends kind error rose s new = ByKind (IsRefused (Refusal s) error s new) (Faults (Makes s) rose s new) (new ≡ s) kind
 
   early : (kind : Kind) (error : CoreError) (rose : Type 0) (kept : Kept) (fuse : Option Fuse) (run : Running) → (is_fault_kind kind ≡ true → rose)
       → ByKind (Refusal (at kept fuse (run_of false run)) (Some error)) ⊤ ⊤ kind
       → Ends kind error rose (at kept fuse (run_of false run)) (at kept fuse (run_of (is_fault_kind kind || false) run))
   early Refused error rose kept fuse run r due = (due, refl)
-  early Fault error rose kept fuse run r due = nothing_done (Uptake (at kept fuse (run_of false run))) rose (at kept fuse (run_of false run)) (r refl)
+  early Fault error rose kept fuse run r due = nothing_done (Makes (at kept fuse (run_of false run))) rose (at kept fuse (run_of false run)) (r refl)
   early Shortage error rose kept fuse run r due = refl
 
   -- a call that ended before its first commit
@@ -65,9 +65,9 @@ module _ {T : Type 0} (Refusal : ReplicaState → Option CoreError → Type 0) (
       (subst (λ b. Calls rose (Err error) (at kept fuse (run_of b run)) (at kept fuse (run_of (stops error false) run))) (sym up)
       (early (kind_of error) error rose kept fuse run r due))))
 
-  part_is : (events : List Event) (value : T) (rose : Type 0) (result : Result T CoreError) (s new : ReplicaState) → Refusal s None → Uptake s events value
+  part_is : (events : List Event) (value : T) (rose : Type 0) (result : Result T CoreError) (s new : ReplicaState) → Refusal s None → Makes s events value
       → IfOk result (λ answer. answer ≡ value) → IfErr result (λ error. error ≡ KeeperFault) → Part events rose result s new → Calls rose result s new
-  part_is events value rose (Ok answer) s new allowed uptake is only part = record { allowed = allowed; events = events; uptake = subst (Uptake s events) (sym is) uptake; goes = part }
+  part_is events value rose (Ok answer) s new allowed uptake is only part = record { allowed = allowed; events = events; makes = subst (Makes s events) (sym is) uptake; goes = part }
   part_is events value rose (Err error) s new allowed uptake is only part =
       subst (λ e. Calls rose (Err e) s new) (sym only) (record { events = events; begins = inr (value, uptake); breaks = part })
 
@@ -78,7 +78,7 @@ module _ {T : Type 0} (Refusal : ReplicaState → Option CoreError → Type 0) (
   -- a call that is this part, after reads
   pub part_call : (told mid : Option Kept) (fuse fuse_mid : Option Fuse) (stop : Bool) (run : Running) (new : Option ReplicaState) (own own_mid own_new : ℕ)
       (events : List Event) (value : T) (result : Result T CoreError) → stop ≡ false → mid ≡ told → fuse_mid ≡ fuse → own ≤ own_mid
-      → IfSome told (λ kept. Refusal (at kept fuse (run_of false run)) None × Uptake (at kept fuse (run_of false run)) events value)
+      → IfSome told (λ kept. Refusal (at kept fuse (run_of false run)) None × Makes (at kept fuse (run_of false run)) events value)
       → IfOk result (λ answer. answer ≡ value) → IfErr result (λ error. error ≡ KeeperFault)
       → Told (state_of mid fuse_mid (run_of stop run)) new (λ s after. Part events (Rose own_mid own_new) result s after)
       → Told (state_of told fuse (run_of stop run)) new (Calls (Rose own own_new) result)
@@ -101,14 +101,14 @@ module _ {T : Type 0} (Refusal : ReplicaState → Option CoreError → Type 0) (
   -- a call that only reads
   pub read_call : (told told_new : Option Kept) (fuse fuse_new : Option Fuse) (stop : Bool) (run : Running) (rose : Type 0) (value : T)
       → stop ≡ false → told_new ≡ told → fuse_new ≡ fuse
-      → IfSome told (λ kept. Refusal (at kept fuse (run_of false run)) None × Uptake (at kept fuse (run_of false run)) [] value)
+      → IfSome told (λ kept. Refusal (at kept fuse (run_of false run)) None × Makes (at kept fuse (run_of false run)) [] value)
       → Told (state_of told fuse (run_of stop run)) (state_of told_new fuse_new (run_of stop run)) (Calls rose (Ok value))
   read_call None told_new fuse fuse_new stop run rose value up e f uptake = tt
   read_call (Some kept) told_new fuse fuse_new stop run rose value up e f uptake =
       subst (λ t. Told (state_of (Some kept) fuse (run_of stop run)) (state_of t fuse_new (run_of stop run)) (Calls rose (Ok value))) (sym e)
       (subst (λ x. Calls rose (Ok value) (at kept fuse (run_of stop run)) (at kept x (run_of stop run))) (sym f)
       (subst (λ b. Calls rose (Ok value) (at kept fuse (run_of b run)) (at kept fuse (run_of b run))) (sym up)
-      (record { allowed = uptake.0; events = []; uptake = uptake.1; goes = goes_nowhere (at kept fuse (run_of false run)) })))
+      (record { allowed = uptake.0; events = []; makes = uptake.1; goes = goes_nowhere (at kept fuse (run_of false run)) })))
 
 -- a call that only reads, whose answer is this over what is kept
 pub answers_call : {T : Type 0} (back : (kept : Kept) → kept_of (durable_of kept) ≡ kept) (P : Kept → T → Type 0) (told told_new : Option Kept) (fuse fuse_new : Option Fuse) (stop : Bool) (run : Running) (rose : Type 0) (value : T)

@@ -69,7 +69,7 @@ call_of durable run fuse key blocks rose (Ok deleted) new good is takes = record
   allowed = subst (λ fault. DeleteKeptRefusal (kept_of durable) key fault None) (sym good)
       (inl (is.deltas, is.is, sym (chain_none is.deltas blocks (kept_of durable) (next_links (kept_of durable)) is.are)));
   events = all_events (kept_of durable) blocks;
-  uptake = uptake_is durable run fuse key blocks deleted is takes.1;
+  makes = uptake_is durable run fuse key blocks deleted is takes.1;
   goes = takes.0;
 }
 call_of durable run fuse key blocks rose (Err error) new good is takes =

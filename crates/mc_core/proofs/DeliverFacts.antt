@@ -69,7 +69,7 @@ module _ (told told_new : Option Kept) (fuse fuse_new : Option Fuse) (stop : Boo
       (becomes (Calls cid found rose (Ok Known)) told told_new fuse fuse_new stop false run run up same same_fuse (told_always told _ (λ kept. record {
         allowed = refl;
         events = [];
-        uptake = subst (λ t. DeliversIn t (durable_of kept) cid found [] Known) (sym out) (refl, refl);
+        makes = subst (λ t. DeliversIn t (durable_of kept) cid found [] Known) (sym out) (refl, refl);
         goes = goes_nowhere (at kept fuse (Some run));
       })))
 
@@ -83,7 +83,7 @@ module _ (told told_new : Option Kept) (fuse fuse_new : Option Fuse) (stop : Boo
         (becomes (Calls cid found rose (Ok answer)) told told_new fuse fuse_new stop false run (with_queue run q) up same same_fuse (told_always told _ (λ kept. record {
           allowed = refl;
           events = delivery (durable_of kept).graph cid found;
-          uptake = subst (λ t. DeliversIn t (durable_of kept) cid found (delivery (durable_of kept).graph cid found) answer) (sym there) (refl, is kept);
+          makes = subst (λ t. DeliversIn t (durable_of kept) cid found (delivery (durable_of kept).graph cid found) answer) (sym there) (refl, is kept);
           goes = goes kept;
         })))
 
@@ -142,7 +142,7 @@ arrival_call law told mid fuse fuse_mid stop run new cid bytes block arrival own
         → DeliverEvents (at kept fuse (Some run)) cid (Some bytes) (uptake_events arrival.uptake) (Processed arrival.position)
         → TakesArrival arrival.uptake (Rose own_mid own_new) result (at kept fuse (Some run)) after → Calls cid (Some bytes) (Rose own own_new) result (at kept fuse (Some run)) after
     ends kept after (Ok answer) says uptake takes =
-        record { allowed = refl; events = uptake_events arrival.uptake; uptake = subst (DeliverEvents (at kept fuse (Some run)) cid (Some bytes) (uptake_events arrival.uptake)) (sym says) uptake; goes = takes }
+        record { allowed = refl; events = uptake_events arrival.uptake; makes = subst (DeliverEvents (at kept fuse (Some run)) cid (Some bytes) (uptake_events arrival.uptake)) (sym says) uptake; goes = takes }
     ends kept after (Err error) says uptake takes =
         by_kind (kind_of error) (λ never. absurd never)
         (λ breaks. record {

@@ -47,8 +47,8 @@ module _ (goes_on : (bytes_of : FoundBytes) (kept : List Cid) (old : Durable) (s
   back_drains bytes_of c s new goes = goes_drains bytes_of (GiveBack c ∷ []) s new (takes_back bytes_of c s.state.durable s.state.run goes.may.0, tt) goes
 
   pub next_drains : (bytes_of : FoundBytes) (rose : Type 0) (result : Result (Option Job) CoreError) (s new : ReplicaState) → Call (Is (read_refusal s)) (NextEvents s) (NextShort s) rose result s new → CallDrains bytes_of result s new
-  next_drains bytes_of rose (Ok None) s new call = goes_drains bytes_of [] s new tt (subst (λ events. Goes events s new) call.uptake.1 call.goes)
-  next_drains bytes_of rose (Ok (Some job)) s new call = want_drains bytes_of s new (subst (λ events. Goes events s new) call.uptake.2 call.goes)
+  next_drains bytes_of rose (Ok None) s new call = goes_drains bytes_of [] s new tt (subst (λ events. Goes events s new) call.makes.1 call.goes)
+  next_drains bytes_of rose (Ok (Some job)) s new call = want_drains bytes_of s new (subst (λ events. Goes events s new) call.makes.2 call.goes)
   next_drains bytes_of rose (Err error) s new call =
       by_kind (kind_of error) (λ refused. stays_drains bytes_of s new refused.1) (λ fault. tt)
       (λ short. goes_drains bytes_of (Want ∷ GiveBack short.0 ∷ []) s new
@@ -97,6 +97,6 @@ module _ (goes_on : (bytes_of : FoundBytes) (kept : List Cid) (old : Durable) (s
     pub deliver_drains : (bytes_of : FoundBytes) (c : Cid) (found : Option (List ℕ)) (rose : Type 0) (result : Result Delivered CoreError) (s new : ReplicaState) → IsFoundFor bytes_of c found
         → Call (Is (read_refusal s)) (DeliverEvents s c found) (DeliverShort s c) rose result s new → CallDrains bytes_of result s new
     deliver_drains bytes_of c found rose (Ok answer) s new fits call =
-        goes_drains bytes_of call.events s new (takes_delivery bytes_of c found s.state.durable s.state.run call.events answer fits call.uptake) call.goes
+        goes_drains bytes_of call.events s new (takes_delivery bytes_of c found s.state.durable s.state.run call.events answer fits call.makes) call.goes
     deliver_drains bytes_of c found rose (Err error) s new fits call =
         by_kind (kind_of error) (λ refused. stays_drains bytes_of s new refused.1) (λ fault. tt) (λ short. back_drains bytes_of c s new short.1) call

@@ -138,7 +138,7 @@ hear_call (Some kept) told_new fuse fuse_new false run left rose text new heard 
     (record {
       allowed = sym allowed;
       events = Hear names.cids ∷ [];
-      uptake = record { cids = names.cids; named = names.named; only = refl; queued = subst (λ (r : Queue). IsQueued run.queue r heard.queued) whole queued };
+      makes = record { cids = names.cids; named = names.named; only = refl; queued = subst (λ (r : Queue). IsQueued run.queue r heard.queued) whole queued };
       goes = record { may = (tt, refl, tt); ends = ap (λ (r : Queue). at kept fuse (Some (heard_run run r))) whole };
     }))
 

@@ -177,7 +177,7 @@ begin_call back told told_new fuse fuse_new stop run q cid own rose up e f first
     (becomes (NextCalls rose (Ok (Some (record { cid = cid; own = own })))) told told_new fuse fuse_new stop false run (with_queue run q) up e f (told_with told row (λ kept at_row. record {
       allowed = refl;
       events = Want ∷ [];
-      uptake = (first, at_row ∙ ap (λ (k : Kept). bytes_at k.graph cid) (sym (back kept)), refl);
+      makes = (first, at_row ∙ ap (λ (k : Kept). bytes_at k.graph cid) (sym (back kept)), refl);
       goes = subst (λ r. Goes (Want ∷ []) (at kept fuse (Some run)) (at kept fuse (Some (with_queue run r)))) (sym is) (want_goes kept fuse run (some_waits run.queue cid first));
     })))
 
@@ -227,18 +227,18 @@ pub short_wants : (q left : Queue) (c : Cid) → first_of q.waiting ≡ Some c �
 short_wants q left c first is = retried q c left first is ∙ tried q q.waiting c first
 
 -- what is told of it stays sound where a call's events are known
-pub call_sound : {T : Type 0} (Refusal : ReplicaState → Option CoreError → Type 0) (Uptake : ReplicaState → List Event → T → Type 0) (Short : ReplicaState → ReplicaState → Type 0) (rose : Type 0) (result : Result T CoreError)
+pub call_sound : {T : Type 0} (Refusal : ReplicaState → Option CoreError → Type 0) (Makes : ReplicaState → List Event → T → Type 0) (Short : ReplicaState → ReplicaState → Type 0) (rose : Type 0) (result : Result T CoreError)
     → ((s left : ReplicaState) → Short s left → IsSound s.state → IsSound left.state) → (told told_new : Option Kept) (fuse fuse_new : Option Fuse) (stop stop_new : Bool) (run run_new : Running) → (told ≡ None → told_new ≡ None)
-    → Told (state_of told fuse (run_of stop run)) (state_of told_new fuse_new (run_of stop_new run_new)) (λ s new. Call (Refusal s) (Uptake s) (Short s) rose result s new) → AreSound stop told run → AreSound stop_new told_new run_new
-call_sound Refusal Uptake Short rose result short told told_new fuse fuse_new stop stop_new run run_new silent call sound =
-    told_sound (λ s new. Call (Refusal s) (Uptake s) (Short s) rose result s new) told told_new fuse fuse_new stop stop_new run run_new (over result) silent call sound
+    → Told (state_of told fuse (run_of stop run)) (state_of told_new fuse_new (run_of stop_new run_new)) (λ s new. Call (Refusal s) (Makes s) (Short s) rose result s new) → AreSound stop told run → AreSound stop_new told_new run_new
+call_sound Refusal Makes Short rose result short told told_new fuse fuse_new stop stop_new run run_new silent call sound =
+    told_sound (λ s new. Call (Refusal s) (Makes s) (Short s) rose result s new) told told_new fuse fuse_new stop stop_new run run_new (over result) silent call sound
   where
-    over : (result : Result _ CoreError) (s new : ReplicaState) → Call (Refusal s) (Uptake s) (Short s) rose result s new → IsSound s.state → IsSound new.state
+    over : (result : Result _ CoreError) (s new : ReplicaState) → Call (Refusal s) (Makes s) (Short s) rose result s new → IsSound s.state → IsSound new.state
     over (Ok value) s new does good = goes_sound does.events s new does.goes good
     over (Err error) s new ends good =
         ends_sound (kind_of error) ends
       where
-        ends_sound : (kind : Kind) → ByKind (IsRefused (Refusal s) error s new) (Faults (Uptake s) rose s new) (Short s new) kind → IsSound new.state
+        ends_sound : (kind : Kind) → ByKind (IsRefused (Refusal s) error s new) (Faults (Makes s) rose s new) (Short s new) kind → IsSound new.state
         ends_sound Refused p = subst (λ (x : ReplicaState). IsSound x.state) (sym p.1) good
         ends_sound Fault p = breaks_sound p.events rose s new p.breaks good
         ends_sound Shortage p = short s new p good

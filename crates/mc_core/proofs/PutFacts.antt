@@ -20,7 +20,7 @@ use Rattle.mc_core.proofs.CallFacts.{at}
 abbrev pub BackLaw : Type 0
 BackLaw = (kept : Kept) → kept_of (durable_of kept) ≡ kept
 
--- the events of a uptake are those of its block
+-- the events of an uptake are those of its block
 pub plan_is_made : (kept : Kept) (whole : Bool) (links : List Cid) (delta : Delta) (planned : Planned) → IsPlanned kept whole links delta planned → uptake_events planned.uptake ≡ made_events kept links delta
 plan_is_made kept whole links delta planned p =
     ap (λ store. with_store store (Process planned.uptake.process.marks ∷ [])) p.uptake.store

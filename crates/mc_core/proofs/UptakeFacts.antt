@@ -1,4 +1,4 @@
--- What a uptake needs for its commits.
+-- What an uptake needs for its commits.
 use Rattle.std.proofs.Common.{◌≡◌, ℕ, Bool, true, false, not, cond, filter, ◌&&◌, ◌||◌, List, [], ◌∷◌, ◌++◌, map, Option, Some, None, Ok, refl, sym, ◌∙◌, ap, subst}
 use Rattle.std.specs.Prelude.{IfSome, unwrap_or, is_some, find, length, ◌==◌}
 use Rattle.std.specs.List.{list_all}
@@ -227,7 +227,7 @@ module _ (fit_law : FitLaw) (sound_law : SoundLaw) (mark_law : MarkLaw) (links_l
       plan_has_stored fit_law sound_law mark_law links_law storing_law stored_law same_law kept whole uptake.process uptake.after sound
       (subst (λ s. IsSomeUptake kept whole (record { store = s; process = uptake.process; after = uptake.after })) is p)
 
--- a uptake is made
+-- an uptake is made
 
 store_is : (graph : List Stored) (cid : Cid) (bytes : List ℕ) (known : Bool) (store : Option Changes) → known ≡ is_stored graph cid → (known ≡ true → store ≡ None) → (known ≡ false → store ≡ Some (storing_pub cid bytes))
     → store ≡ store_change graph cid bytes

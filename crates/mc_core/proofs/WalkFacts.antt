@@ -193,7 +193,7 @@ step_done None fuse stop run new rose step up due goes = tt
 step_done (Some kept) fuse stop run None rose step up due goes = absurd goes
 step_done (Some kept) fuse stop run (Some after) rose step up due goes =
     subst (λ b. Goes (step_events step) (at kept fuse (run_of b run)) after → StepCall step rose (at kept fuse (run_of b run)) after) (sym up)
-    (λ p. record { allowed = refl; events = step_events step; uptake = (due, refl); goes = p }) goes
+    (λ p. record { allowed = refl; events = step_events step; makes = (due, refl); goes = p }) goes
 
 pub step_failed : (told : Option Kept) (fuse : Option Fuse) (stop : Bool) (run : Running) (new : Option ReplicaState) (rose : Type 0) (step : WalkStep) → stop ≡ false → step ≡ step_due run.whole run.walk
     → Told (state_of told fuse (run_of stop run)) new (Breaks (step_events step) rose)

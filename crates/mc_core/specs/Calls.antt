@@ -6,21 +6,21 @@ use Rattle.mc_core.specs.declared.error.CoreError.{CoreError}
 use Rattle.mc_core.specs.Events.{ReplicaState, Goes, Breaks}
 use Rattle.mc_core.specs.Refusals.{ByKind, kind_of}
 
--- the events of a uptake, or none: no uptake is known where a call failed before its first commit
+-- the events that a call makes, or none: none are known where a call failed before its first commit
 abbrev pub Begins : {T : Type 0} → (List Event → T → Type 0) → List Event → Type 0
-Begins {T} Uptake events = (events ≡ []) ⊎ ((value : T) × Uptake events value)
+Begins {T} Makes events = (events ≡ []) ⊎ ((value : T) × Makes events value)
 
 -- nothing refuses the call, and all its events have happened
-pub record Does {T : Type 0} (Refusal : Option CoreError → Type 0) (Uptake : List Event → T → Type 0) (value : T) (s new : ReplicaState) : Type 0 where
+pub record Does {T : Type 0} (Refusal : Option CoreError → Type 0) (Makes : List Event → T → Type 0) (value : T) (s new : ReplicaState) : Type 0 where
   pub allowed : Refusal None
   pub events : List Event
-  pub uptake : Uptake events value
+  pub makes : Makes events value
   pub goes : Goes events s new
 
 -- its events are cut short
-pub record Faults {T : Type 0} (Uptake : List Event → T → Type 0) (rose : Type 0) (s new : ReplicaState) : Type 0 where
+pub record Faults {T : Type 0} (Makes : List Event → T → Type 0) (rose : Type 0) (s new : ReplicaState) : Type 0 where
   pub events : List Event
-  pub begins : Begins Uptake events
+  pub begins : Begins Makes events
   pub breaks : Breaks events rose s new
 
 -- the call is refused for this cause, and nothing has changed
@@ -31,10 +31,10 @@ IsRefused Refusal error s new = Refusal (Some error) × (new ≡ s)
 abbrev pub Stays : ReplicaState → ReplicaState → Type 0
 Stays s left = left ≡ s
 
--- The clause of every call: `Refusal` says which refusal is due, `Uptake` which events the call makes with which answer, and
+-- The clause of every call: `Refusal` says which refusal is due, `Makes` which events the call makes with which answer, and
 -- `Short` what a want of memory leaves.
 abbrev pub Call : {T : Type 0} → (Option CoreError → Type 0) → (List Event → T → Type 0) → (ReplicaState → Type 0) → Type 0
     → Result T CoreError → ReplicaState → ReplicaState → Type 0
-Call Refusal Uptake Short rose (Ok value) s new = Does Refusal Uptake value s new
-Call Refusal Uptake Short rose (Err error) s new =
-    ByKind (IsRefused Refusal error s new) (Faults Uptake rose s new) (Short new) (kind_of error)
+Call Refusal Makes Short rose (Ok value) s new = Does Refusal Makes value s new
+Call Refusal Makes Short rose (Err error) s new =
+    ByKind (IsRefused Refusal error s new) (Faults Makes rose s new) (Short new) (kind_of error)

@@ -53,13 +53,13 @@ pub record IsUptake (kept : Kept) (whole : Bool) (block : Block) (bytes : List �
   pub process : Processes kept whole (block ∷ []) (block.cid ∷ []) uptake.process
   pub gaps_left : uptake.after.gaps ≡ length (gaps (processed kept ++ block ∷ []))
 
--- a uptake for some block
+-- an uptake for some block
 pub record IsSomeUptake (kept : Kept) (whole : Bool) (uptake : Uptake) : Type 0 where
   pub block : Block
   pub bytes : List ℕ
   pub plans : IsUptake kept whole block bytes uptake
 
--- what holds of a uptake over every keeper
+-- what holds of an uptake over every keeper
 pub record IsShaped (uptake : Uptake) : Type 0 where
   pub store : IfSome uptake.store (λ store. (store.marks ≡ []) × (store.mark ≡ None) × (row_count store ≡ 1))
   pub only : uptake.process.store ≡ []
@@ -76,11 +76,11 @@ pub record IsReady (kept : Kept) (whole : Bool) (changes : Changes) (after : Aft
   pub gaps_left : after.gaps ≡ length (gaps (processed (changed kept changes)))
   pub wanted : (q : Queue) → processed_queue (durable_of kept) q changes.marks ≡ wants (without q changes.marks) after.links
 
--- the rows of a uptake
+-- the rows of an uptake
 abbrev pub uptake_rows : Uptake → ℕ
 uptake_rows uptake = row_count uptake.process + 1
 
--- the events of a uptake
+-- the events of an uptake
 abbrev pub with_store : Option Changes → List Event → List Event
 with_store None events = events
 with_store (Some store) events = Store (vertices store.store) ∷ events

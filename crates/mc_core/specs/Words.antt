@@ -69,8 +69,8 @@ module _ {K D : Type 0} {g : keeper.Ghosts K D} {h : counted.Ghosts K} {i : coun
   -- what a call does
   abbrev pub Acts : {T : Type 0} → (ReplicaState → Option CoreError → Type 0) → (ReplicaState → List Event → T → Type 0)
       → (ReplicaState → ReplicaState → Type 0) → Result T CoreError → Replica K D g h i → Replica K D g h i → Type 0
-  Acts Refusal Uptake Short result old new = Becomes (λ rose s after.
-      Call (Refusal s) (Uptake s) (Short s) rose result s after) old new
+  Acts Refusal Makes Short result old new = Becomes (λ rose s after.
+      Call (Refusal s) (Makes s) (Short s) rose result s after) old new
 
   -- what a call does that only reads: its answer is this over what is kept
   abbrev pub Answers : {T : Type 0} → (Kept → T → Type 0) → Result T CoreError → Replica K D g h i

@@ -106,7 +106,7 @@ impl<K: Keeper> Replica<K> {
         }
     }
 
-    // The commits of a uptake. They take no memory.
+    // The commits of an uptake. They take no memory.
     pub(crate) fn carry_out(&mut self, uptake: Uptake) -> Result<(), Failed>
         requires up { self.old.stopped ≡ false }
         requires room { uptake_rows uptake ≤ K.spare self.old.keeper }

@@ -159,8 +159,8 @@ module _ (grow_law : GrowLaw) (goes_law : GoesLaw) (stay_law : StayLaw) where
       some (Some job) plan = breaks_leads grow_law goes_law stay_law Always faults.events rose s new (count s) faults.breaks sound (let l = ap all_processes plan.2 in omega (arith, l)) (subst IsPaced (sym plan.2) want_paced) (subst (Asked Always s.state) (sym plan.2) (next_asked s up))
 
   pub next_leads : (rose : Type 0) (result : Result (Option Job) CoreError) (s new : ReplicaState) → is_some s.state.run ≡ true → IsSound s.state → Call (Is (read_refusal s)) (NextEvents s) (NextShort s) rose result s new → Leads (is_fault result) (count s) Always s new
-  next_leads rose (Ok None) s new up sound call = goes_leads grow_law goes_law stay_law Always [] s new (count s) (subst (λ events. Goes events s new) call.plan.1 call.goes) sound (omega arith) none_paced (λ known kept p. (tt, tt))
-  next_leads rose (Ok (Some job)) s new up sound call = goes_leads grow_law goes_law stay_law Always (Want ∷ []) s new (count s) (subst (λ events. Goes events s new) call.plan.2 call.goes) sound (omega arith) want_paced (next_asked s up)
+  next_leads rose (Ok None) s new up sound call = goes_leads grow_law goes_law stay_law Always [] s new (count s) (subst (λ events. Goes events s new) call.makes.1 call.goes) sound (omega arith) none_paced (λ known kept p. (tt, tt))
+  next_leads rose (Ok (Some job)) s new up sound call = goes_leads grow_law goes_law stay_law Always (Want ∷ []) s new (count s) (subst (λ events. Goes events s new) call.makes.2 call.goes) sound (omega arith) want_paced (next_asked s up)
   next_leads rose (Err error) s new up sound call = over (kind_of error) call
     where
       over : (kind : Kind) → ByKind (IsRefused (Is (read_refusal s)) error s new) (Faults (NextEvents s) rose s new) (NextShort s new) kind → Leads (is_fault_kind kind) (count s) Always s new
@@ -225,8 +225,8 @@ module _ (grow_law : GrowLaw) (goes_law : GoesLaw) (stay_law : StayLaw) where
     pub deliver_by : (c : Cid) (found : Option (List ℕ)) (more : ℕ) (rose : Type 0) (result : Result Delivered CoreError) (s new : ReplicaState) → IsSound s.state → all_processes (delivery s.state.durable.graph c found) ≤ more
         → Call (Is (read_refusal s)) (DeliverEvents s c found) (DeliverShort s c) rose result s new → LeadsBy (is_fault result) (count s + more) (λ known kept. IsFoundFor known c found) (λ known kept. known c ≡ found) s new
     deliver_by c found more rose (Ok answer) s new sound few call =
-        let asked = delivers_asked c found s.state.durable s.state.run call.events answer call.plan in
-        goes_by grow_law goes_law stay_law (λ known kept. IsFoundFor known c found) (λ known kept. known c ≡ found) call.events s new (count s + more) call.goes sound (omega (arith, asked.1, few)) (delivers_paced (has c (queue_in s.state.run).flight) s.state.durable c found call.events answer call.plan) asked.0
+        let asked = delivers_asked c found s.state.durable s.state.run call.events answer call.makes in
+        goes_by grow_law goes_law stay_law (λ known kept. IsFoundFor known c found) (λ known kept. known c ≡ found) call.events s new (count s + more) call.goes sound (omega (arith, asked.1, few)) (delivers_paced (has c (queue_in s.state.run).flight) s.state.durable c found call.events answer call.makes) asked.0
     deliver_by c found more rose (Err error) s new sound few call = over (kind_of error) call
       where
         over : (kind : Kind) → ByKind (IsRefused (Is (read_refusal s)) error s new) (Faults (DeliverEvents s c found) rose s new) (DeliverShort s c new) kind → LeadsBy (is_fault_kind kind) (count s + more) (λ known kept. IsFoundFor known c found) (λ known kept. known c ≡ found) s new

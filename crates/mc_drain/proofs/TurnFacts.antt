@@ -136,7 +136,7 @@ pub own_told : (job : Option Job) (a b : Option ReplicaState) → Told a b (λ s
 own_told job None b t = tt
 own_told job (Some s) None t = absurd t
 own_told None (Some s) (Some new) t = tt
-own_told (Some job) (Some s) (Some new) t = t.plan.1 ∙ bytes_same s.state.durable.graph job.cid
+own_told (Some job) (Some s) (Some new) t = t.makes.1 ∙ bytes_same s.state.durable.graph job.cid
 
 no_block_found : (cid : Cid) (found : Option (List ℕ)) (bytes : List ℕ) (block : Block) → found ≡ Some bytes → offer cid bytes ≡ Ok block → IsNoBlock cid found → ⊥
 no_block_found cid None bytes block is good none = cc is
@@ -151,7 +151,7 @@ pub stuck_told : (cid : Cid) (found : Option (List ℕ)) (delivered : Delivered)
     → IfSome a (λ s. IsNoBlock cid found → left.waiting ≡ q.waiting)
 stuck_told cid found delivered q left None b t after = tt
 stuck_told cid found delivered q left (Some s) None t after = absurd t
-stuck_told cid found (Processed position) q left (Some s) (Some new) t after = λ none. absurd (not_processed (has cid (queue_in s.state.run).flight) s.state.durable cid found t.events position t.plan none)
+stuck_told cid found (Processed position) q left (Some s) (Some new) t after = λ none. absurd (not_processed (has cid (queue_in s.state.run).flight) s.state.durable cid found t.events position t.makes none)
 stuck_told cid found Missing q left (Some s) (Some new) t after = λ none. ap (λ (x : Queue). x.waiting) after
 stuck_told cid found (Bad damage) q left (Some s) (Some new) t after = λ none. ap (λ (x : Queue). x.waiting) after
 stuck_told cid found Known q left (Some s) (Some new) t after = λ none. ap (λ (x : Queue). x.waiting) after

@@ -172,7 +172,7 @@ module _ (grow_law : GrowLaw) (walks : WalksLaw) where
   plan_events_are (Some run) events step plan = plan.1
 
   step_walks : (rose : Type 0) (result : Result WalkStep CoreError) (s new : ReplicaState) → IsSound s.state → Call (Is (read_refusal s)) (WalkEvents s) (Stays s) rose result s new → Walks (is_fault result) (walk_commits result) s new
-  step_walks rose (Ok step) s new sound call = step_goes step s new sound (subst (λ (events : List Event). Goes events s new) (plan_events_are s.state.run call.events step call.plan) call.goes)
+  step_walks rose (Ok step) s new sound call = step_goes step s new sound (subst (λ (events : List Event). Goes events s new) (plan_events_are s.state.run call.events step call.makes) call.goes)
   step_walks rose (Err error) s new sound call = over (kind_of error) call
     where
       over : (kind : Kind) → ByKind (IsRefused (Is (read_refusal s)) error s new) (Faults (WalkEvents s) rose s new) (Stays s new) kind → Walks (is_fault_kind kind) 1 s new

@@ -314,7 +314,7 @@ module _ {A : Type 0} (Refused : ReplicaState → Option CoreError → Type 0) (
       → Told (state_of told fuse run) (state_of told' fuse' run') (λ s new. Call (Refused s) (OnlyReads (SeenOver P) s) (Stays s) rose (seen_by n result) s new)
   seen_call result rose None told' fuse fuse' run run' is c = tt
   seen_call result rose (Some kept) None fuse fuse' run run' is c = absurd c
-  seen_call (Ok answer) rose (Some kept) (Some kept') fuse fuse' run run' is c = record { allowed = c.allowed; events = c.events; plan = (c.plan.0, (c.plan.1, is)); goes = c.goes }
+  seen_call (Ok answer) rose (Some kept) (Some kept') fuse fuse' run run' is c = record { allowed = c.allowed; events = c.events; makes = (c.makes.0, (c.makes.1, is)); goes = c.goes }
   seen_call (Err error) rose (Some kept) (Some kept') fuse fuse' run run' is c = by_kind (kind_of error) c
     where
       S : ReplicaState

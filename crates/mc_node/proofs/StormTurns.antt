@@ -155,7 +155,7 @@ get_given writer number made seen old new d =
             subst (λ (o : Option ReplicaState). Told o o (Gets (storm_key writer) (storm_value number) (is_bytes (storm_value number) seen.answer))) (moment_state old d.before d.was a)
             (told_still (λ s now. Call (Is (read_refusal s)) (OnlyReads (SeenOver (λ kept found. found ≡ value (processed kept) (storm_key writer))) s) (Stays s) (Rose d.before.own d.after.own) (Ok seen) s now)
             (Gets (storm_key writer) (storm_value number) (is_bytes (storm_value number) seen.answer))
-            (λ s now done. record { answer = ap (is_bytes (storm_value number)) done.plan.1.0; unchanged = refl })
+            (λ s now done. record { answer = ap (is_bytes (storm_value number)) done.makes.1.0; unchanged = refl })
             (state_in d.before) (state_in d.after) d.acts.call);
       },
     )

@@ -38,7 +38,7 @@ is_block_refusal NoBatch = false
 is_block_refusal BatchOpen = false
 is_block_refusal Memory = false
 
--- a put makes its block, by the plan of a put over the blocks before it, and nothing refuses it there
+-- a put makes its block, by the events of a put over the blocks before it, and nothing refuses it there
 pub record PutMakes (key bytes : List ℕ) (s new : ReplicaState) : Type 0 where
   pub written : Written
   pub done : Done (Is (put_refusal s key bytes)) (PutEvents s key bytes) written s new

@@ -43,7 +43,7 @@ put_order key bytes s t g =
     ∙ length-append s.state.durable.order (cid ∷ [])
 
 put_adds : (made : Bool) (key bytes : List ℕ) (s t : ReplicaState) → PutActs made key bytes s t → length t.state.durable.order ≡ length s.state.durable.order + one_if made
-put_adds true key bytes s t makes = put_order key bytes s t (subst (λ events. Goes events s t) makes.done.plan.0 makes.done.goes)
+put_adds true key bytes s t makes = put_order key bytes s t (subst (λ events. Goes events s t) makes.done.makes.0 makes.done.goes)
 put_adds false key bytes s t refused = order_same s t refused.same
 
 call_adds : (gets : Bool) (key bytes : List ℕ) (write : Write) (s t : ReplicaState) → ActsBy gets key bytes write s t → length t.state.durable.order ≡ length s.state.durable.order + one_if (not gets && write.made)

@@ -162,11 +162,11 @@ job_stored : (rose : Type 0) (job : Job) (x y : Option ReplicaState) → Told x 
     → IfSome x (λ s. job.own ≡ bytes_at (kept_of s.state.durable).graph job.cid)
 job_stored rose job None y call = tt
 job_stored rose job (Some s) None call = absurd call
-job_stored rose job (Some s) (Some after) call = call.plan.1
+job_stored rose job (Some s) (Some after) call = call.makes.1
 
 idle_happens : (w : WorldState) (r : ℕ) (rose : Type 0) (p q : Place) → Told (state_at p) (state_at q) (λ s after. Call (Is (read_refusal s)) (NextEvents s) (NextShort s) rose (Ok None) s after) → Happens w (Step r) p q Idle
 idle_happens w r rose p q call = told_weaker (λ s after. Call (Is (read_refusal s)) (NextEvents s) (NextShort s) rose (Ok None) s after) (λ s after. (events : List Event) × EventsOf w s (Step r) events Idle × Goes events s after)
-    (λ s after does. (does.events, does.plan, does.goes)) (state_at p) (state_at q) call
+    (λ s after does. (does.events, does.makes, does.goes)) (state_at p) (state_at q) call
 
 module _ {K D : Type 0} {g : keeper.Ghosts K D} {h : counted.Ghosts K} {i : counted.Ghosts D} (k : Members K D) (planted : List Planted) (old new : Replica K D g h i) where
   abbrev Calls : Result (Option Job) CoreError → Type 0

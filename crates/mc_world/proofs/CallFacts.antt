@@ -40,4 +40,4 @@ pub ok_call : {T : Type 0} (Due : ReplicaState → Option CoreError → Type 0) 
     → Told old new (λ s x. Call (Due s) (P s) (Short s) own (Ok value) s x) → Told old new (λ s x. Call (Due s) (Q s) (Short s) own (Ok reply) s x)
 ok_call Due P Q Short value reply plans None new own call = tt
 ok_call Due P Q Short value reply plans (Some s) None own call = absurd call
-ok_call Due P Q Short value reply plans (Some s) (Some x) own call = record { allowed = call.allowed; events = call.events; plan = plans s call.events call.plan; goes = call.goes }
+ok_call Due P Q Short value reply plans (Some s) (Some x) own call = record { allowed = call.allowed; events = call.events; makes = plans s call.events call.makes; goes = call.goes }

@@ -146,7 +146,7 @@ module _ (content : Option Kept) (fuse : Option Fuse) (run : Running) (cid : Cid
       over (Some kept) None is_found call = absurd call
       over (Some kept) (Some n) is_found call = (
         Want ∷ call.events,
-        steps peers kept call.events said answer is_found says call.plan,
+        steps peers kept call.events said answer is_found says call.makes,
         goes_then (Want ∷ []) call.events (at kept fuse (Some run)) (at kept fuse (Some (begun_run run))) n (wants kept) call.goes,
       )
 

@@ -120,7 +120,7 @@ Heads kept bytes = bytes ≡ written_cast kept
 says_heads : (x y : Option ReplicaState) (own : Type 0) (text : List ℕ) → Told x y (λ s new. Call (Is (read_refusal s)) (OnlyReads Heads s) (Stays s) own (Ok text) s new) → IfSome x (λ s. text ≡ written_cast (kept_of s.state.durable))
 says_heads None y own text told = tt
 says_heads (Some s) None own text told = absurd told
-says_heads (Some s) (Some new) own text told = told.plan.1
+says_heads (Some s) (Some new) own text told = told.makes.1
 
 -- the answer in place of a message, by the error
 

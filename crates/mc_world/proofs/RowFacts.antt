@@ -172,7 +172,7 @@ module _ (w : WorldState) (command : Command) (named own : Type 0) (p q : Place)
   happens_by : (x y : Option ReplicaState) (reply : Reply) → Told x y (λ s new. Does (CallRefusal w s command) (EventsOf w s command) reply s new) → Told x y (λ s new. (events : List Event) × EventsOf w s command events reply × Goes events s new)
   happens_by None y reply told = tt
   happens_by (Some s) None reply told = absurd told
-  happens_by (Some s) (Some new) reply told = (told.events, told.plan, told.goes)
+  happens_by (Some s) (Some new) reply told = (told.events, told.makes, told.goes)
 
   pub ok_allowed : (reply : Reply) → is_acting command ≡ true → None ≡ front_at w p command → CallsHere (Ok reply) → RefusedAt w p command None
   ok_allowed reply acts seen call = refused_from w p command None acts (sym seen, allowed_by (state_at p) (state_at q) reply call)

@@ -66,7 +66,7 @@ answer_of core.Memory = Err Memory
 abbrev pub IsReply : CoreError → Reply → Type 0
 IsReply error reply = ByKind (answer_of error ≡ Ok reply) ⊥ ⊥ (kind_of error)
 
--- the plan of a call, with what is answered for its value
+-- the events of a call, with what is answered for its value
 abbrev pub Answers : {T : Type 0} → (List Event → T → Type 0) → (T → Reply → Type 0) → List Event → Reply → Type 0
 Answers {T} Makes Says events reply = (value : T) × Makes events value × Says value reply
 
