@@ -16,7 +16,7 @@ use Rattle.mc_keep.specs.Changes.{no_changes}
 use Rattle.mc_keep.specs.New.{AreNew}
 use Rattle.mc_keep.specs.Tables.{ChangesFit}
 use Rattle.mc_core.specs.Uptakes.{Processes}
-use Rattle.mc_core.proofs.PlanFacts.{StoringLaw, FitLaw}
+use Rattle.mc_core.proofs.UptakeFacts.{StoringLaw, FitLaw}
 
 -- bytes that are a block may be stored
 pub told_may_store : (law : StoringLaw) (told : Option Kept) (cid : Cid) (bytes : List ℕ) (block : Block) (changes : Changes) → changes ≡ record no_changes { store = record { cid = cid; bytes = bytes } ∷ [] }

@@ -209,7 +209,7 @@ fn has_no_value<K: Keeper>(keeper: &mut K, alloc: Global) -> Result<bool, KeepEr
         keeper.value(alloc, "/a")?.is_none()
             && !keeper.has("/a")?
             && keeper.holder(alloc, "/a")?.is_none()
-            && keeper.value_from(alloc, "", true)?.is_none(),
+            && keeper.values_from(alloc, "", true, 1)?.len() == 0,
     )
 }
 
@@ -258,7 +258,7 @@ fn failing_read<K: Keeper>(keeper: &mut K, alloc: Global) -> usize {
         keeper.hidden("/a", "/X").is_err(),
         keeper.value(alloc, "/a").is_err(),
         keeper.has("/a").is_err(),
-        keeper.value_from(alloc, "", true).is_err(),
+        keeper.values_from(alloc, "", true, 1).is_err(),
         keeper.holder(alloc, "/a").is_err(),
         keeper.stored(&CID).is_err(),
         keeper.at(0).is_err(),
