@@ -135,8 +135,8 @@ fn queries_over_four_keys(rt: HostRuntime) -> Result<(), Fail> {
             "{}",
             case.prefix
         );
-        if case.rows > 0 {
-            let fewer = four_keys(alloc, case.rows.saturating_sub(1))?;
+        if case.reads > 0 {
+            let fewer = four_keys(alloc, case.reads.saturating_sub(1))?;
             assert!(rt; gives(fewer, alloc, case).is_err(), "{}", case.prefix);
         }
     }
