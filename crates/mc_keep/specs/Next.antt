@@ -1,5 +1,6 @@
 -- The next keys with a value.
-use Rattle.std.specs.Prelude.{◌≡◌, ℕ, ◌-◌, ◌<◌, Bool, true, false, List, [], ◌∷◌, Option, Some, None}
+use Rattle.std.specs.Prelude.{◌≡◌, ℕ, ◌+◌, ◌-◌, ◌<◌, Bool, true, false, List, [], ◌∷◌, slice_get, Option, Some, None}
+use Rattle.std.specs.Option.{option_map}
 use Rattle.std.specs.Ordering.{is_lt, is_le, nat_cmp}
 use Rattle.std.specs.Cmp.Lexicographic.{slice_cmp}
 use Rattle.mc_model.specs.declared.block.Block.{Block}
@@ -36,3 +37,13 @@ AreNextOf value bound inclusive most (row ∷ rows) =
 -- the next rows over the processed blocks
 abbrev pub AreNext : List Block → List ℕ → Bool → ℕ → List ValueRow → Type 0
 AreNext blocks bound inclusive most rows = AreNextOf (value_row blocks) bound inclusive most rows
+
+-- the key of the row at this place among the next rows, from 0, or none where there are not so many
+abbrev pub IsKeyAtOf : (List ℕ → Option Ranked) → List ℕ → Bool → ℕ → Option (List ℕ) → Type 0
+IsKeyAtOf value bound inclusive place key =
+    (rows : List ValueRow) × AreNextOf value bound inclusive (place + 1) rows
+    × (key ≡ option_map (λ (row : ValueRow). row.key) (slice_get rows place))
+
+-- the same over the processed blocks
+abbrev pub IsKeyAt : List Block → List ℕ → Bool → ℕ → Option (List ℕ) → Type 0
+IsKeyAt blocks bound inclusive place key = IsKeyAtOf (value_row blocks) bound inclusive place key

@@ -5,7 +5,7 @@ ghost use Rattle.std.specs.Option.{option_map};
 ghost use Rattle.mc_keep.specs.Causes.{burnt, fires};
 
 use crate::{Changes, ElementRow, Fuse, HeadRow, KeepError, Keeper, Summary, ValueRow};
-use mc_base::{Bytes, Cid, Counted, Failed, List};
+use mc_base::{Bytes, Cid, Counted, Failed, List, Text};
 use std::alloc::{AllocError, Global};
 use std::sync::Wait;
 
@@ -199,6 +199,16 @@ impl<K: Keeper> Keeper for Fused<K> {
         most: u64,
     ) -> Result<List<ValueRow>, KeepError> {
         self.keeper.values_from(alloc, bound, inclusive, most)
+    }
+
+    fn key_from(
+        &mut self,
+        alloc: Global,
+        bound: &str,
+        inclusive: bool,
+        place: u64,
+    ) -> Result<Option<Text>, KeepError> {
+        self.keeper.key_from(alloc, bound, inclusive, place)
     }
 
     fn reserve(&mut self, rows: u64) -> Result<(), AllocError> {

@@ -13,7 +13,7 @@ ghost use Rattle.mc_model.specs.Kept.{Kept, IsKept, processed, bytes_at, is_stor
 ghost use Rattle.mc_keep.specs.Causes.{IfTold, CountGoes, fires, CommitFails};
 ghost use Rattle.mc_keep.specs.Frame.{ReadsAt, ReservesAt, CommitsAt};
 ghost use Rattle.mc_keep.specs.Changes.{row_count, changed, heads_in_rows};
-ghost use Rattle.mc_keep.specs.Next.{AreNext};
+ghost use Rattle.mc_keep.specs.Next.{AreNext, IsKeyAt};
 ghost use Rattle.mc_keep.specs.ElementOrder.{element_cmp};
 ghost use Rattle.mc_keep.specs.LiveRows.{IsHolder, live_element_rows};
 ghost use Rattle.mc_keep.specs.Plan.{
@@ -29,7 +29,7 @@ ghost use Rattle.mc_keep.specs.Plan.{
 ghost use Rattle.mc_keep.specs.Tables.{ChangesFit, IsSummary, IsSmall, IsValueRow};
 
 use crate::{Changes, ElementRow, HeadRow, KeepError, Summary, ValueRow};
-use mc_base::{Bytes, Cid, Counted, Failed, List};
+use mc_base::{Bytes, Cid, Counted, Failed, List, Text};
 use std::alloc::{AllocError, Global};
 use std::sync::Wait;
 
@@ -184,6 +184,20 @@ pub trait Keeper: Counted {
     ) -> Result<List<ValueRow>, KeepError>
         ensures rows { IfTold (told self.old) result (λ kept rows.
             AreNext (processed kept) bound.now inclusive most rows) }
+        ensures reads { ReadsAt told fuse spare own Self.faults quiet schedule (is_fault result) self.old self.new }
+        ensures planned { ReadsAsPlanned (schedule self.old) (schedule self.new) (is_fault result) };
+
+    /// The key at a place, from 0, among the next keys with a value above the bound, or from it on where `inclusive`,
+    /// in their order, or none where there are not so many. No row is made of those before it.
+    fn key_from(
+        &mut self,
+        alloc: Global,
+        bound: &str,
+        inclusive: bool,
+        place: u64,
+    ) -> Result<Option<Text>, KeepError>
+        ensures key { IfTold (told self.old) result (λ kept key.
+            IsKeyAt (processed kept) bound.now inclusive place key) }
         ensures reads { ReadsAt told fuse spare own Self.faults quiet schedule (is_fault result) self.old self.new }
         ensures planned { ReadsAsPlanned (schedule self.old) (schedule self.new) (is_fault result) };
 

@@ -5,7 +5,7 @@ ghost use Rattle.mc_keep_any.specs.Any.{either_keeper, either_desk};
 ghost use Rattle.mc_keep_any.specs.Sound.{either_sound};
 
 use crate::desk::{AnyDesk, Inside};
-use mc_base::{Bytes, Cid, Counted, Failed, List};
+use mc_base::{Bytes, Cid, Counted, Failed, List, Text};
 use mc_keep::{Changes, ElementRow, HeadRow, KeepError, Keeper, Summary, ValueRow};
 use std::alloc::{AllocError, Global};
 use std::sync::Wait;
@@ -185,6 +185,19 @@ impl<A: Keeper, B: Keeper> Keeper for AnyKeeper<A, B> {
         match self {
             AnyKeeper::Memory(keeper) => keeper.values_from(alloc, bound, inclusive, most),
             AnyKeeper::File(keeper) => keeper.values_from(alloc, bound, inclusive, most),
+        }
+    }
+
+    fn key_from(
+        &mut self,
+        alloc: Global,
+        bound: &str,
+        inclusive: bool,
+        place: u64,
+    ) -> Result<Option<Text>, KeepError> {
+        match self {
+            AnyKeeper::Memory(keeper) => keeper.key_from(alloc, bound, inclusive, place),
+            AnyKeeper::File(keeper) => keeper.key_from(alloc, bound, inclusive, place),
         }
     }
 

@@ -4,7 +4,7 @@ ghost use Rattle.std.specs.Prelude.{◌≡◌, ◌-◌, ◌^◌, false, None, If
 use crate::database::FileDatabase;
 use crate::desk::SqlDesk;
 use crate::keeper::DatabaseKeeper;
-use mc_base::{Bytes, Cid, Counted, Failed, List};
+use mc_base::{Bytes, Cid, Counted, Failed, List, Text};
 use mc_keep::{Changes, ElementRow, HeadRow, KeepError, Keeper, Summary, ValueRow};
 use std::alloc::{AllocError, Global};
 use std::rt::HostRuntime;
@@ -141,6 +141,16 @@ impl Keeper for FileKeeper {
         most: u64,
     ) -> Result<List<ValueRow>, KeepError> {
         self.inner.values_from(alloc, bound, inclusive, most)
+    }
+
+    fn key_from(
+        &mut self,
+        alloc: Global,
+        bound: &str,
+        inclusive: bool,
+        place: u64,
+    ) -> Result<Option<Text>, KeepError> {
+        self.inner.key_from(alloc, bound, inclusive, place)
     }
 
     fn reserve(&mut self, rows: u64) -> Result<(), AllocError> {

@@ -10,7 +10,7 @@ use crate::database::{Database, FileDatabase, Work};
 use crate::desk::SqlDesk;
 use crate::opening::opened;
 use crate::reading;
-use mc_base::{Bytes, Cid, Counted, Failed, List};
+use mc_base::{Bytes, Cid, Counted, Failed, List, Text};
 use mc_keep::{Changes, ElementRow, HeadRow, KeepError, Keeper, Summary, ValueRow};
 use sqlite::{Alter, Connection, File, FileStore};
 use std::alloc::{AllocError, Global};
@@ -288,6 +288,17 @@ impl<D: Database> Keeper for DatabaseKeeper<D> {
         most: u64,
     ) -> Result<List<ValueRow>, KeepError> {
         let answer = reading::values_from(self.database.get_mut(), alloc, bound, inclusive, most);
+        self.count(answer)
+    }
+
+    fn key_from(
+        &mut self,
+        alloc: Global,
+        bound: &str,
+        inclusive: bool,
+        place: u64,
+    ) -> Result<Option<Text>, KeepError> {
+        let answer = reading::key_from(self.database.get_mut(), alloc, bound, inclusive, place);
         self.count(answer)
     }
 

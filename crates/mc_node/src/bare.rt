@@ -1,5 +1,5 @@
 //! A keeper for tests, which holds nothing, tells nothing, and commits nothing.
-use mc_base::{Bytes, Cid, Counted, Failed, List};
+use mc_base::{Bytes, Cid, Counted, Failed, List, Text};
 use mc_keep::{Changes, ElementRow, HeadRow, KeepError, Keeper, Summary, ValueRow};
 use std::alloc::{AllocError, Global};
 use std::sync::Wait;
@@ -119,6 +119,16 @@ impl Keeper for Bare {
         _most: u64,
     ) -> Result<List<ValueRow>, KeepError> {
         Ok(List::new(alloc))
+    }
+
+    fn key_from(
+        &mut self,
+        _alloc: Global,
+        _bound: &str,
+        _inclusive: bool,
+        _place: u64,
+    ) -> Result<Option<Text>, KeepError> {
+        Ok(None)
     }
 
     fn reserve(&mut self, rows: u64) -> Result<(), AllocError> {

@@ -300,8 +300,24 @@ fn has_keys<K: Keeper>(keeper: &mut K, alloc: Global) -> Result<bool, KeepError>
         only && keeper.values_from(alloc, "/", true, 0)?.len() == 0
             && keeper.values_from(alloc, "/k", true, 1)?.len() == 1
             && keeper.values_from(alloc, "/k", false, 1)?.len() == 0
+            && has_key_at(keeper, alloc)?
             && keeper.has("/k")?
             && !keeper.has("/")?,
+    )
+}
+
+// Whether that key alone is found by its place.
+fn has_key_at<K: Keeper>(keeper: &mut K, alloc: Global) -> Result<bool, KeepError> {
+    let first = match keeper.key_from(alloc, "/", true, 0)? {
+        Some(key) => key.as_str() == "/k",
+        None => false,
+    };
+    Ok(
+        first
+            && keeper.key_from(alloc, "/k", true, 0)?.is_some()
+            && keeper.key_from(alloc, "/k", false, 0)?.is_none()
+            && keeper.key_from(alloc, "/", true, 1)?.is_none()
+            && keeper.key_from(alloc, "/", true, u64::MAX)?.is_none(),
     )
 }
 

@@ -126,6 +126,26 @@ fn rows_from(
     Ok(found)
 }
 
+fn key_at(
+    alloc: Global,
+    rows: &[Pair],
+    bound: &str,
+    inclusive: bool,
+    place: u64,
+) -> Result<Option<Text>, AllocError> {
+    let mut left = place;
+    for pair in rows {
+        let key = pair.key.as_str();
+        if key > bound || inclusive && key == bound {
+            if left == 0 {
+                return Ok(Some(pair.key.try_clone(alloc)?));
+            }
+            left -= 1;
+        }
+    }
+    Ok(None)
+}
+
 // The row of the block with this number.
 fn element_of(alloc: Global, key: &str, number: u64) -> Result<ElementRow, AllocError> {
     Ok(ElementRow {
@@ -272,6 +292,17 @@ impl Keeper for HandMade {
     ) -> Result<List<ValueRow>, KeepError> {
         self.read()?;
         Ok(rows_from(alloc, self.rows.as_slice(), bound, inclusive, most)?)
+    }
+
+    fn key_from(
+        &mut self,
+        alloc: Global,
+        bound: &str,
+        inclusive: bool,
+        place: u64,
+    ) -> Result<Option<Text>, KeepError> {
+        self.read()?;
+        Ok(key_at(alloc, self.rows.as_slice(), bound, inclusive, place)?)
     }
 
     fn reserve(&mut self, rows: u64) -> Result<(), AllocError> {
