@@ -7,7 +7,8 @@ use Rattle.mc_app.specs.Progress.{Progress, MeetsBadLine, bad_line_text}
 use Rattle.mc_runs.specs.Runs.{Answer, text_of_answer}
 use Rattle.mc_world.specs.Worlds.{WorldState}
 use Rattle.mc_app.specs.declared.status.Status.{Status}
-use Rattle.mc_app.specs.declared.status.Status.TheVariants.{Done, Usage, BadLine, ReadFault, WriteFault, KeeperFault, Memory}
+use Rattle.mc_app.specs.declared.status.Status.TheVariants.{Done, Usage, BadLine, ReadFault, WriteFault, KeeperFault}
+use Rattle.mc_app.specs.declared.status.Status.TheVariants.{Memory}
 
 -- the texts of some answers
 abbrev pub replies_of : List (Option Answer) → List (List ℕ)

@@ -11,9 +11,9 @@ use Rattle.mc_runs.specs.Runs.{Answer, MayAnswer}
 use Rattle.mc_world.specs.Words.{state, tally}
 use Rattle.mc_world.specs.Keepers.{Tally}
 
--- what may be answered to some lines from a tally on, where the count is this at the end: no more faults than it rose by
--- and fuses were armed, in the lines or before them; and where all was calm, no entry names a keeper or a desk that failed
--- by itself
+-- what may be answered to some lines from a tally on, where the count is this at the end: no more faults than it rose
+-- by and fuses were armed, in the lines or before them; and where all was calm, no entry names a keeper or a desk that
+-- failed by itself
 abbrev pub MayEnd : Tally → ℕ → List (List ℕ) → List (Option Answer) → Type 0
 MayEnd first count = MayAnswer (first.calm ≡ true) first.count (count + first.armed)
 

@@ -23,6 +23,7 @@ module _ (script : List ℕ) (First : WorldState → Type 0) (May : List (List �
     (Ends : WorldState → Type 0) where
   -- how a script was summed up: whole, up to a bad line, or until memory was wanting
   abbrev pub SumsUp : Summed → ℕ → Summary → Type 0
-  SumsUp Whole count summary = (all : IsAllAnswered script First May Ends) × Sums count summary (replies_of all.progress.answers)
+  SumsUp Whole count summary =
+      (all : IsAllAnswered script First May Ends) × Sums count summary (replies_of all.progress.answers)
   SumsUp (Bad line) count summary = IsStoppedBad script First May Ends line
   SumsUp Short count summary = ⊤

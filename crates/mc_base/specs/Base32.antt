@@ -11,7 +11,9 @@ alphabet32 Lower = codes "abcdefghijklmnopqrstuvwxyz234567"
 
 -- the eight bits of a byte, the most significant first
 abbrev pub byte_bits : ℕ → List ℕ
-byte_bits byte = byte / 128 ∷ byte / 64 % 2 ∷ byte / 32 % 2 ∷ byte / 16 % 2 ∷ byte / 8 % 2 ∷ byte / 4 % 2 ∷ byte / 2 % 2 ∷ byte % 2 ∷ []
+byte_bits byte =
+    byte / 128 ∷ byte / 64 % 2 ∷ byte / 32 % 2 ∷ byte / 16 % 2 ∷ byte / 8 % 2 ∷ byte / 4 % 2 ∷ byte / 2 % 2 ∷ byte % 2
+    ∷ []
 
 -- the number of five bits
 abbrev pub five : ℕ → ℕ → ℕ → ℕ → ℕ → ℕ

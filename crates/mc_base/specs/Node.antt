@@ -1,6 +1,7 @@
--- Nodes of a content-addressed graph (IPLD dag-pb specification), by this store's profile: a node has the fields Data (1) and
--- Links (2, each a PBLink), and a PBLink has Hash (1), Name (2) and Tsize (3).
-use Rattle.std.specs.Prelude.{◌≡◌, ℕ, ◌<◌, List, [], ◌∷◌, ◌++◌, map, Bool, false, IsTrue, ◌==◌, ◌&&◌, ◌||◌, Option, Some, None, ⊤, ◌⊎◌}
+-- Nodes of a content-addressed graph (IPLD dag-pb specification), by this store's profile: a node has the fields Data
+-- (1) and Links (2, each a PBLink), and a PBLink has Hash (1), Name (2) and Tsize (3).
+use Rattle.std.specs.Prelude.{◌≡◌, ℕ, ◌<◌, List, [], ◌∷◌, ◌++◌, map, Bool, false, IsTrue, ◌==◌, ◌&&◌, ◌||◌, Option}
+use Rattle.std.specs.Prelude.{Some, None, ⊤, ◌⊎◌}
 use Rattle.std.specs.List.{list_all, flat_map}
 use Rattle.std.specs.Str.{is_utf8}
 use Rattle.mc_base.specs.Cid.{cid_prefix}
@@ -42,7 +43,8 @@ data_field payload = record { number = 1; content = Part payload }
 -- the links, and Data, if it stands, before all of them or after all of them
 abbrev pub IsOrdered : List Field → List Field → Option (List ℕ) → Type 0
 IsOrdered fields links None = fields ≡ links
-IsOrdered fields links (Some payload) = (fields ≡ data_field payload ∷ links) ⊎ (fields ≡ links ++ data_field payload ∷ [])
+IsOrdered fields links (Some payload) =
+    (fields ≡ data_field payload ∷ links) ⊎ (fields ≡ links ++ data_field payload ∷ [])
 
 -- a node by its bytes: the Hash of each link, and the content of Data
 pub record IsNode (text : List ℕ) (links : List (List ℕ)) (payload : Option (List ℕ)) : Type 0 where

@@ -1,6 +1,7 @@
--- What a text says as a node, or its first fault: the fields are looked at from left to right, and a link's fields when the
--- link is met.
-use Rattle.std.specs.Prelude.{ℕ, ◌+◌, ◌-◌, List, [], ◌∷◌, ◌++◌, length, drop, nat_le, ◌==◌, ◌&&◌, ◌||◌, not, if◌then◌else◌, Option, Some, None, Result, Ok, Err}
+-- What a text says as a node, or its first fault: the fields are looked at from left to right, and a link's fields when
+-- the link is met.
+use Rattle.std.specs.Prelude.{ℕ, ◌+◌, ◌-◌, List, [], ◌∷◌, ◌++◌, length, drop, nat_le, ◌==◌, ◌&&◌, ◌||◌, not}
+use Rattle.std.specs.Prelude.{if◌then◌else◌, Option, Some, None, Result, Ok, Err}
 use Rattle.std.specs.List.{list_any, filter_map}
 use Rattle.std.specs.Option.{option_or, option_map}
 use Rattle.std.specs.Str.{is_utf8}
@@ -44,8 +45,10 @@ name_fault number content = None
 -- the fault of one field of a link, after the field with the number `before`, 0 for none
 abbrev pub link_front_fault : ℕ → Front → Option NodeFaultKind
 link_front_fault before (NoKey fault) = Some (wire_kind fault)
-link_front_fault before (NoContent number wire fault) = option_or (link_key_fault before number wire) (Some (wire_kind fault))
-link_front_fault before (Whole field len) = option_or (link_key_fault before field.number (wire_type field.content)) (name_fault field.number field.content)
+link_front_fault before (NoContent number wire fault) =
+    option_or (link_key_fault before number wire) (Some (wire_kind fault))
+link_front_fault before (Whole field len) =
+    option_or (link_key_fault before field.number (wire_type field.content)) (name_fault field.number field.content)
 
 abbrev pub number_of : Front → ℕ
 number_of (NoKey fault) = 0
@@ -58,7 +61,8 @@ fault_at at kind = option_map (λ kind. record { kind = kind; at = at }) kind
 -- the first fault of the fields of a link
 abbrev pub link_fault : ℕ → List Placed → Option NodeFault
 link_fault before [] = None
-link_fault before (placed ∷ rest) = option_or (fault_at placed.at (link_front_fault before placed.front)) (link_fault (number_of placed.front) rest)
+link_fault before (placed ∷ rest) =
+    option_or (fault_at placed.at (link_front_fault before placed.front)) (link_fault (number_of placed.front) rest)
 
 -- the bytes of a front that is a field of this number
 abbrev pub part_in : ℕ → Front → Option (List ℕ)
@@ -84,14 +88,18 @@ unless (Some fault) result = Err fault
 
 -- The Hash of a link, or its first fault. The link's key and its body stand at these offsets of the node.
 abbrev pub link_of : ℕ → ℕ → List ℕ → Result (List ℕ) NodeFault
-link_of key from body = unless (link_fault 0 (fronts_from from body)) (hash_or key (first_of (parts_in 1 (fronts_from from body))))
+link_of key from body =
+    unless (link_fault 0 (fronts_from from body)) (hash_or key (first_of (parts_in 1 (fronts_from from body))))
 
--- In a node stand Data and links. After these numbers, a second Data may not stand, and no link after a Data that isn't the first field.
+-- In a node stand Data and links. After these numbers, a second Data may not stand, and no link after a Data that isn't
+-- the first field.
 abbrev pub node_key_fault : List ℕ → ℕ → ℕ → Option NodeFaultKind
 node_key_fault before number wire =
     if not (number == 1 || number == 2) then Some BadField
     else (if not (wire == 2) then Some WireType
-    else (if list_any (λ earlier. earlier == 1) (if number == 1 then before else drop 1 before) then Some Order else None))
+    else
+    (if list_any (λ earlier. earlier == 1)
+    (if number == 1 then before else drop 1 before) then Some Order else None))
 
 abbrev pub fault_in : {A : Type 0} → Result A NodeFault → Option NodeFault
 fault_in (Ok value) = None
@@ -108,13 +116,16 @@ body_fault at len field = if field.number == 2 then part_fault at len field.cont
 -- the fault of one field of a node, after fields with the numbers `before`
 abbrev pub node_front_fault : List ℕ → ℕ → Front → Option NodeFault
 node_front_fault before at (NoKey fault) = fault_at at (Some (wire_kind fault))
-node_front_fault before at (NoContent number wire fault) = fault_at at (option_or (node_key_fault before number wire) (Some (wire_kind fault)))
-node_front_fault before at (Whole field len) = option_or (fault_at at (node_key_fault before field.number (wire_type field.content))) (body_fault at len field)
+node_front_fault before at (NoContent number wire fault) =
+    fault_at at (option_or (node_key_fault before number wire) (Some (wire_kind fault)))
+node_front_fault before at (Whole field len) =
+    option_or (fault_at at (node_key_fault before field.number (wire_type field.content))) (body_fault at len field)
 
 -- the first fault of the fields of a node
 abbrev pub node_fault : List ℕ → List Placed → Option NodeFault
 node_fault before [] = None
-node_fault before (placed ∷ rest) = option_or (node_front_fault before placed.at placed.front) (node_fault (before ++ number_of placed.front ∷ []) rest)
+node_fault before (placed ∷ rest) =
+    option_or (node_front_fault before placed.at placed.front) (node_fault (before ++ number_of placed.front ∷ []) rest)
 
 -- the Hash of each link
 abbrev pub link_hashes : List (List ℕ) → List (List ℕ)
@@ -126,7 +137,9 @@ pub record NodeText : Type 0 where
   pub payload : Option (List ℕ)
 
 abbrev pub node_in : List Placed → Result NodeText NodeFault
-node_in fronts = unless (node_fault [] fronts) (Ok (record { links = link_hashes (parts_in 2 fronts); payload = first_of (parts_in 1 fronts) }))
+node_in fronts =
+    unless (node_fault [] fronts)
+    (Ok (record { links = link_hashes (parts_in 2 fronts); payload = first_of (parts_in 1 fronts) }))
 
 -- what a text says as a node, or its first fault
 unfoldable pub node_of : List ℕ → Result NodeText NodeFault

@@ -1,5 +1,6 @@
 -- The unsigned varint of Multiformats (unsigned-varint specification): minimal, and at most nine bytes.
-use Rattle.std.specs.Prelude.{◌≡◌, ◌+◌, ◌*◌, ◌<◌, ◌≤◌, ◌==◌, ◌&&◌, nat_le, nat_lt, if◌then◌else◌, ℕ, List, [], ◌∷◌, ◌++◌, length, slice_index, Option, None, Some}
+use Rattle.std.specs.Prelude.{◌≡◌, ◌+◌, ◌*◌, ◌<◌, ◌≤◌, ◌==◌, ◌&&◌, nat_le, nat_lt, if◌then◌else◌, ℕ, List, [], ◌∷◌}
+use Rattle.std.specs.Prelude.{◌++◌, length, slice_index, Option, None, Some}
 use Rattle.mc_base.specs.declared.varint.VarintFault.{VarintFault}
 use Rattle.mc_base.specs.declared.varint.VarintFault.TheVariants.{Short, Long, NotMinimal}
 
@@ -8,7 +9,9 @@ use Rattle.mc_base.specs.declared.varint.VarintFault.TheVariants.{Short, Long, N
 abbrev pub IsBase128 : List ℕ → ℕ → Type 0
 IsBase128 [] value = ⊥
 IsBase128 (byte ∷ []) value = (byte < 128) × (value ≡ byte)
-IsBase128 (byte ∷ next ∷ bytes) value = (128 ≤ byte) × (byte < 256) × (high : ℕ) × (0 < high) × (value + 128 ≡ byte + 128 * high) × IsBase128 (next ∷ bytes) high
+IsBase128 (byte ∷ next ∷ bytes) value =
+    (128 ≤ byte) × (byte < 256) × (high : ℕ) × (0 < high) × (value + 128 ≡ byte + 128 * high)
+    × IsBase128 (next ∷ bytes) high
 
 -- these bytes are the varint of this value
 pub record IsUnsignedVarint (bytes : List ℕ) (value : ℕ) : Type 0 where
@@ -35,4 +38,6 @@ varint_fault bytes =
 
 -- no spelling is the beginning of another, so each value has one spelling, and bytes may follow it
 abbrev pub OneSpelling : Type 0
-OneSpelling = (first second after other : List ℕ) (one two : ℕ) → IsUnsignedVarint first one → IsUnsignedVarint second two → first ++ after ≡ second ++ other → (first ≡ second) × (one ≡ two)
+OneSpelling =
+    (first second after other : List ℕ) (one two : ℕ) → IsUnsignedVarint first one → IsUnsignedVarint second two →
+    first ++ after ≡ second ++ other → (first ≡ second) × (one ≡ two)

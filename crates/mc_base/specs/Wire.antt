@@ -1,5 +1,7 @@
--- Fields in the Protocol Buffers wire format (Protocol Buffers documentation, "Encoding": "Base 128 Varints" and "Message Structure").
-use Rattle.std.specs.Prelude.{◌≡◌, ℕ, zero, suc, ◌+◌, ◌*◌, ◌/◌, ◌%◌, ◌<◌, ◌≤◌, List, [], ◌∷◌, ◌++◌, length, Bool, IsTrue, nat_le, nat_lt, ◌==◌, if◌then◌else◌, Option, Some, None}
+-- Fields in the Protocol Buffers wire format (Protocol Buffers documentation, "Encoding": "Base 128 Varints" and
+-- "Message Structure").
+use Rattle.std.specs.Prelude.{◌≡◌, ℕ, zero, suc, ◌+◌, ◌*◌, ◌/◌, ◌%◌, ◌<◌, ◌≤◌, List, [], ◌∷◌, ◌++◌, length, Bool}
+use Rattle.std.specs.Prelude.{IsTrue, nat_le, nat_lt, ◌==◌, if◌then◌else◌, Option, Some, None}
 use Rattle.std.specs.List.{list_all, filter_map}
 
 -- a byte after which its varint goes on: its high bit is set
@@ -76,7 +78,8 @@ Fields text (field ∷ fields) = (piece rest : List ℕ) × (text ≡ piece ++ r
 -- the varint of a value that has no byte more than it needs; `most` bounds the number of its bytes
 abbrev pub varint_bytes_within : ℕ → ℕ → List ℕ
 varint_bytes_within zero value = []
-varint_bytes_within (suc most) value = if nat_lt value 128 then (value ∷ []) else ((value % 128 + 128) ∷ varint_bytes_within most (value / 128))
+varint_bytes_within (suc most) value =
+    if nat_lt value 128 then (value ∷ []) else ((value % 128 + 128) ∷ varint_bytes_within most (value / 128))
 
 unfoldable pub varint_bytes : ℕ → List ℕ
 varint_bytes value = varint_bytes_within (suc value) value

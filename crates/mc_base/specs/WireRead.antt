@@ -1,5 +1,7 @@
 -- The fields of a text from left to right, with their offsets, and the first fault.
-use Rattle.std.specs.Prelude.{ℕ, zero, suc, ◌+◌, ◌-◌, ◌/◌, ◌%◌, ◌==◌, List, [], ◌∷◌, length, take, drop, Bool, true, false, nat_le, nat_lt, ◌&&◌, if◌then◌else◌, Option, Some, None, Result, Ok, Err, option_map}
+use Rattle.std.specs.Prelude.{ℕ, zero, suc, ◌+◌, ◌-◌, ◌/◌, ◌%◌, ◌==◌, List, [], ◌∷◌, length, take, drop, Bool, true}
+use Rattle.std.specs.Prelude.{false, nat_le, nat_lt, ◌&&◌, if◌then◌else◌, Option, Some, None, Result, Ok, Err}
+use Rattle.std.specs.Prelude.{option_map}
 use Rattle.std.specs.List.{prefix_len}
 use Rattle.mc_base.specs.Wire.{goes_on, groups_value, Field, Content, Varint, Fixed64, Part, Fixed32}
 
@@ -45,7 +47,8 @@ front_content wire text =
     else (if wire == 5 then front_bytes Fixed32 0 4 text
     else Err WireType)))
 
--- what stands at the front of a text that isn't empty: no key; a key of this number and wire type, without a content; or a field and its length
+-- what stands at the front of a text that isn't empty: no key; a key of this number and wire type, without a content;
+-- or a field and its length
 pub data Front : Type 0 where
   NoKey : WireFault → Front
   NoContent : ℕ → ℕ → WireFault → Front
@@ -57,7 +60,8 @@ front_field number wire len (Err fault) = NoContent number wire fault
 
 -- after a key of this number, wire type and length, where this rest stands
 abbrev pub after_key : ℕ → ℕ → ℕ → List ℕ → Front
-after_key number wire len rest = if number == 0 then NoContent 0 wire FieldZero else front_field number wire len (front_content wire rest)
+after_key number wire len rest =
+    if number == 0 then NoContent 0 wire FieldZero else front_field number wire len (front_content wire rest)
 
 -- after a key of this value and length
 abbrev pub front_keyed : Result (ℕ × ℕ) WireFault → List ℕ → Front
@@ -87,7 +91,8 @@ fronts_past skipped at [] = []
 fronts_past (suc skipped) at (byte ∷ bytes) = fronts_past skipped (at + 1) bytes
 fronts_past zero at (byte ∷ bytes) =
     record { at = at; front = front_of (byte ∷ bytes) }
-    ∷ (if is_whole (front_of (byte ∷ bytes)) then fronts_past (len_of (front_of (byte ∷ bytes)) - 1) (at + 1) bytes else [])
+    ∷ (if is_whole (front_of (byte ∷ bytes)) then fronts_past (len_of (front_of (byte ∷ bytes)) - 1)
+    (at + 1) bytes else [])
 
 unfoldable pub fronts_from : ℕ → List ℕ → List Placed
 fronts_from at text = fronts_past 0 at text

@@ -1,5 +1,6 @@
 -- Reading base32 without padding (RFC 4648, section 6), in upper or in lower case.
-use Rattle.std.specs.Prelude.{◌≡◌, ℕ, ◌+◌, ◌-◌, ◌*◌, ◌/◌, ◌%◌, ◌<◌, ◌==◌, ◌&&◌, ◌||◌, nat_le, nat_lt, if◌then◌else◌, Bool, List, [], ◌∷◌, ◌++◌, length, map, All, Option, None, Some, Result, Ok, Err, ⊤}
+use Rattle.std.specs.Prelude.{◌≡◌, ℕ, ◌+◌, ◌-◌, ◌*◌, ◌/◌, ◌%◌, ◌<◌, ◌==◌, ◌&&◌, ◌||◌, nat_le, nat_lt, if◌then◌else◌}
+use Rattle.std.specs.Prelude.{Bool, List, [], ◌∷◌, ◌++◌, length, map, All, Option, None, Some, Result, Ok, Err, ⊤}
 use Rattle.std.specs.List.{flat_map, list_all}
 use Rattle.mc_base.specs.Base32.{base32_of}
 use Rattle.mc_base.specs.declared.base32.Case.{Case}
@@ -16,7 +17,8 @@ first_letter Lower = 97
 
 -- whether a byte is a digit: a letter of that case, or 2 to 7
 abbrev pub is_digit32 : Case → ℕ → Bool
-is_digit32 case byte = (nat_le (first_letter case) byte && nat_lt byte (first_letter case + 26)) || (nat_le 50 byte && nat_lt byte 56)
+is_digit32 case byte =
+    (nat_le (first_letter case) byte && nat_lt byte (first_letter case + 26)) || (nat_le 50 byte && nat_lt byte 56)
 
 -- the value of a digit: the letters stand for 0 to 25, and 2 to 7 for 26 to 31
 abbrev pub digit_value : Case → ℕ → ℕ
@@ -53,7 +55,8 @@ unused bits = bits
 abbrev pub is_cut : ℕ → Bool
 is_cut length = (length == 1) || (length == 3) || (length == 6)
 
--- what digits spell, or the first fault: by the place of the first byte that is no digit, then the length, then the unused bits
+-- what digits spell, or the first fault: by the place of the first byte that is no digit, then the length, then the
+-- unused bits
 abbrev pub reading32 : Case → Option ℕ → List ℕ → Result (List ℕ) Base32Fault
 reading32 case (Some at) text = Err (BadChar at)
 reading32 case None text =
@@ -92,7 +95,8 @@ number32 front (value ∷ values) = number32 (front * 32 + value) values
 
 -- what was written is read again
 abbrev pub IsReadAgain : Type 0
-IsReadAgain = (case : Case) (bytes : List ℕ) → All (λ byte. byte < 256) bytes → decode32 case (base32_of case bytes) ≡ Ok bytes
+IsReadAgain =
+    (case : Case) (bytes : List ℕ) → All (λ byte. byte < 256) bytes → decode32 case (base32_of case bytes) ≡ Ok bytes
 
 -- only what is written for some bytes is read as these bytes, so they have one text
 abbrev pub IsOneText : Type 0

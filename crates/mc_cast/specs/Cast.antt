@@ -1,5 +1,5 @@
--- A broadcast by its fields (Protocol Buffers encoding): a head is a field 1 of wire type 2, and its cid is the last such field in
--- it. Other fields count for nothing.
+-- A broadcast by its fields (Protocol Buffers encoding): a head is a field 1 of wire type 2, and its cid is the last
+-- such field in it. Other fields count for nothing.
 use Rattle.std.specs.Prelude.{ℕ, ◌+◌, List, [], ◌∷◌, ◌++◌, Option, None, Some, option_map, option_and_then, unwrap_or}
 use Rattle.std.specs.List.{flat_map}
 use Rattle.mc_base.specs.Cid.{cid_prefix, cid_digest}
@@ -18,7 +18,8 @@ digest_in fields = option_and_then cid_digest (last_of (parts_of 1 fields))
 -- what heads with these bytes name, in order, where each is made of fields
 abbrev pub named_by : List (List ℕ) → Option (List (Option (List ℕ)))
 named_by [] = Some []
-named_by (body ∷ bodies) = option_and_then (λ fields. option_map (λ others. digest_in fields ∷ others) (named_by bodies)) (fields_of body)
+named_by (body ∷ bodies) =
+    option_and_then (λ fields. option_map (λ others. digest_in fields ∷ others) (named_by bodies)) (fields_of body)
 
 -- what the heads of a message with these fields name
 abbrev pub heads_in : List Field → Option (List (Option (List ℕ)))

@@ -31,7 +31,8 @@ IsFaultOf text (Fault fault) = IsFault text fault
 
 -- what was written is read again
 abbrev pub IsReadAgain : Type 0
-IsReadAgain = (digests : List (List ℕ)) → All (λ digest. length digest ≡ 32) digests → IsCast (cast_bytes digests) digests
+IsReadAgain =
+    (digests : List (List ℕ)) → All (λ digest. length digest ≡ 32) digests → IsCast (cast_bytes digests) digests
 
 -- a message has no wire fault exactly where it and its heads are made of fields
 abbrev pub IsSoundWhole : Type 0

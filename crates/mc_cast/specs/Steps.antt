@@ -35,7 +35,9 @@ pub record StandFor (kept : Heads) (heads : List (Option (List ℕ))) : Type 0 w
 -- what is kept after a field: what one more head names, where the field is a head, and else the same
 abbrev pub TakesHead : Option (List ℕ) → Heads → Heads → Type 0
 TakesHead None old new = new ≡ old
-TakesHead (Some body) old new = (named : Option (List ℕ)) × (option_map digest_in (fields_of body) ≡ Some named) × (first_fault (fronts_from 0 body) ≡ None)
+TakesHead (Some body) old new =
+    (named : Option (List ℕ)) × (option_map digest_in (fields_of body) ≡ Some named)
+    × (first_fault (fronts_from 0 body) ≡ None)
     × ((heads : List (Option (List ℕ))) → StandFor old heads → StandFor new (heads ++ named ∷ []))
 
 -- an error is the first wire fault of a head, or want of memory

@@ -1,6 +1,7 @@
 -- The text of an identifier (Multiformats CID specification): the Multibase code `b`, and the lower-case base32 of its
 -- 36 bytes without padding (RFC 4648, section 6).
-use Rattle.std.specs.Prelude.{◌≡◌, ℕ, ◌==◌, ◌++◌, if◌then◌else◌, List, [], ◌∷◌, length, codes, All, ◌<◌, Result, Ok, Err, ⊤}
+use Rattle.std.specs.Prelude.{◌≡◌, ℕ, ◌==◌, ◌++◌, if◌then◌else◌, List, [], ◌∷◌, length, codes, All, ◌<◌, Result, Ok}
+use Rattle.std.specs.Prelude.{Err, ⊤}
 use Rattle.std.specs.Option.{ok_or}
 use Rattle.mc_base.specs.Base32.{base32_of}
 use Rattle.mc_base.specs.Cid.{cid_prefix, cid_digest}
@@ -34,7 +35,9 @@ IsFaultOf (Fault fault) reading = reading ≡ Err fault
 
 -- what was written is read again
 abbrev pub IsReadAgain : Type 0
-IsReadAgain = (digest : List ℕ) → length digest ≡ 32 → All (λ byte. byte < 256) digest → read_cid_text (cid_text digest) ≡ Ok digest
+IsReadAgain =
+    (digest : List ℕ) → length digest ≡ 32 → All (λ byte. byte < 256) digest →
+    read_cid_text (cid_text digest) ≡ Ok digest
 
 -- only the text of an identifier is read as it, so each has one text
 abbrev pub IsOneText : Type 0

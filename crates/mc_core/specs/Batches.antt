@@ -1,5 +1,6 @@
 -- What the calls on a batch do.
-use Rattle.std.specs.Prelude.{◌≡◌, ℕ, Bool, true, false, List, [], ◌∷◌, ◌++◌, Option, Some, None, Result, Ok, Err, if◌then◌else◌}
+use Rattle.std.specs.Prelude.{◌≡◌, ℕ, Bool, true, false, List, [], ◌∷◌, ◌++◌, Option, Some, None, Result, Ok, Err}
+use Rattle.std.specs.Prelude.{if◌then◌else◌}
 use Rattle.std.specs.Option.{option_or}
 use Rattle.mc_model.specs.declared.delta.Delta.{Delta}
 use Rattle.mc_model.specs.Batch.{empty_batch, is_empty_batch, batch_put, batch_delete, batch_delta}
@@ -12,7 +13,8 @@ use Rattle.mc_core.specs.declared.error.CoreError.{CoreError}
 use Rattle.mc_core.specs.declared.made.Written.{Written}
 use Rattle.mc_core.specs.Events.{ReplicaState}
 use Rattle.mc_core.specs.Puts.{Adds, made_events, written_of, next_links, next_made}
-use Rattle.mc_core.specs.Refusals.{key_refusal, value_refusal, priority_refusal, made_refusal, running_refusal, no_batch_refusal, open_batch_refusal}
+use Rattle.mc_core.specs.Refusals.{key_refusal, value_refusal, priority_refusal, made_refusal, running_refusal}
+use Rattle.mc_core.specs.Refusals.{no_batch_refusal, open_batch_refusal}
 
 -- the batch after a call: this one where it succeeded, and else as before
 abbrev pub batch_once : {T : Type 0} → Result T CoreError → Option OpenBatch → Option OpenBatch → Option OpenBatch
@@ -37,38 +39,47 @@ BeginEvents events answer = events ≡ Batch (Some empty_batch) ∷ []
 
 -- a put comes into the batch
 abbrev pub batch_put_refusal : ReplicaState → List ℕ → List ℕ → Option CoreError
-batch_put_refusal s key value = running_refusal s.state.run (λ run. no_batch_refusal run.batch (λ batch. option_or (key_refusal key) (value_refusal value)))
+batch_put_refusal s key value =
+    running_refusal s.state.run
+    (λ run. no_batch_refusal run.batch (λ batch. option_or (key_refusal key) (value_refusal value)))
 
 abbrev pub BatchPutEvents : {T : Type 0} → ReplicaState → List ℕ → List ℕ → List Event → T → Type 0
-BatchPutEvents s key value events answer = OfRun s.state.run (λ batch. events ≡ Batch (Some (batch_put key value batch)) ∷ [])
+BatchPutEvents s key value events answer =
+    OfRun s.state.run (λ batch. events ≡ Batch (Some (batch_put key value batch)) ∷ [])
 
 -- a delete comes into the batch
 abbrev pub batch_delete_refusal : ReplicaState → List ℕ → Option CoreError
 batch_delete_refusal s key = running_refusal s.state.run (λ run. no_batch_refusal run.batch (λ batch. key_refusal key))
 
 abbrev pub BatchDeleteEvents : {T : Type 0} → ReplicaState → List ℕ → List Event → T → Type 0
-BatchDeleteEvents s key events answer = OfRun s.state.run (λ batch. events ≡ Batch (Some (batch_delete key (pairs (processed (kept_of s.state.durable)) key) batch)) ∷ [])
+BatchDeleteEvents s key events answer =
+    OfRun s.state.run
+    (λ batch. events ≡ Batch (Some (batch_delete key (pairs (processed (kept_of s.state.durable)) key) batch)) ∷ [])
 
 -- the batch becomes one block, or none where it is empty
 abbrev pub delta_of_batch : Kept → OpenBatch → Delta
 delta_of_batch kept batch = batch_delta (next_priority (processed kept)) batch
 
 abbrev pub batch_made_refusal : Kept → OpenBatch → Option CoreError
-batch_made_refusal kept batch = option_or (priority_refusal kept) (made_refusal kept (next_links kept) (delta_of_batch kept batch))
+batch_made_refusal kept batch =
+    option_or (priority_refusal kept) (made_refusal kept (next_links kept) (delta_of_batch kept batch))
 
 abbrev pub commit_kept_refusal : Kept → OpenBatch → Option CoreError
 commit_kept_refusal kept batch = if is_empty_batch batch then None else batch_made_refusal kept batch
 
 abbrev pub commit_refusal : ReplicaState → Option CoreError
-commit_refusal s = running_refusal s.state.run (λ run. no_batch_refusal run.batch (commit_kept_refusal (kept_of s.state.durable)))
+commit_refusal s =
+    running_refusal s.state.run (λ run. no_batch_refusal run.batch (commit_kept_refusal (kept_of s.state.durable)))
 
 abbrev pub BatchBecomes : Kept → OpenBatch → Bool → List Event → Option Written → Type 0
 BatchBecomes kept batch true events answer = (events ≡ Batch None ∷ []) × (answer ≡ None)
 BatchBecomes kept batch false events answer =
-    (events ≡ made_events kept (next_links kept) (delta_of_batch kept batch) ++ Batch None ∷ []) × (answer ≡ Some (written_of kept (next_links kept) (delta_of_batch kept batch)))
+    (events ≡ made_events kept (next_links kept) (delta_of_batch kept batch) ++ Batch None ∷ [])
+    × (answer ≡ Some (written_of kept (next_links kept) (delta_of_batch kept batch)))
 
 abbrev pub CommitEvents : ReplicaState → List Event → Option Written → Type 0
-CommitEvents s events answer = OfRun s.state.run (λ batch. BatchBecomes (kept_of s.state.durable) batch (is_empty_batch batch) events answer)
+CommitEvents s events answer =
+    OfRun s.state.run (λ batch. BatchBecomes (kept_of s.state.durable) batch (is_empty_batch batch) events answer)
 
 -- a batch adds its block, and an empty one none
 abbrev pub AddsBatch : Option Written → ReplicaState → ReplicaState → Type 0

@@ -1,5 +1,5 @@
--- What a call of a replica does: it is refused and changes nothing, or it is a list of events, or these are cut short by a
--- fault of the keeper.
+-- What a call of a replica does: it is refused and changes nothing, or it is a list of events, or these are cut short
+-- by a fault of the keeper.
 use Rattle.std.specs.Prelude.{◌≡◌, ◌⊎◌, List, [], Option, Some, None, Result, Ok, Err}
 use Rattle.mc_model.specs.Events.{Event}
 use Rattle.mc_core.specs.declared.error.CoreError.{CoreError}
@@ -11,7 +11,8 @@ abbrev pub Begins : {T : Type 0} → (List Event → T → Type 0) → List Even
 Begins {T} Makes events = (events ≡ []) ⊎ ((value : T) × Makes events value)
 
 -- nothing refuses the call, and all its events have happened
-pub record Does {T : Type 0} (Refusal : Option CoreError → Type 0) (Makes : List Event → T → Type 0) (value : T) (s new : ReplicaState) : Type 0 where
+pub record Does {T : Type 0} (Refusal : Option CoreError → Type 0) (Makes : List Event → T → Type 0) (value : T)
+    (s new : ReplicaState) : Type 0 where
   pub allowed : Refusal None
   pub events : List Event
   pub makes : Makes events value
@@ -31,9 +32,10 @@ IsRefused Refusal error s new = Refusal (Some error) × (new ≡ s)
 abbrev pub Stays : ReplicaState → ReplicaState → Type 0
 Stays s left = left ≡ s
 
--- The clause of every call: `Refusal` says which refusal is due, `Makes` which events the call makes with which answer, and
--- `Short` what a want of memory leaves.
-abbrev pub Call : {T : Type 0} → (Option CoreError → Type 0) → (List Event → T → Type 0) → (ReplicaState → Type 0) → Type 0
+-- The clause of every call: `Refusal` says which refusal is due, `Makes` which events the call makes with which answer,
+-- and `Short` what a want of memory leaves.
+abbrev pub Call : {T : Type 0} → (Option CoreError → Type 0) → (List Event → T → Type 0) → (ReplicaState → Type 0) →
+    Type 0
     → Result T CoreError → ReplicaState → ReplicaState → Type 0
 Call Refusal Makes Short rose (Ok value) s new = Does Refusal Makes value s new
 Call Refusal Makes Short rose (Err error) s new =

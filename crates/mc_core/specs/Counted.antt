@@ -1,5 +1,7 @@
--- What a replica keeps beside its keeper agrees with what the keeper tells: its numbers, as a test, and what is lost at a stop.
-use Rattle.std.specs.Prelude.{◌≡◌, ◌≤◌, ℕ, ◌-◌, ◌^◌, min, Bool, true, false, not, ◌&&◌, nat_eq, length, Option, Some, None}
+-- What a replica keeps beside its keeper agrees with what the keeper tells: its numbers, as a test, and what is lost at
+-- a stop.
+use Rattle.std.specs.Prelude.{◌≡◌, ◌≤◌, ℕ, ◌-◌, ◌^◌, min, Bool, true, false, not, ◌&&◌, nat_eq, length, Option, Some}
+use Rattle.std.specs.Prelude.{None}
 use Rattle.mc_model.specs.Front.{gaps}
 use Rattle.mc_model.specs.Graph.{no_gaps}
 use Rattle.mc_model.specs.Kept.{Kept, IsKept, processed}
@@ -34,8 +36,8 @@ abbrev pub run_of : Bool → Running → Option Running
 run_of true run = None
 run_of false run = Some run
 
--- What is told and what runs are sound together, in a form that has one proof at most: it is `IsSound` of both, where it
--- is told.
+-- What is told and what runs are sound together, in a form that has one proof at most: it is `IsSound` of both, where
+-- it is told.
 pub record AreSound (stop : Bool) (told : Option Kept) (run : Running) : Type 0 where
   pub is_kept : (kept : Kept) → told ≡ Some kept → IsKept kept
   -- of one that runs

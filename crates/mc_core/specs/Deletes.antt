@@ -1,5 +1,6 @@
 -- What a delete does: when it is refused, and which blocks it makes.
-use Rattle.std.specs.Prelude.{◌≡◌, ◌≤◌, ◌<◌, ⊤, ◌⊎◌, ℕ, ◌^◌, nat_lt, Bool, true, List, [], ◌∷◌, ◌++◌, length, take, fold, Option, Some, None, Result, Ok, Err, if◌then◌else◌}
+use Rattle.std.specs.Prelude.{◌≡◌, ◌≤◌, ◌<◌, ⊤, ◌⊎◌, ℕ, ◌^◌, nat_lt, Bool, true, List, [], ◌∷◌, ◌++◌, length, take}
+use Rattle.std.specs.Prelude.{fold, Option, Some, None, Result, Ok, Err, if◌then◌else◌}
 use Rattle.std.specs.List.{list_any, list_all}
 use Rattle.std.specs.Option.{option_or}
 use Rattle.mc_base.specs.declared.cid.Cid.{Cid}
@@ -34,7 +35,9 @@ with_made kept cid bytes = record {
 abbrev pub chain_events : Kept → List Cid → List Delta → List Event
 chain_events kept links [] = []
 chain_events kept links (delta ∷ deltas) =
-    made_events kept links delta ++ chain_events (with_made kept (made_cid links delta) (made_bytes links delta)) (made_cid links delta ∷ []) deltas
+    made_events kept links delta
+    ++ chain_events (with_made kept (made_cid links delta) (made_bytes links delta))
+    (made_cid links delta ∷ []) deltas
 
 -- the first clash among them
 abbrev pub chain_clash : Kept → List Cid → List Delta → Option CoreError
@@ -56,7 +59,8 @@ pub record IsDeltas (kept : Kept) (key : List ℕ) (deltas : List Delta) : Type 
 abbrev pub DeltasRefusal : Kept → List ℕ → Option CoreError → Type 0
 DeltasRefusal kept key refusal =
     ((deltas : List Delta) × IsDeltas kept key deltas × (refusal ≡ chain_clash kept (next_links kept) deltas))
-    ⊎ ((refusal ≡ Some PriorityFull) × IsPriorityFull (next_links kept) (next_priority (processed kept)) key (pairs (processed kept) key))
+    ⊎ ((refusal ≡ Some PriorityFull)
+    × IsPriorityFull (next_links kept) (next_priority (processed kept)) key (pairs (processed kept) key))
     ⊎ ((len : ℕ) × (refusal ≡ Some (BlockTooLarge len))
     × IsTooLarge (next_links kept) (next_priority (processed kept)) key (pairs (processed kept) key) len)
 
@@ -76,7 +80,8 @@ DeleteRefusal s key = RunRefusal s.state.run (DeleteKeptRefusal (kept_of s.state
 abbrev pub DeleteEvents : ReplicaState → List ℕ → List Event → Deleted → Type 0
 DeleteEvents s key events deleted =
     (deltas : List Delta) × IsDeltas (kept_of s.state.durable) key deltas
-    × (events ≡ chain_events (kept_of s.state.durable) (next_links (kept_of s.state.durable)) deltas) × (deleted.blocks ≡ length deltas)
+    × (events ≡ chain_events (kept_of s.state.durable) (next_links (kept_of s.state.durable)) deltas)
+    × (deleted.blocks ≡ length deltas)
 
 -- A want of memory leaves the replica as it was, or after some first blocks of the delete, but not all.
 abbrev pub DeleteShort : ReplicaState → List ℕ → ReplicaState → Type 0
@@ -111,7 +116,8 @@ AddsDeleted key (Err error) s new = ByKind (Adds [] s new) (AddsSome key s new) 
 abbrev pub ShortKeeps : List ℕ → Result Deleted CoreError → ReplicaState → ReplicaState → Type 0
 ShortKeeps key (Ok deleted) s left = ⊤
 ShortKeeps key (Err error) s left =
-    ByKind ⊤ ⊤ (value (processed (kept_of left.state.durable)) key ≡ value (processed (kept_of s.state.durable)) key) (kind_of error)
+    ByKind ⊤ ⊤ (value (processed (kept_of left.state.durable)) key ≡ value (processed (kept_of s.state.durable)) key)
+    (kind_of error)
 
 -- The blocks that the code makes, before they are taken up.
 
@@ -144,10 +150,12 @@ abbrev pub AreMade : Kept → List Cid → List Delta → List MadeBlock → Typ
 AreMade kept links [] [] = ⊤
 AreMade kept links [] (made ∷ blocks) = ⊥
 AreMade kept links (delta ∷ deltas) [] = ⊥
-AreMade kept links (delta ∷ deltas) (made ∷ blocks) = IsMade kept links delta made × AreMade (with_block kept made) (made.block.cid ∷ []) deltas blocks
+AreMade kept links (delta ∷ deltas) (made ∷ blocks) =
+    IsMade kept links delta made × AreMade (with_block kept made) (made.block.cid ∷ []) deltas blocks
 
 -- one more block was made, and these are the links of the next one
-pub record IsNextMade (kept : Kept) (old : List MadeBlock) (links : List Cid) (delta : Delta) (new : List MadeBlock) (next : List Cid) : Type 0 where
+pub record IsNextMade (kept : Kept) (old : List MadeBlock) (links : List Cid) (delta : Delta) (new : List MadeBlock)
+    (next : List Cid) : Type 0 where
   pub made : MadeBlock
   pub is_made : IsMade (with_all kept old) links delta made
   pub is_new : new ≡ old ++ made ∷ []
@@ -162,11 +170,14 @@ pub record IsDelete (kept : Kept) (key : List ℕ) (blocks : List MadeBlock) : T
 -- each may be taken up after those before it
 abbrev pub AreNext : Kept → List MadeBlock → Type 0
 AreNext kept [] = ⊤
-AreNext kept (made ∷ blocks) = IsNew kept made.block made.bytes [] × (made.known ≡ is_stored kept.graph made.block.cid) × AreNext (with_block kept made) blocks
+AreNext kept (made ∷ blocks) =
+    IsNew kept made.block made.bytes [] × (made.known ≡ is_stored kept.graph made.block.cid)
+    × AreNext (with_block kept made) blocks
 
 -- the events by which they are
 abbrev pub block_events : Kept → MadeBlock → List Event
-block_events kept made = with_store (store_change kept.graph made.block.cid made.bytes) (Process (made.block.cid ∷ []) ∷ [])
+block_events kept made =
+    with_store (store_change kept.graph made.block.cid made.bytes) (Process (made.block.cid ∷ []) ∷ [])
 
 abbrev pub all_events : Kept → List MadeBlock → List Event
 all_events kept [] = []
@@ -181,14 +192,16 @@ IsOutside error = OutsideIs ⊤ ⊤ error
 
 -- what happens where one made block is taken up, and where all are
 abbrev pub EndsOne : MadeBlock → Type 0 → CoreError → ReplicaState → ReplicaState → Type 0
-EndsOne made rose error s new = OutsideIs (Breaks (block_events (kept_of s.state.durable) made) rose s new) (new ≡ s) error
+EndsOne made rose error s new =
+    OutsideIs (Breaks (block_events (kept_of s.state.durable) made) rose s new) (new ≡ s) error
 
 abbrev pub TakesOne : {T : Type 0} → MadeBlock → Type 0 → Result T CoreError → ReplicaState → ReplicaState → Type 0
 TakesOne made rose (Ok done) s new = Goes (block_events (kept_of s.state.durable) made) s new
 TakesOne made rose (Err error) s new = EndsOne made rose error s new
 
 abbrev pub Takes : List MadeBlock → Type 0 → Result Deleted CoreError → ReplicaState → ReplicaState → Type 0
-Takes blocks rose (Ok deleted) s new = Goes (all_events (kept_of s.state.durable) blocks) s new × (deleted.blocks ≡ length blocks)
+Takes blocks rose (Ok deleted) s new =
+    Goes (all_events (kept_of s.state.durable) blocks) s new × (deleted.blocks ≡ length blocks)
 Takes blocks rose (Err error) s new =
     OutsideIs (Breaks (all_events (kept_of s.state.durable) blocks) rose s new)
     ((n : ℕ) × (n < length blocks) × Goes (all_events (kept_of s.state.durable) (take n blocks)) s new) error

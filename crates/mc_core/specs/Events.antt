@@ -1,5 +1,6 @@
 -- A replica over a keeper with a fuse, and what lists of events make of it.
-use Rattle.std.specs.Prelude.{◌≡◌, ⊤, ◌⊎◌, Bool, true, false, List, [], ◌∷◌, ◌++◌, fold, Option, Some, None, Result, Ok, Err}
+use Rattle.std.specs.Prelude.{◌≡◌, ⊤, ◌⊎◌, Bool, true, false, List, [], ◌∷◌, ◌++◌, fold, Option, Some, None, Result, Ok}
+use Rattle.std.specs.Prelude.{Err}
 use Rattle.std.specs.Option.{option_map}
 use Rattle.mc_model.specs.Events.{Event, MayCome, happens, is_commit}
 use Rattle.mc_model.specs.Kept.{Kept}
@@ -14,7 +15,8 @@ pub record ReplicaState : Type 0 where
 
 -- that of a replica over a keeper that tells this
 abbrev pub state_of : Option Kept → Option Fuse → Option Running → Option ReplicaState
-state_of told fuse run = option_map (λ (kept : Kept). record { state = record { durable = durable_of kept; run = run }; fuse = fuse }) told
+state_of told fuse run =
+    option_map (λ (kept : Kept). record { state = record { durable = durable_of kept; run = run }; fuse = fuse }) told
 
 -- whether the event is a commit
 abbrev pub commits : ReplicaState → Event → Bool
@@ -40,7 +42,9 @@ all_happen s events = fold goes_on s events
 -- each event may come where it comes, and no commit among them reaches the fuse
 abbrev pub MayHappen : ReplicaState → List Event → Type 0
 MayHappen s [] = ⊤
-MayHappen s (event ∷ events) = MayCome s.state.durable s.state.run event × (fires_by (commits s event) s.fuse ≡ None) × MayHappen (goes_on s event) events
+MayHappen s (event ∷ events) =
+    MayCome s.state.durable s.state.run event × (fires_by (commits s event) s.fuse ≡ None)
+    × MayHappen (goes_on s event) events
 
 -- all the events have happened
 pub record Goes (events : List Event) (s new : ReplicaState) : Type 0 where
@@ -59,8 +63,8 @@ stopped_with durable fuse = record { state = record { durable = durable; run = N
 abbrev pub stopped : ReplicaState → ReplicaState
 stopped s = stopped_with s.state.durable s.fuse
 
--- The event is a commit, and it fails: by itself it has happened wholly or not at all; by the fuse it has not, or it has.
--- Then the replica stops.
+-- The event is a commit, and it fails: by itself it has happened wholly or not at all; by the fuse it has not, or it
+-- has. Then the replica stops.
 pub record CommitBreaks (event : Event) (rose : Type 0) (s new : ReplicaState) : Type 0 where
   pub commit : commits s event ≡ true
   pub may : MayCome s.state.durable s.state.run event

@@ -48,7 +48,8 @@ fault_by (Some fault) heads = Some (Wire (fault_as fault))
 
 -- the refusal of a message, by its bytes
 abbrev pub cast_refusal : List ℕ → Option CoreError
-cast_refusal text = option_map (λ (fault : CastFault). BadCast fault) (fault_by (cast_fault (fronts_from 0 text)) (heads_of text))
+cast_refusal text =
+    option_map (λ (fault : CastFault). BadCast fault) (fault_by (cast_fault (fronts_from 0 text)) (heads_of text))
 
 -- an error of a reading says what the refusal is, or that memory was wanted
 abbrev pub IsRefusalOf : List ℕ → CastError → Type 0

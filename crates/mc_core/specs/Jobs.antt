@@ -1,5 +1,6 @@
 -- What the calls on wanted blocks do: jobs that begin, are given back, or are delivered.
-use Rattle.std.specs.Prelude.{◌≡◌, ⊤, ℕ, Bool, true, false, List, [], ◌∷◌, length, Option, Some, None, Result, Ok, Err, IfSome}
+use Rattle.std.specs.Prelude.{◌≡◌, ⊤, ℕ, Bool, true, false, List, [], ◌∷◌, length, Option, Some, None, Result, Ok, Err}
+use Rattle.std.specs.Prelude.{IfSome}
 use Rattle.mc_base.specs.declared.cid.Cid.{Cid}
 use Rattle.mc_model.specs.declared.block.Block.{Block}
 use Rattle.mc_model.specs.Draining.{delivery, queue_in}
@@ -32,7 +33,8 @@ first_waiting s = first_of (queue_in s.state.run).waiting
 abbrev pub NextEvents : ReplicaState → List Event → Option Job → Type 0
 NextEvents s events None = (first_waiting s ≡ None) × (events ≡ [])
 NextEvents s events (Some job) =
-    (first_waiting s ≡ Some job.cid) × (job.own ≡ bytes_at (kept_of s.state.durable).graph job.cid) × (events ≡ Want ∷ [])
+    (first_waiting s ≡ Some job.cid) × (job.own ≡ bytes_at (kept_of s.state.durable).graph job.cid)
+    × (events ≡ Want ∷ [])
 
 -- a want of memory leaves that block at the back of those that wait
 abbrev pub NextShort : ReplicaState → ReplicaState → Type 0
@@ -53,19 +55,23 @@ abbrev pub found_in : Found → Option (List ℕ)
 found_in (Bytes bytes) = Some bytes
 found_in NotFound = None
 
--- what is answered for a block in flight: no bytes were found, they are damaged, or they are a block, which is processed
+-- what is answered for a block in flight: no bytes were found, they are damaged, or they are a block, which is
+-- processed
 abbrev pub IsDelivered : Durable → Cid → Option (List ℕ) → Delivered → Type 0
 IsDelivered durable cid found (Processed position) =
-    (bytes : List ℕ) × (block : Block) × (found ≡ Some bytes) × (offer cid bytes ≡ Ok block) × (position ≡ length durable.order)
+    (bytes : List ℕ) × (block : Block) × (found ≡ Some bytes) × (offer cid bytes ≡ Ok block)
+    × (position ≡ length durable.order)
 IsDelivered durable cid found Missing = found ≡ None
 IsDelivered durable cid found (Bad damage) =
-    (bytes : List ℕ) × (why : Damage) × (found ≡ Some bytes) × (offer cid bytes ≡ Err why) × (damage ≡ damage_number why)
+    (bytes : List ℕ) × (why : Damage) × (found ≡ Some bytes) × (offer cid bytes ≡ Err why)
+    × (damage ≡ damage_number why)
 IsDelivered durable cid found Known = ⊥
 
 -- a delivery, by whether the block is in flight
 abbrev pub DeliversIn : Bool → Durable → Cid → Option (List ℕ) → List Event → Delivered → Type 0
 DeliversIn false durable cid found events answer = (answer ≡ Known) × (events ≡ [])
-DeliversIn true durable cid found events answer = (events ≡ delivery durable.graph cid found) × IsDelivered durable cid found answer
+DeliversIn true durable cid found events answer =
+    (events ≡ delivery durable.graph cid found) × IsDelivered durable cid found answer
 
 abbrev pub DeliverEvents : ReplicaState → Cid → Option (List ℕ) → List Event → Delivered → Type 0
 DeliverEvents s cid found = DeliversIn (has cid (queue_in s.state.run).flight) s.state.durable cid found

@@ -21,11 +21,14 @@ made_block links delta = record { cid = made_cid links delta; links = links; del
 
 -- the events that take it up: it is stored, unless it is, and then processed
 abbrev pub made_events : Kept → List Cid → Delta → List Event
-made_events kept links delta = with_store (store_change kept.graph (made_cid links delta) (made_bytes links delta)) (Process (made_cid links delta ∷ []) ∷ [])
+made_events kept links delta =
+    with_store (store_change kept.graph (made_cid links delta) (made_bytes links delta))
+    (Process (made_cid links delta ∷ []) ∷ [])
 
 -- what is answered for it
 abbrev pub written_of : Kept → List Cid → Delta → Written
-written_of kept links delta = record { cid = made_cid links delta; priority = delta.priority; position = length kept.order }
+written_of kept links delta =
+    record { cid = made_cid links delta; priority = delta.priority; position = length kept.order }
 
 -- its commits are planned, and nothing refuses it
 pub record IsPlanned (kept : Kept) (whole : Bool) (links : List Cid) (delta : Delta) (planned : Planned) : Type 0 where
@@ -44,17 +47,20 @@ delta_of_put kept key value = put_delta key value (next_priority (processed kept
 
 -- the refusals of a put that is made, and of one over what is processed, in their order
 abbrev pub put_made_refusal : Kept → List ℕ → List ℕ → Option CoreError
-put_made_refusal kept key value = option_or (priority_refusal kept) (made_refusal kept (next_links kept) (delta_of_put kept key value))
+put_made_refusal kept key value =
+    option_or (priority_refusal kept) (made_refusal kept (next_links kept) (delta_of_put kept key value))
 
 abbrev pub put_kept_refusal : Kept → List ℕ → List ℕ → Option CoreError
-put_kept_refusal kept key value = option_or (key_refusal key) (option_or (value_refusal value) (put_made_refusal kept key value))
+put_kept_refusal kept key value =
+    option_or (key_refusal key) (option_or (value_refusal value) (put_made_refusal kept key value))
 
 abbrev pub put_refusal : ReplicaState → List ℕ → List ℕ → Option CoreError
 put_refusal s key value = running_refusal s.state.run (λ run. put_kept_refusal (kept_of s.state.durable) key value)
 
 -- the events of a block that is made over what is processed, and its answer
 abbrev pub MadeEvents : Kept → Delta → List Event → Written → Type 0
-MadeEvents kept delta events written = (events ≡ made_events kept (next_links kept) delta) × (written ≡ written_of kept (next_links kept) delta)
+MadeEvents kept delta events written =
+    (events ≡ made_events kept (next_links kept) delta) × (written ≡ written_of kept (next_links kept) delta)
 
 -- those of a put
 abbrev pub PutEvents : ReplicaState → List ℕ → List ℕ → List Event → Written → Type 0

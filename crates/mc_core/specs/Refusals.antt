@@ -1,5 +1,6 @@
 -- Why a replica refuses: the causes, and the order in which they are looked at.
-use Rattle.std.specs.Prelude.{◌≡◌, ⊤, ℕ, Bool, ◌||◌, ◌-◌, ◌^◌, min, nat_lt, List, length, Option, Some, None, Result, if◌then◌else◌}
+use Rattle.std.specs.Prelude.{◌≡◌, ⊤, ℕ, Bool, ◌||◌, ◌-◌, ◌^◌, min, nat_lt, List, length, Option, Some, None, Result}
+use Rattle.std.specs.Prelude.{if◌then◌else◌}
 use Rattle.std.specs.Option.{option_or, option_map}
 use Rattle.std.specs.Str.{bytes_eq}
 use Rattle.mc_base.specs.declared.cid.Cid.{Cid}
@@ -17,7 +18,9 @@ use Rattle.mc_model.specs.State.{OpenBatch, Running}
 use Rattle.mc_write.specs.declared.error.WriteError.{WriteError}
 use Rattle.mc_write.specs.declared.error.WriteError.TheVariants as write
 use Rattle.mc_core.specs.declared.error.CoreError.{CoreError}
-use Rattle.mc_core.specs.declared.error.CoreError.TheVariants.{BadKey, ValueTooLong, BlockTooLarge, PriorityFull, Clash, KeeperFault, Stopped, BadCast, NoBatch, BatchOpen, Memory}
+use Rattle.mc_core.specs.declared.error.CoreError.TheVariants.{BadKey, ValueTooLong, BlockTooLarge, PriorityFull, Clash}
+use Rattle.mc_core.specs.declared.error.CoreError.TheVariants.{KeeperFault, Stopped, BadCast, NoBatch, BatchOpen}
+use Rattle.mc_core.specs.declared.error.CoreError.TheVariants.{Memory}
 
 -- what an error means: the one table of them
 abbrev pub kind_of : CoreError → Kind
@@ -71,7 +74,8 @@ priority_refusal kept = if nat_lt (next_priority (processed kept)) (2 ^ 64) then
 
 -- a made block has too many bytes
 abbrev pub size_refusal : List ℕ → Option CoreError
-size_refusal bytes = if nat_lt block_max (length bytes) then Some (BlockTooLarge (min (length bytes) (2 ^ 64 - 1))) else None
+size_refusal bytes =
+    if nat_lt block_max (length bytes) then Some (BlockTooLarge (min (length bytes) (2 ^ 64 - 1))) else None
 
 -- it is processed already, or other bytes are stored under its identifier
 abbrev pub other_refusal : Cid → List ℕ → Option (List ℕ) → Option CoreError
@@ -79,11 +83,14 @@ other_refusal cid bytes None = None
 other_refusal cid bytes (Some other) = if bytes_eq other bytes then None else Some (Clash cid)
 
 abbrev pub clash_refusal : Kept → Cid → List ℕ → Option CoreError
-clash_refusal kept cid bytes = if is_among kept.order cid then Some (Clash cid) else other_refusal cid bytes (bytes_at kept.graph cid)
+clash_refusal kept cid bytes =
+    if is_among kept.order cid then Some (Clash cid) else other_refusal cid bytes (bytes_at kept.graph cid)
 
 -- the refusal of a block that is made with these links and this delta
 abbrev pub made_refusal : Kept → List Cid → Delta → Option CoreError
-made_refusal kept links delta = option_or (size_refusal (made_bytes links delta)) (clash_refusal kept (made_cid links delta) (made_bytes links delta))
+made_refusal kept links delta =
+    option_or (size_refusal (made_bytes links delta))
+    (clash_refusal kept (made_cid links delta) (made_bytes links delta))
 
 -- a replica that doesn't run refuses every call, and before all else
 abbrev pub running_refusal : Option Running → (Running → Option CoreError) → Option CoreError

@@ -1,5 +1,6 @@
 -- The commits that take up a block.
-use Rattle.std.specs.Prelude.{◌≡◌, IfSome, ⊤, ℕ, ◌+◌, Bool, true, false, not, List, [], ◌∷◌, ◌++◌, filter, fold, length, Option, Some, None, unwrap_or, Ok, if◌then◌else◌}
+use Rattle.std.specs.Prelude.{◌≡◌, IfSome, ⊤, ℕ, ◌+◌, Bool, true, false, not, List, [], ◌∷◌, ◌++◌, filter, fold, length}
+use Rattle.std.specs.Prelude.{Option, Some, None, unwrap_or, Ok, if◌then◌else◌}
 use Rattle.mc_base.specs.declared.cid.Cid.{Cid}
 use Rattle.mc_model.specs.declared.block.Block.{Block}
 use Rattle.mc_model.specs.declared.block.Stored.{Stored}
@@ -36,10 +37,12 @@ pub record IsNew (kept : Kept) (block : Block) (bytes : List ℕ) (links : List 
 
 -- the changes that store these bytes, unless they are stored
 abbrev pub store_change : List Stored → Cid → List ℕ → Option Changes
-store_change graph cid bytes = if is_stored graph cid then None else Some (record no_changes { store = record { cid = cid; bytes = bytes } ∷ [] })
+store_change graph cid bytes =
+    if is_stored graph cid then None else Some (record no_changes { store = record { cid = cid; bytes = bytes } ∷ [] })
 
 -- the changes process these blocks and nothing else, where `whole` says whether every gap is wanted
-pub record Processes (kept : Kept) (whole : Bool) (blocks : List Block) (cids : List Cid) (changes : Changes) : Type 0 where
+pub record Processes (kept : Kept) (whole : Bool) (blocks : List Block) (cids : List Cid) (changes : Changes)
+    : Type 0 where
   pub only : changes.store ≡ []
   pub marks : changes.marks ≡ cids
   pub rows : RowsFit (processed kept) blocks changes
@@ -74,7 +77,8 @@ pub record IsReady (kept : Kept) (whole : Bool) (changes : Changes) (after : Aft
   pub fits : ChangesFit kept changes
   pub mark : unwrap_or changes.mark kept.mark ≡ processed_mark whole (durable_of kept) (kept.order ++ changes.marks)
   pub gaps_left : after.gaps ≡ length (gaps (processed (changed kept changes)))
-  pub wanted : (q : Queue) → processed_queue (durable_of kept) q changes.marks ≡ wants (without q changes.marks) after.links
+  pub wanted : (q : Queue) →
+      processed_queue (durable_of kept) q changes.marks ≡ wants (without q changes.marks) after.links
 
 -- the rows of an uptake
 abbrev pub uptake_rows : Uptake → ℕ

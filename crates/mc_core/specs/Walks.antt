@@ -1,5 +1,6 @@
 -- What the calls of the repair walk do, and what is settled at its end.
-use Rattle.std.specs.Prelude.{◌≡◌, ◌==◌, ℕ, Bool, true, false, List, [], ◌∷◌, filter, length, not, ◌&&◌, Option, Some, None, if◌then◌else◌}
+use Rattle.std.specs.Prelude.{◌≡◌, ◌==◌, ℕ, Bool, true, false, List, [], ◌∷◌, filter, length, not, ◌&&◌, Option, Some}
+use Rattle.std.specs.Prelude.{None, if◌then◌else◌}
 use Rattle.std.specs.Option.{option_map}
 use Rattle.mc_base.specs.declared.cid.Cid.{Cid}
 use Rattle.mc_model.specs.Events.{Event, WalkBegin, WalkVisit, WalkEnd, links_at}
@@ -50,7 +51,8 @@ RunStep (Some run) events step = (step ≡ step_due run.whole run.walk) × (even
 abbrev pub WalkEvents : ReplicaState → List Event → WalkStep → Type 0
 WalkEvents s = RunStep s.state.run
 
--- what becomes of the walk, over every keeper: one that begins has the keeper's number of processed blocks as its length
+-- what becomes of the walk, over every keeper: one that begins has the keeper's number of processed blocks as its
+-- length
 abbrev pub WalkGoes : WalkStep → Option Walk → Option Walk → Type 0
 WalkGoes Idle old new = new ≡ old
 WalkGoes Begun old new = (length : ℕ) × (new ≡ Some (begun length))

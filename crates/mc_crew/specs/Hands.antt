@@ -6,8 +6,8 @@ use Rattle.mc_fetch.specs.Calls.{Asks, Members}
 use Rattle.mc_fetch.specs.Fits.{Map}
 use Rattle.mc_fetch.specs.Offers.{Offered, found_by}
 
--- a hand that has not worked: its seat is one of the node's, keeps to the node's limit and has no job out, and its fetch
--- fits
+-- a hand that has not worked: its seat is one of the node's, keeps to the node's limit and has no job out, and its
+-- fetch fits
 pub record IsHired (Owned Under Sealed : Type 0) (out : Option Cid) (Fits : Type 0) : Type 0 where
   pub own : Owned
   pub under : Under

@@ -6,7 +6,8 @@ use Rattle.mc_base.specs.WireRead.{Front, Whole}
 use Rattle.mc_wire.specs.Named.{field_at, fronts_at, EndsAt}
 use Rattle.mc_wire.specs.declared.field.Field.{Field}
 use Rattle.mc_dagpb.specs.declared.fault.NodeFaultKind.{NodeFaultKind}
-use Rattle.mc_dagpb.specs.declared.fault.NodeFaultKind.TheVariants.{Short, LongVarint, WireType, BadField, Order, NoHash, NameText}
+use Rattle.mc_dagpb.specs.declared.fault.NodeFaultKind.TheVariants.{Short, LongVarint, WireType, BadField, Order}
+use Rattle.mc_dagpb.specs.declared.fault.NodeFaultKind.TheVariants.{NoHash, NameText}
 use Rattle.mc_dagpb.specs.declared.fault.NodeFault.{NodeFault}
 use Rattle.mc_dagpb.specs.declared.link.Span.{Span}
 
@@ -36,7 +37,8 @@ whole_front text field = Whole (field_at text field) 0
 -- a field at an offset of a link that may stand there
 pub record LinkFieldAt (text : List ℕ) (at before : ℕ) (field : Field) : Type 0 where
   pub len : ℕ
-  pub fronts : fronts_at text at ≡ record { at = at; front = Whole (field_at text field) len } ∷ fronts_at text field.next
+  pub fronts : fronts_at text at
+      ≡ record { at = at; front = Whole (field_at text field) len } ∷ fronts_at text field.next
   pub fine : link_front_fault before (Whole (field_at text field) len) ≡ None
   pub bytes : EndsAt field.content field.next
   pub begins : at < field.next

@@ -16,7 +16,8 @@ node_text node = record { links = node.links; payload = node.payload }
 
 -- what a borrowed node says
 abbrev pub view_text : NodeView → NodeText
-view_text view = record { links = map (λ link. link.now) view.links; payload = option_map (λ bytes. bytes.now) view.payload }
+view_text view =
+    record { links = map (λ link. link.now) view.links; payload = option_map (λ bytes. bytes.now) view.payload }
 
 -- a fault is the first one of the text
 abbrev pub IsFault : List ℕ → NodeError → Type 0

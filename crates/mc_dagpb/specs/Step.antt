@@ -23,7 +23,9 @@ span_of (Link span) = (span.from, span.to)
 -- the bytes of Data, or the Hash of a link
 abbrev pub Says : List ℕ → NodeField → Front → Type 0
 Says text (Data span) front = (part_in 1 front ≡ Some (span_bytes text span)) × (part_in 2 front ≡ None)
-Says text (Link span) front = (body : List ℕ) × (part_in 1 front ≡ None) × (part_in 2 front ≡ Some body) × (first_of (parts_in 1 (fronts_from 0 body)) ≡ Some (span_bytes text span))
+Says text (Link span) front =
+    (body : List ℕ) × (part_in 1 front ≡ None) × (part_in 2 front ≡ Some body)
+    × (first_of (parts_in 1 (fronts_from 0 body)) ≡ Some (span_bytes text span))
 
 abbrev pub IsInside : List ℕ → NodeField → Type 0
 IsInside text (Data span) = IsSpan text span

@@ -1,7 +1,9 @@
 -- What reading a delta gives.
-use Rattle.std.specs.Prelude.{◌≡◌, ℕ, List, [], ◌∷◌, ◌++◌, ◌==◌, ◌||◌, if◌then◌else◌, Option, Some, None, Err, ⊤, unwrap_or}
+use Rattle.std.specs.Prelude.{◌≡◌, ℕ, List, [], ◌∷◌, ◌++◌, ◌==◌, ◌||◌, if◌then◌else◌, Option, Some, None, Err, ⊤}
+use Rattle.std.specs.Prelude.{unwrap_or}
 use Rattle.mc_base.specs.Wire.{Field}
-use Rattle.mc_model.specs.DeltaText.{DeltaFault, delta_of, delta_read, element_in, tomb_in, entry_fault, entry_part_fault, part_of, varint_of}
+use Rattle.mc_model.specs.DeltaText.{DeltaFault, delta_of, delta_read, element_in, tomb_in, entry_fault}
+use Rattle.mc_model.specs.DeltaText.{entry_part_fault, part_of, varint_of}
 use Rattle.mc_model.specs.declared.delta.Delta.{Delta}
 use Rattle.mc_model.specs.declared.delta.Element.{Element}
 use Rattle.mc_model.specs.declared.delta.Tomb.{Tomb}

@@ -1,5 +1,6 @@
 -- What the calls of a drain of the wanted set lead to, as facts about two states of a replica.
-use Rattle.std.specs.Prelude.{◌≡◌, ◌≤◌, ◌+◌, ◌-◌, ◌*◌, ⊤, ℕ, Bool, true, false, cond, ◌&&◌, ◌||◌, List, [], ◌∷◌, ◌++◌, length, Option, Some, None}
+use Rattle.std.specs.Prelude.{◌≡◌, ◌≤◌, ◌+◌, ◌-◌, ◌*◌, ⊤, ℕ, Bool, true, false, cond, ◌&&◌, ◌||◌, List, [], ◌∷◌, ◌++◌}
+use Rattle.std.specs.Prelude.{length, Option, Some, None}
 use Rattle.mc_base.specs.declared.cid.Cid.{Cid}
 use Rattle.mc_model.specs.Drain.{PartsFit, is_in_order, is_new, offered_links}
 use Rattle.mc_model.specs.Draining.{HasDrained, bytes_in, came, offers_of, queue_in}
@@ -18,8 +19,8 @@ may_be_left map old start added c =
     in_graph old.graph c
     || (has c added || ((has c start || has c (offered_links (offers_of map) added)) && is_found (offers_of map c)))
 
--- From the durable state `old`, where `start` was wanted, a drain has left this behind, where a fault of the keeper broke
--- it off. Nothing is wanted any more.
+-- From the durable state `old`, where `start` was wanted, a drain has left this behind, where a fault of the keeper
+-- broke it off. Nothing is wanted any more.
 pub record HasBrokenOff (map : Map) (old : Durable) (start : List Cid) (now : Durable) : Type 0 where
   -- the added blocks follow those that were processed
   pub grown : now.order ≡ old.order ++ came old.order now.order
@@ -49,21 +50,22 @@ count s = length s.state.durable.order
 abbrev pub up_to : ℕ → ReplicaState → ℕ
 up_to limit s = count s + (limit - count s)
 
--- What some commits, at most so many, leave of a fuse, by whether the last call failed: it burns by as many as there were,
--- or one of them fired it, which is that of the call that failed.
+-- What some commits, at most so many, leave of a fuse, by whether the last call failed: it burns by as many as there
+-- were, or one of them fired it, which is that of the call that failed.
 abbrev pub FuseGoes : Bool → ℕ → Option Fuse → Option Fuse → Type 0
 FuseGoes failed most None new = new ≡ None
 FuseGoes failed most (Some old) None = (failed ≡ true) × (old.commit ≤ most)
-FuseGoes failed most (Some old) (Some new) = (new.after ≡ old.after) × (new.commit ≤ old.commit) × (old.commit ≤ new.commit + most)
+FuseGoes failed most (Some old) (Some new) =
+    (new.after ≡ old.after) × (new.commit ≤ old.commit) × (old.commit ≤ new.commit + most)
 
 -- how many commits there may be between two states: two for each block that came, and two for a call that failed
 abbrev pub commits_between : Bool → ReplicaState → ReplicaState → ℕ
 commits_between failed s new = 2 * (count new - count s) + cond failed 2 0
 
--- What some calls lead to, of which the last alone may have failed, and did so where `failed` is true: no block is lost, no
--- more than `most` are processed then, and the fuse burns by their commits at most; and where P holds of what is found and
--- of the blocks that were stored at a drain's beginning, a drain that had come to the first state has come to the second,
--- or has broken off there; and where R holds, missing and bad go on holding what their names say.
+-- What some calls lead to, of which the last alone may have failed, and did so where `failed` is true: no block is
+-- lost, no more than `most` are processed then, and the fuse burns by their commits at most; and where P holds of what
+-- is found and of the blocks that were stored at a drain's beginning, a drain that had come to the first state has come
+-- to the second, or has broken off there; and where R holds, missing and bad go on holding what their names say.
 pub record LeadsBy (failed : Bool) (most : ℕ) (P R : Map → List Cid → Type 0) (s new : ReplicaState) : Type 0 where
   pub grows : GoesOn s.state.durable new.state.durable
   pub few : count new ≤ most

@@ -1,5 +1,6 @@
 -- What the walk of a repair, and a repair, lead to.
-use Rattle.std.specs.Prelude.{◌≡◌, ◌≢◌, ◌≤◌, ◌+◌, ◌-◌, ⊤, ℕ, Bool, true, false, List, [], Option, Some, Result, Ok, Err, IfSome}
+use Rattle.std.specs.Prelude.{◌≡◌, ◌≢◌, ◌≤◌, ◌+◌, ◌-◌, ⊤, ℕ, Bool, true, false, List, [], Option, Some, Result, Ok, Err}
+use Rattle.std.specs.Prelude.{IfSome}
 use Rattle.mc_base.specs.declared.cid.Cid.{Cid}
 use Rattle.mc_fetch.specs.Fits.{Map}
 use Rattle.mc_model.specs.Events.{GoesOn}
@@ -28,8 +29,8 @@ step_commits (Ok true) = 1
 step_commits (Ok false) = 0
 step_commits (Err end) = 1
 
--- What steps of a walk lead to, of which the last alone may have failed: nothing is processed, the fuse burns by so many
--- commits at most, and a repair that had come to the first state has come to the second, or has broken off there.
+-- What steps of a walk lead to, of which the last alone may have failed: nothing is processed, the fuse burns by so
+-- many commits at most, and a repair that had come to the first state has come to the second, or has broken off there.
 pub record Walks (failed : Bool) (most : ℕ) (s new : ReplicaState) : Type 0 where
   pub same : count new ≡ count s
   pub grows : GoesOn s.state.durable new.state.durable
@@ -77,9 +78,9 @@ RepairReaches (Err error) new = ⊤
 abbrev pub repair_commits : Result Repaired WorkError → ReplicaState → ReplicaState → ℕ
 repair_commits result s new = commits_between (keeper_broke result) s new + 1
 
--- What a repair with this budget leads to, where the keeper tells: no block is lost, no more come than the budget, the fuse
--- burns by its commits at most, the state is sound, a clean replica has what its heads reach, and where it is known what is
--- found, the answer is that of the closure of what was wanted and of the gaps.
+-- What a repair with this budget leads to, where the keeper tells: no block is lost, no more come than the budget, the
+-- fuse burns by its commits at most, the state is sound, a clean replica has what its heads reach, and where it is
+-- known what is found, the answer is that of the closure of what was wanted and of the gaps.
 pub record RepairLeads (budget : ℕ) (offers : Option Map) (result : Result Repaired WorkError) (s new : ReplicaState)
     : Type 0 where
   pub grows : GoesOn s.state.durable new.state.durable

@@ -16,14 +16,16 @@ use Rattle.mc_drain.specs.Repairs.{repair_start}
 abbrev pub FindsFrom : Option Map → List Vertex → Map → List Cid → Type 0
 FindsFrom offers graph map kept = (found_from graph offers ≡ Some map) × (kept ≡ cids_in graph)
 
--- What workers led to from a state with so many processed blocks, with fetches that all tell this, and within a budget; and
--- whether the keeper failed.
-pub record HasWorkedFrom (failed : Bool) (before budget : ℕ) (offers : Option Map) (root s : ReplicaState) : Type 0 where
+-- What workers led to from a state with so many processed blocks, with fetches that all tell this, and within a budget;
+-- and whether the keeper failed.
+pub record HasWorkedFrom (failed : Bool) (before budget : ℕ) (offers : Option Map) (root s : ReplicaState)
+    : Type 0 where
   pub counted : before ≡ capped (count root)
-  pub leads : LeadsBy failed (up_to (capped (before + budget)) root) (FindsFrom offers root.state.durable.graph) Never root s
+  pub leads : LeadsBy failed (up_to (capped (before + budget)) root)
+      (FindsFrom offers root.state.durable.graph) Never root s
 
--- What the beginning of a repair led to: all was recalled, and the walk has come to its end. What is found is the same, and
--- the blocks that are processed from here on are those of the repair.
+-- What the beginning of a repair led to: all was recalled, and the walk has come to its end. What is found is the same,
+-- and the blocks that are processed from here on are those of the repair.
 pub record HasWalkedFrom (root s : ReplicaState) : Type 0 where
   pub same : count s ≡ count root
   pub grows : GoesOn root.state.durable s.state.durable

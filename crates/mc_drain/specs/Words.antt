@@ -1,5 +1,6 @@
 -- The words of a drain's calls.
-use Rattle.std.specs.Prelude.{◌≡◌, ◌≤◌, ⊤, ℕ, Bool, true, false, List, [], ◌∷◌, ◌++◌, Option, Some, None, Result, Ok, Err}
+use Rattle.std.specs.Prelude.{◌≡◌, ◌≤◌, ⊤, ℕ, Bool, true, false, List, [], ◌∷◌, ◌++◌, Option, Some, None, Result, Ok}
+use Rattle.std.specs.Prelude.{Err}
 use Rattle.mc_base.specs.declared.cid.Cid.{Cid}
 use Rattle.mc_fetch.specs.Fits.{FetchFits, Map, OwnFits}
 use Rattle.mc_fetch.specs.declared.error.FetchError.{FetchError}
@@ -107,7 +108,8 @@ pub record SortsFirst (offers : Option Map) (s : ReplicaState) (before after : L
   pub goods : List Cid
   pub was : before ≡ first ∷ rest
   pub is : after ≡ rest ++ goods
-  pub good : (map : Map) (kept : List Cid) → Fetched offers map kept → (old : Durable) (start : List Cid) → HasDrained map kept old start s.state → (c : Cid) → has c goods ≡ true → is_found (offers_of map c) ≡ true
+  pub good : (map : Map) (kept : List Cid) → Fetched offers map kept → (old : Durable) (start : List Cid) →
+      HasDrained map kept old start s.state → (c : Cid) → has c goods ≡ true → is_found (offers_of map c) ≡ true
 
 -- all that wait have good offers, wherever P holds of what is found
 abbrev pub AllGood : (Map → List Cid → Type 0) → ReplicaState → List Cid → Type 0
@@ -118,18 +120,21 @@ AllGood P s waiting = (map : Map) (kept : List Cid) → P map kept → (old : Du
 abbrev pub NothingStuck : ReplicaState → Type 0
 NothingStuck s = ((queue_in s.state.run).missing ≡ []) × ((queue_in s.state.run).bad ≡ [])
 
--- What a drain of the caller's leads to, where P holds of what is found. No block is lost, and the fuse burns by its commits
--- at most. It ends as idle where nothing waits, and as spent where the limit is reached and all that wait have good offers;
--- in both cases missing and bad hold what their names say.
+-- What a drain of the caller's leads to, where P holds of what is found. No block is lost, and the fuse burns by its
+-- commits at most. It ends as idle where nothing waits, and as spent where the limit is reached and all that wait have
+-- good offers; in both cases missing and bad hold what their names say.
 pub record DrainLeads (end : DrainEnd) (limit : ℕ) (P : Map → List Cid → Type 0) (s new : ReplicaState) : Type 0 where
   pub grows : GoesOn s.state.durable new.state.durable
   pub within : count new ≤ up_to limit s
   pub fuse : FuseGoes (is_keeper end) (commits_between (is_keeper end) s new) s.fuse new.fuse
   pub spent : end ≡ Spent → limit ≤ count new
   pub goes : is_keeper end ≡ false → (map : Map) (kept : List Cid) → P map kept
-      → (old : Durable) (start : List Cid) → HasDrained map kept old start s.state → HasDrained map kept old start new.state
+      → (old : Durable) (start : List Cid) → HasDrained map kept old start s.state →
+      HasDrained map kept old start new.state
   pub parts : is_keeper end ≡ false → (map : Map) (kept : List Cid) → P map kept
-      → (old : Durable) (start : List Cid) → HasDrained map kept old start s.state → PartsFit (offers_of map) (queue_in new.state.run)
+      → (old : Durable) (start : List Cid) → HasDrained map kept old start s.state →
+      PartsFit (offers_of map) (queue_in new.state.run)
   pub breaks : is_keeper end ≡ true → (map : Map) (kept : List Cid) → P map kept
-      → (old : Durable) (start : List Cid) → HasDrained map kept old start s.state → HasBrokenOff map old start new.state.durable
+      → (old : Durable) (start : List Cid) → HasDrained map kept old start s.state →
+      HasBrokenOff map old start new.state.durable
   pub good : end ≡ Spent → AllGood P s (queue_in new.state.run).waiting

@@ -1,5 +1,6 @@
 -- What a work of the wanted blocks, and a repair, lead to.
-use Rattle.std.specs.Prelude.{◌≡◌, ◌≢◌, ◌≤◌, ◌+◌, ◌-◌, ⊤, ℕ, Bool, true, false, List, [], length, Option, Some, Result, Ok, Err, IfSome}
+use Rattle.std.specs.Prelude.{◌≡◌, ◌≢◌, ◌≤◌, ◌+◌, ◌-◌, ⊤, ℕ, Bool, true, false, List, [], length, Option, Some, Result}
+use Rattle.std.specs.Prelude.{Ok, Err, IfSome}
 use Rattle.mc_base.specs.declared.cid.Cid.{Cid}
 use Rattle.mc_fetch.specs.Fits.{Map}
 use Rattle.mc_model.specs.Drain.{IsClosure, IsSoFar, PartsFit}
@@ -78,9 +79,10 @@ WorkCounts budget (Ok (Again processed)) s new = (processed ≡ came_between s n
 WorkCounts budget (Err error) s new = ⊤
 
 -- What a work of this budget leads to, where the keeper tells: no block is lost, no more come than the budget, the fuse
--- burns by their commits at most, the state is sound, and where it is known what is found, the answer is that of the closure
--- of what was wanted.
-pub record WorkLeads (budget : ℕ) (offers : Option Map) (result : Result Worked WorkError) (s new : ReplicaState) : Type 0 where
+-- burns by their commits at most, the state is sound, and where it is known what is found, the answer is that of the
+-- closure of what was wanted.
+pub record WorkLeads (budget : ℕ) (offers : Option Map) (result : Result Worked WorkError) (s new : ReplicaState)
+    : Type 0 where
   pub grows : GoesOn s.state.durable new.state.durable
   pub within : count new ≤ count s + budget
   pub fuse : FuseGoes (keeper_broke result) (commits_between (keeper_broke result) s new) s.fuse new.fuse
@@ -88,8 +90,8 @@ pub record WorkLeads (budget : ℕ) (offers : Option Map) (result : Result Worke
   pub sound : IsSound new.state
   pub is : (map : Map) → found_from s.state.durable.graph offers ≡ Some map → WorkIs map result s new
 
--- what is wanted after a work, over every keeper: nothing is in flight, unless the replica has stopped; where it is done
--- nothing waits, and the numbers are those of the missing and the bad ones
+-- what is wanted after a work, over every keeper: nothing is in flight, unless the replica has stopped; where it is
+-- done nothing waits, and the numbers are those of the missing and the bad ones
 abbrev pub WorkWants : Result Worked WorkError → Queue → Type 0
 WorkWants (Ok (Done processed missing bad)) q =
     (q.waiting ≡ []) × (q.flight ≡ []) × (missing ≡ length q.missing) × (bad ≡ length q.bad)

@@ -16,21 +16,25 @@ placed_peers : (peers : List (Cid → PeerOffers)) (cid : Cid) → length (place
 placed_peers [] cid = refl
 placed_peers (peer ∷ peers) cid = omega (arith, placed_peers peers cid)
 
-onto_length : (peer : Option (Cid → PeerOffers)) (peers : Option (List (Cid → PeerOffers))) (n : ℕ) → IfSome peers (λ ps. length ps ≡ n) → IfSome (onto_peers peer peers) (λ ps. length ps ≡ suc n)
+onto_length : (peer : Option (Cid → PeerOffers)) (peers : Option (List (Cid → PeerOffers))) (n : ℕ) →
+    IfSome peers (λ ps. length ps ≡ n) → IfSome (onto_peers peer peers) (λ ps. length ps ≡ suc n)
 onto_length None peers n h = tt
 onto_length (Some peer) None n h = tt
 onto_length (Some peer) (Some peers) n h = ap suc h
 
-placed_from : (peers : Option (List (Cid → PeerOffers))) (n : ℕ) → IfSome peers (λ ps. length ps ≡ n) → IfSome (option_map places_of peers) (λ offered. (cid : Cid) → length (offered cid) ≡ 2 * n)
+placed_from : (peers : Option (List (Cid → PeerOffers))) (n : ℕ) → IfSome peers (λ ps. length ps ≡ n) →
+    IfSome (option_map places_of peers) (λ offered. (cid : Cid) → length (offered cid) ≡ 2 * n)
 placed_from None n h = tt
 placed_from (Some peers) n h = λ cid. placed_peers peers cid ∙ ap (λ k. 2 * k) h
 
 module _ {K Desk : Type 0} (told : K → Option Kept) where
   told_length : (views : List (PeerView K Desk)) → IfSome (peers_told told views) (λ ps. length ps ≡ length views)
   told_length [] = refl
-  told_length (view ∷ views) = onto_length (told_at told view) (peers_told told views) (length views) (told_length views)
+  told_length (view ∷ views) =
+      onto_length (told_at told view) (peers_told told views) (length views) (told_length views)
 
-  pub all_placed : (views : List (PeerView K Desk)) → IfSome (offers_told told views) (λ offered. (cid : Cid) → length (offered cid) ≡ 2 * length views)
+  pub all_placed : (views : List (PeerView K Desk)) →
+      IfSome (offers_told told views) (λ offered. (cid : Cid) → length (offered cid) ≡ 2 * length views)
   all_placed views = placed_from (peers_told told views) (length views) (told_length views)
 
 -- no call, and calls in turn
@@ -39,12 +43,14 @@ plan_stays : (plan : Option DeskSchedule) → SamePlan plan plan
 plan_stays None = tt
 plan_stays (Some plan) = refl
 
-plan_goes_on : (first second third : Option DeskSchedule) → SamePlan first second → SamePlan second third → SamePlan first third
+plan_goes_on : (first second third : Option DeskSchedule) → SamePlan first second → SamePlan second third →
+    SamePlan first third
 plan_goes_on None second third p q = tt
 plan_goes_on (Some first) None third p q = absurd (cc p)
 plan_goes_on (Some first) (Some second) third p q = q ∙ p
 
-module _ {K Desk : Type 0} (quiet : K → Bool) (quiet_desk : Desk → Bool) (faults : Desk → ℕ) (desk_schedule : Desk → Option DeskSchedule) where
+module _ {K Desk : Type 0} (quiet : K → Bool) (quiet_desk : Desk → Bool) (faults : Desk → ℕ)
+    (desk_schedule : Desk → Option DeskSchedule) where
   abbrev Goes : PeerView K Desk → PeerView K Desk → Type 0
   Goes = ViewGoes quiet quiet_desk faults desk_schedule
 
@@ -62,7 +68,8 @@ module _ {K Desk : Type 0} (quiet : K → Bool) (quiet_desk : Desk → Bool) (fa
     keeper = q.keeper ∙ p.keeper;
     planted = q.planted ∙ p.planted;
     later = omega (arith, p.later, q.later);
-    still_quiet = λ k d. let mid = p.still_quiet k d in let after = q.still_quiet (ap (λ keeper. quiet keeper.now) p.keeper ∙ k) mid.0 in (after.0, after.1 ∙ mid.1);
+    still_quiet = λ k d. let mid = p.still_quiet k d in let after =
+        q.still_quiet (ap (λ keeper. quiet keeper.now) p.keeper ∙ k) mid.0 in (after.0, after.1 ∙ mid.1);
     plan = plan_goes_on (desk_schedule first.desk) (desk_schedule second.desk) (desk_schedule third.desk) p.plan q.plan;
   }
 
@@ -70,7 +77,8 @@ module _ {K Desk : Type 0} (quiet : K → Bool) (quiet_desk : Desk → Bool) (fa
   views_stay [] = tt
   views_stay (view ∷ views) = (view_stays view, views_stay views)
 
-  pub views_go_on : (first second third : List (PeerView K Desk)) → AllZip Goes first second → AllZip Goes second third → AllZip Goes first third
+  pub views_go_on : (first second third : List (PeerView K Desk)) → AllZip Goes first second →
+      AllZip Goes second third → AllZip Goes first third
   views_go_on [] [] [] p q = tt
   views_go_on (x ∷ xs) [] zs p q = absurd p
   views_go_on [] (y ∷ ys) zs p q = absurd p

@@ -10,9 +10,11 @@ planted_of entry = record { cid = entry.0; bytes = entry.1 }
 
 -- the bytes that are planted for a block
 abbrev pub planted_at : List Planted → Cid → Option (List ℕ)
-planted_at offers cid = option_map (λ (offer : Planted). offer.bytes) (find (λ (offer : Planted). same_cid cid offer.cid) offers)
+planted_at offers cid =
+    option_map (λ (offer : Planted). offer.bytes) (find (λ (offer : Planted). same_cid cid offer.cid) offers)
 
 -- the offers with one more, which takes the place of an older one for its block
 abbrev pub planted_with : List Planted → Planted → List Planted
 planted_with [] offer = offer ∷ []
-planted_with (older ∷ offers) offer = if same_cid offer.cid older.cid then offer ∷ offers else older ∷ planted_with offers offer
+planted_with (older ∷ offers) offer =
+    if same_cid offer.cid older.cid then offer ∷ offers else older ∷ planted_with offers offer

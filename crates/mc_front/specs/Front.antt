@@ -1,5 +1,6 @@
 -- What the rows of the front and the mark become with a group of blocks, all at once.
-use Rattle.std.specs.Prelude.{◌≡◌, ◌==◌, Bool, true, not, ◌&&◌, List, length, map, filter, Option, is_some, unwrap_or, if◌then◌else◌, IfSome, ◌++◌}
+use Rattle.std.specs.Prelude.{◌≡◌, ◌==◌, Bool, true, not, ◌&&◌, List, length, map, filter, Option, is_some, unwrap_or}
+use Rattle.std.specs.Prelude.{if◌then◌else◌, IfSome, ◌++◌}
 use Rattle.mc_base.specs.declared.cid.Cid.{Cid}
 use Rattle.mc_model.specs.declared.block.Block.{Block}
 use Rattle.mc_model.specs.Ascending.{is_once}

@@ -1,7 +1,8 @@
 -- The draws of a script.
 use Rattle.std.specs.Prelude.{ℕ, ◌+◌, ◌*◌, ◌/◌, ◌%◌, ◌^◌}
 
--- the number after `x`: a linear congruential generator modulo 2^64, with the factor and the increment of MMIX (D. Knuth)
+-- the number after `x`: a linear congruential generator modulo 2^64, with the factor and the increment of MMIX (D.
+-- Knuth)
 abbrev pub next_number : ℕ → ℕ
 next_number x = (x * 6364136223846793005 + 1442695040888963407) % 2 ^ 64
 

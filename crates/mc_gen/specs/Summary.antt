@@ -18,8 +18,8 @@ is_feed byte = byte == 10
 abbrev pub lines_in : List ℕ → ℕ
 lines_in text = count_by is_feed text
 
--- The numbers, from 0 on, of the two `same` lines of a script with so many drawn lines: before them stand the drawn ones,
--- three `cast`s, and three times three `hear`s and a `work`.
+-- The numbers, from 0 on, of the two `same` lines of a script with so many drawn lines: before them stand the drawn
+-- ones, three `cast`s, and three times three `hear`s and a `work`.
 abbrev pub is_same_line : ℕ → ℕ → Bool
 is_same_line count number = number == count + 15 || number == count + 16
 

@@ -1,5 +1,6 @@
 -- When a call of a keeper may answer Failed, what a commit that fails leaves, and what a fuse does to it.
-use Rattle.std.specs.Prelude.{◌≡◌, ◌⊎◌, ℕ, ◌-◌, ◌≤◌, nat_lt, Bool, true, false, Option, Some, None, Result, Ok, Err, IfSome, IfOk, if◌then◌else◌}
+use Rattle.std.specs.Prelude.{◌≡◌, ◌⊎◌, ℕ, ◌-◌, ◌≤◌, nat_lt, Bool, true, false, Option, Some, None, Result, Ok, Err}
+use Rattle.std.specs.Prelude.{IfSome, IfOk, if◌then◌else◌}
 use Rattle.mc_base.specs.Causes.{Rose}
 use Rattle.mc_model.specs.Kept.{Kept}
 use Rattle.mc_keep.specs.declared.fuse.Fuse.{Fuse}
@@ -38,7 +39,8 @@ StaysQuiet quiet_before quiet_now before now = quiet_before ≡ true → (quiet_
 -- a fuse after a commit
 abbrev pub burnt : Option Fuse → Option Fuse
 burnt None = None
-burnt (Some fuse) = if nat_lt 1 fuse.commit then Some (record { commit = fuse.commit - 1; after = fuse.after }) else None
+burnt (Some fuse) =
+    if nat_lt 1 fuse.commit then Some (record { commit = fuse.commit - 1; after = fuse.after }) else None
 
 -- whether a fuse made a commit fail between two moments
 abbrev pub has_fired : Option Fuse → Option Fuse → Bool

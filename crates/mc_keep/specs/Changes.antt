@@ -1,5 +1,6 @@
 -- What the changes of a commit come to.
-use Rattle.std.specs.Prelude.{ℕ, ◌+◌, ◌&&◌, Bool, List, [], length, map, fold, Option, None, Some, unwrap_or, ◌++◌, if◌then◌else◌}
+use Rattle.std.specs.Prelude.{ℕ, ◌+◌, ◌&&◌, Bool, List, [], length, map, fold, Option, None, Some, unwrap_or, ◌++◌}
+use Rattle.std.specs.Prelude.{if◌then◌else◌}
 use Rattle.std.specs.List.{list_any}
 use Rattle.std.specs.Option.{option_map}
 use Rattle.std.specs.Str.{bytes_eq}
@@ -15,15 +16,33 @@ use Rattle.mc_keep.specs.declared.changes.ValueChange.{ValueChange}
 use Rattle.mc_keep.specs.declared.changes.Changes.{Changes}
 
 abbrev pub no_changes : Changes
-no_changes = record { store = []; marks = []; links = []; elements = []; tombs = []; values = []; heads_in = []; heads_out = []; mark = None }
+no_changes =
+    record {
+      store = [];
+      marks = [];
+      links = [];
+      elements = [];
+      tombs = [];
+      values = [];
+      heads_in = [];
+      heads_out = [];
+      mark = None;
+    }
 
 -- the rows that need room
 abbrev pub row_count : Changes → ℕ
-row_count changes = length changes.store + length changes.marks + length changes.links + length changes.elements + length changes.tombs + length changes.values + length changes.heads_in
+row_count changes =
+    length changes.store + length changes.marks + length changes.links + length changes.elements + length changes.tombs
+    + length changes.values + length changes.heads_in
 
 -- what the changes make of a keeper
 abbrev pub changed : Kept → Changes → Kept
-changed kept changes = record { graph = kept.graph ++ changes.store; order = kept.order ++ changes.marks; mark = unwrap_or changes.mark kept.mark }
+changed kept changes =
+    record {
+      graph = kept.graph ++ changes.store;
+      order = kept.order ++ changes.marks;
+      mark = unwrap_or changes.mark kept.mark;
+    }
 
 -- the blocks that the changes process
 abbrev pub newly_processed : Kept → Changes → List Block

@@ -8,10 +8,18 @@ use Rattle.mc_keep.specs.declared.rows.ElementRow.{ElementRow}
 
 abbrev pub element_cmp : ElementRow → ElementRow → Ordering
 element_cmp =
-    then_cmp (then_cmp (then_cmp (on (λ (row : ElementRow). row.cid.0) (slice_cmp nat_cmp)) (on (λ (row : ElementRow). row.value) (slice_cmp nat_cmp))) (on (λ (row : ElementRow). row.key) (slice_cmp nat_cmp)))
+    then_cmp
+    (then_cmp
+    (then_cmp (on (λ (row : ElementRow). row.cid.0) (slice_cmp nat_cmp))
+    (on (λ (row : ElementRow). row.value) (slice_cmp nat_cmp))) (on (λ (row : ElementRow). row.key)
+    (slice_cmp nat_cmp)))
     (on (λ (row : ElementRow). row.priority) nat_cmp)
 
 pub element_total : IsTotalOrder element_cmp
 element_total =
-    then_total (then_total (then_total (on_total (λ (row : ElementRow). row.cid.0) nat_list_cmp_total) (on_total (λ (row : ElementRow). row.value) nat_list_cmp_total)) (on_total (λ (row : ElementRow). row.key) nat_list_cmp_total))
+    then_total
+    (then_total
+    (then_total (on_total (λ (row : ElementRow). row.cid.0) nat_list_cmp_total)
+    (on_total (λ (row : ElementRow). row.value) nat_list_cmp_total)) (on_total
+    (λ (row : ElementRow). row.key) nat_list_cmp_total))
     (on_total (λ (row : ElementRow). row.priority) nat_cmp_total)

@@ -36,6 +36,8 @@ module _ {K : Type 0} where
   schedule_in fuse schedule fused = schedule_by (fuse fused.keeper) (schedule fused.keeper)
 
 -- the keeper inside has made one commit of so many rows, whether it failed or not, as its own fuse and plan say
-pub record CommitsOnce {K D : Type 0} (k : Members K D) (rows : ℕ) (whole : Option Kept) (failed : Bool) (old new : K) : Type 0 where
+pub record CommitsOnce {K D : Type 0} (k : Members K D) (rows : ℕ) (whole : Option Kept) (failed : Bool) (old new : K)
+    : Type 0 where
   pub commits : Commits k rows failed old new
-  pub planned : fires (k.fuse old) ≡ None → CommitsAsPlanned (k.schedule old) (k.schedule new) failed (k.told old) (k.told new) whole
+  pub planned : fires (k.fuse old) ≡ None →
+      CommitsAsPlanned (k.schedule old) (k.schedule new) failed (k.told old) (k.told new) whole

@@ -11,7 +11,9 @@ abbrev pub head_row_cmp : HeadRow → HeadRow → Ordering
 head_row_cmp = on head_in_row head_cmp
 
 pub head_total : IsTotalOrder head_cmp
-head_total = then_total (on_total (λ (head : Head). head.0.0) nat_list_cmp_total) (on_total (λ (head : Head). head.1) nat_cmp_total)
+head_total =
+    then_total (on_total (λ (head : Head). head.0.0) nat_list_cmp_total)
+    (on_total (λ (head : Head). head.1) nat_cmp_total)
 
 pub head_row_total : IsTotalOrder head_row_cmp
 head_row_total = on_total head_in_row head_total

@@ -9,4 +9,5 @@ use Rattle.mc_model.specs.Kept.{Kept}
 -- no block stands twice, and none is processed
 abbrev pub AreNew : Kept → List Block → Type 0
 AreNew kept blocks =
-    (is_once same_cid (map (λ (block : Block). block.cid) blocks) ≡ true) × (list_any (is_among kept.order) (map (λ (block : Block). block.cid) blocks) ≡ false)
+    (is_once same_cid (map (λ (block : Block). block.cid) blocks) ≡ true)
+    × (list_any (is_among kept.order) (map (λ (block : Block). block.cid) blocks) ≡ false)

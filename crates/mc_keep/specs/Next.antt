@@ -14,10 +14,12 @@ is_past bound true key = is_le (slice_cmp nat_cmp bound key)
 is_past bound false key = is_lt (slice_cmp nat_cmp bound key)
 
 -- the row is that of the least key past the bound to which `value` gives a value
-pub record IsNextRow (value : List ℕ → Option Ranked) (bound : List ℕ) (inclusive : Bool) (row : ValueRow) : Type 0 where
+pub record IsNextRow (value : List ℕ → Option Ranked) (bound : List ℕ) (inclusive : Bool) (row : ValueRow)
+    : Type 0 where
   pub past : is_past bound inclusive row.key ≡ true
   pub is_value : value row.key ≡ Some (row.priority, row.value)
-  pub least : (key : List ℕ) → is_past bound inclusive key ≡ true → is_lt (slice_cmp nat_cmp key row.key) ≡ true → value key ≡ None
+  pub least : (key : List ℕ) → is_past bound inclusive key ≡ true → is_lt (slice_cmp nat_cmp key row.key) ≡ true →
+      value key ≡ None
 
 -- the next row, or none where no key past the bound has a value
 abbrev pub IsNextOf : (List ℕ → Option Ranked) → List ℕ → Bool → Option ValueRow → Type 0

@@ -1,13 +1,14 @@
 -- Planned faults: which calls of a keeper, of its desks and of who makes keepers fail, where that is known.
-use Rattle.std.specs.Prelude.{◌≡◌, ⊤, ℕ, ◌<◌, ◌≤◌, Bool, true, false, ◌||◌, List, [], ◌∷◌, drop, slice_get, Option, Some, None, unwrap_or, Result, Ok, Err, IfOk, if◌then◌else◌}
+use Rattle.std.specs.Prelude.{◌≡◌, ⊤, ℕ, ◌<◌, ◌≤◌, Bool, true, false, ◌||◌, List, [], ◌∷◌, drop, slice_get, Option}
+use Rattle.std.specs.Prelude.{Some, None, unwrap_or, Result, Ok, Err, IfOk, if◌then◌else◌}
 use Rattle.std.specs.Result.{is_ok}
 pub use Rattle.mc_base.specs.Plan.{next_number, is_planned}
 use Rattle.mc_model.specs.Kept.{Kept}
 use Rattle.mc_keep.specs.declared.error.KeepError.{KeepError}
 use Rattle.mc_keep.specs.declared.error.KeepError.TheVariants.{Failed, Memory}
 
--- the numbers of the calls that fail, counted from 1, and how many calls there were; a commit fails before its effect or
--- after it; the plans of the desks that are still to be made, in order
+-- the numbers of the calls that fail, counted from 1, and how many calls there were; a commit fails before its effect
+-- or after it; the plans of the desks that are still to be made, in order
 pub record Schedule : Type 0 where
   pub reads : List ℕ
   pub before : List ℕ
@@ -21,7 +22,8 @@ pub record DeskSchedule : Type 0 where
   pub reads : List ℕ
   pub reads_made : ℕ
 
--- the numbers of the makes that fail, counted from 1, how many there were, and what is planned for each keeper, by its index
+-- the numbers of the makes that fail, counted from 1, how many there were, and what is planned for each keeper, by its
+-- index
 pub record MakeSchedule : Type 0 where
   pub makes : List ℕ
   pub makes_made : ℕ
@@ -41,7 +43,8 @@ is_fault (Err Memory) = false
 abbrev pub ReadsAsPlanned : Option Schedule → Option Schedule → Bool → Type 0
 ReadsAsPlanned None new failed = ⊤
 ReadsAsPlanned (Some old) new failed =
-    (new ≡ Some (record old { reads_made = next_number old.reads_made })) × (failed ≡ is_planned old.reads (next_number old.reads_made))
+    (new ≡ Some (record old { reads_made = next_number old.reads_made }))
+    × (failed ≡ is_planned old.reads (next_number old.reads_made))
 
 -- of the calls after so many, up to this number, the last one was planned to fail where it did, and no other one was
 pub record AreMade (is_planned_at : ℕ → Bool) (before now : ℕ) (failed : Bool) : Type 0 where
@@ -86,7 +89,8 @@ first_plan (plan ∷ plans) = plan
 
 -- what is planned once a desk was asked for: it counts as one read, and a desk that is made takes the first plan
 abbrev pub with_desk : Bool → Schedule → Schedule
-with_desk made old = record old { reads_made = next_number old.reads_made; desks = if made then drop 1 old.desks else old.desks }
+with_desk made old =
+    record old { reads_made = next_number old.reads_made; desks = if made then drop 1 old.desks else old.desks }
 
 -- a schedule without its plans of desks: what a call that makes a desk leaves, apart from these
 abbrev pub without_desks : Option Schedule → Option Schedule
@@ -94,7 +98,8 @@ without_desks None = None
 without_desks (Some schedule) = Some (record schedule { desks = [] })
 
 -- the same of a call that makes a desk, which has the first of the plans left
-abbrev pub DeskAsPlanned : {D : Type 0} → (D → Option DeskSchedule) → Option Schedule → Option Schedule → Result D KeepError → Type 0
+abbrev pub DeskAsPlanned : {D : Type 0} → (D → Option DeskSchedule) → Option Schedule → Option Schedule →
+    Result D KeepError → Type 0
 DeskAsPlanned desk_schedule None new result = ⊤
 DeskAsPlanned desk_schedule (Some old) new result =
     (new ≡ Some (with_desk (is_ok result) old))
@@ -105,24 +110,29 @@ DeskAsPlanned desk_schedule (Some old) new result =
 abbrev pub DeskReadsAsPlanned : Option DeskSchedule → Option DeskSchedule → Bool → Type 0
 DeskReadsAsPlanned None new failed = ⊤
 DeskReadsAsPlanned (Some old) new failed =
-    (new ≡ Some (record old { reads_made = next_number old.reads_made })) × (failed ≡ is_planned old.reads (next_number old.reads_made))
+    (new ≡ Some (record old { reads_made = next_number old.reads_made }))
+    × (failed ≡ is_planned old.reads (next_number old.reads_made))
 
 -- the same of a commit: one that fails before its effect leaves what was told, and one that fails after it what the
 -- changes make of that
-abbrev pub CommitsAsPlanned : Option Schedule → Option Schedule → Bool → Option Kept → Option Kept → Option Kept → Type 0
+abbrev pub CommitsAsPlanned : Option Schedule → Option Schedule → Bool → Option Kept → Option Kept → Option Kept →
+    Type 0
 CommitsAsPlanned None new failed told told_after whole = ⊤
 CommitsAsPlanned (Some old) new failed told told_after whole =
     (new ≡ Some (record old { commits_made = next_number old.commits_made }))
-    × (failed ≡ (is_planned old.before (next_number old.commits_made) || is_planned old.after (next_number old.commits_made)))
+    × (failed
+    ≡ (is_planned old.before (next_number old.commits_made) || is_planned old.after (next_number old.commits_made)))
     × (is_planned old.before (next_number old.commits_made) ≡ true → told_after ≡ told)
-    × (is_planned old.before (next_number old.commits_made) ≡ false → is_planned old.after (next_number old.commits_made) ≡ true → told_after ≡ whole)
+    × (is_planned old.before (next_number old.commits_made) ≡ false →
+    is_planned old.after (next_number old.commits_made) ≡ true → told_after ≡ whole)
 
 -- what is planned for the keeper with this index: nothing where there is no plan
 abbrev pub keeper_plan : List Schedule → ℕ → Schedule
 keeper_plan plans index = unwrap_or (slice_get plans index) no_schedule
 
 -- the same of a call that makes the keeper with this index
-abbrev pub MakesAsPlanned : {K : Type 0} → (K → Option Schedule) → Option MakeSchedule → Option MakeSchedule → ℕ → Result K KeepError → Type 0
+abbrev pub MakesAsPlanned : {K : Type 0} → (K → Option Schedule) → Option MakeSchedule → Option MakeSchedule → ℕ →
+    Result K KeepError → Type 0
 MakesAsPlanned schedule None new index result = ⊤
 MakesAsPlanned schedule (Some old) new index result =
     (new ≡ Some (record old { makes_made = next_number old.makes_made }))

@@ -1,5 +1,6 @@
 -- The tables of a keeper, as definitions over the processed blocks, and the changes that keep them so.
-use Rattle.std.specs.Prelude.{◌≡◌, ◌<◌, ◌^◌, ℕ, Some, None, length, Bool, true, false, ◌||◌, ◌&&◌, List, ◌++◌, map, filter, Option}
+use Rattle.std.specs.Prelude.{◌≡◌, ◌<◌, ◌^◌, ℕ, Some, None, length, Bool, true, false, ◌||◌, ◌&&◌, List, ◌++◌, map}
+use Rattle.std.specs.Prelude.{filter, Option}
 use Rattle.std.specs.List.{list_any, list_all, flat_map}
 use Rattle.std.specs.Str.{bytes_eq}
 use Rattle.mc_base.specs.declared.cid.Cid.{Cid}
@@ -23,7 +24,8 @@ use Rattle.mc_keep.specs.Changes.{newly_processed, has_tomb_row, values_after, h
 
 -- the row of an element of the block
 abbrev pub element_row : Block → Element → ElementRow
-element_row block element = record { key = element.key; cid = block.cid; priority = block.delta.priority; value = element.value }
+element_row block element =
+    record { key = element.key; cid = block.cid; priority = block.delta.priority; value = element.value }
 
 abbrev pub element_rows : List Block → List ElementRow
 element_rows blocks = flat_map (λ (block : Block). map (element_row block) block.delta.elements) blocks
@@ -46,7 +48,8 @@ is_named change = elim change.row [ None ↦ true | Some row ↦ bytes_eq row.ke
 pub record RowsFit (blocks more : List Block) (changes : Changes) : Type 0 where
   pub elements : SameMembers changes.elements (element_rows more)
   pub elements_once : is_once same_element changes.elements ≡ true
-  pub tombs : (key id : List ℕ) → has_tomb (blocks ++ more) key id ≡ (has_tomb blocks key id || has_tomb_row changes.tombs key id)
+  pub tombs : (key id : List ℕ) →
+      has_tomb (blocks ++ more) key id ≡ (has_tomb blocks key id || has_tomb_row changes.tombs key id)
   pub tombs_new : list_any (λ (row : TombRow). has_tomb blocks row.key row.id) changes.tombs ≡ false
   pub tombs_once : is_once same_tomb changes.tombs ≡ true
   pub values : (key : List ℕ) → value_row (blocks ++ more) key ≡ values_after key (value_row blocks key) changes.values
@@ -58,7 +61,8 @@ pub record FrontFits (blocks more : List Block) (changes : Changes) : Type 0 whe
   pub links : (cid : Cid) → is_linked (blocks ++ more) cid ≡ (is_linked blocks cid || is_among changes.links cid)
   pub links_new : list_any (is_linked blocks) changes.links ≡ false
   pub links_once : is_once same_cid changes.links ≡ true
-  pub heads : (cid : Cid) → head_at (blocks ++ more) cid ≡ head_after cid (head_at blocks cid) changes.heads_out changes.heads_in
+  pub heads : (cid : Cid) →
+      head_at (blocks ++ more) cid ≡ head_after cid (head_at blocks cid) changes.heads_out changes.heads_in
   pub heads_once : is_once (λ (a b : HeadRow). same_cid a.cid b.cid) changes.heads_in ≡ true
 
 -- the blocks to store are good and new
@@ -83,7 +87,8 @@ pub record ChangesFit (kept : Kept) (changes : Changes) : Type 0 where
 -- the numbers of a keeper that stands for this
 abbrev pub IsSummary : Kept → Summary → Type 0
 IsSummary kept summary =
-    (summary.processed ≡ length kept.order) × (summary.stored ≡ length kept.graph) × (summary.gaps ≡ length (gaps (processed kept))) × (summary.mark ≡ kept.mark)
+    (summary.processed ≡ length kept.order) × (summary.stored ≡ length kept.graph)
+    × (summary.gaps ≡ length (gaps (processed kept))) × (summary.mark ≡ kept.mark)
 
 -- each number has room for as much again
 abbrev pub IsSmall : Summary → Type 0

@@ -1,5 +1,6 @@
 -- The key rule: a key is slashes, each with a segment after it, in at most 1,024 bytes.
-use Rattle.std.specs.Prelude.{◌≡◌, ◌↔◌, ℕ, ◌==◌, ◌&&◌, not, nat_lt, nat_le, if◌then◌else◌, Bool, true, false, List, [], ◌∷◌, drop, length, Option, None, Some}
+use Rattle.std.specs.Prelude.{◌≡◌, ◌↔◌, ℕ, ◌==◌, ◌&&◌, not, nat_lt, nat_le, if◌then◌else◌, Bool, true, false, List, []}
+use Rattle.std.specs.Prelude.{◌∷◌, drop, length, Option, None, Some}
 use Rattle.std.specs.List.{list_all, list_any, slice_split}
 use Rattle.mc_key.specs.declared.fault.KeyFault.{KeyFault}
 use Rattle.mc_key.specs.declared.fault.KeyFault.TheVariants.{Empty, NoSlash, TooLong, EmptySegment, DotSegment}
@@ -30,7 +31,9 @@ begins (byte ∷ text) = byte == 47
 
 -- whether a text is a key: it begins with a slash, has at most 1,024 bytes, and no segment that is empty, `.` or `..`
 abbrev pub is_key : List ℕ → Bool
-is_key text = begins text && nat_le (length text) 1024 && list_all (λ segment. not (is_empty segment) && not (is_dots segment)) (segments text)
+is_key text =
+    begins text && nat_le (length text) 1024
+    && list_all (λ segment. not (is_empty segment) && not (is_dots segment)) (segments text)
 
 -- an empty segment, and then one of dots
 abbrev pub segments_fault : List (List ℕ) → Option KeyFault

@@ -1,10 +1,12 @@
 -- The desks of replicas while some are lent.
-use Rattle.std.specs.Prelude.{◌≡◌, ◌≤◌, ⊤, ℕ, ◌+◌, Bool, true, false, List, [], ◌∷◌, ◌++◌, length, map, vec_len, vec_capacity, Vec}
+use Rattle.std.specs.Prelude.{◌≡◌, ◌≤◌, ⊤, ℕ, ◌+◌, Bool, true, false, List, [], ◌∷◌, ◌++◌, length, map, vec_len}
+use Rattle.std.specs.Prelude.{vec_capacity, Vec}
 use Rattle.mc_fetch.specs.declared.peers.PeerFetch.{PeerFetch}
 use Rattle.mc_fetch.specs.declared.peers.PeerView.{PeerView}
 use Rattle.mc_fetch.specs.Views.{views_of}
 use Rattle.mc_lend.specs.declared.site.Site.{Site}
-use Rattle.mc_lend.specs.Lending.{AreFetches, AreViewsOf, IsViewOf, desks_in, desks_lent, marks_of, peers_in, with_all, with_firsts}
+use Rattle.mc_lend.specs.Lending.{AreFetches, AreViewsOf, IsViewOf, desks_in, desks_lent, marks_of, peers_in, with_all}
+use Rattle.mc_lend.specs.Lending.{with_firsts}
 
 -- the desks that are there
 abbrev pub lists_of : {D Z : Type 0} → List (Vec D Z) → List (List D)
@@ -22,13 +24,15 @@ Holds there out (mark ∷ marks) [] = ⊥
 Holds there out (mark ∷ marks) (row ∷ rows) = HoldsAt there out mark row × Holds there out marks rows
 
 -- one desk of a row is lent, where it is marked
-abbrev pub LendsBy : {K D : Type 0} → Bool → Site K → List D → List D → List (PeerView K D) → List (PeerView K D) → Type 0
+abbrev pub LendsBy : {K D : Type 0} → Bool → Site K → List D → List D → List (PeerView K D) → List (PeerView K D) →
+    Type 0
 LendsBy false site old new views now = (new ≡ old) × (now ≡ views)
 LendsBy {K} {D} true site old new views now =
     (view : PeerView K D) × (now ≡ views ++ view ∷ []) × (old ≡ view.desk ∷ new) × IsViewOf site view
 
 -- one desk of each marked row is lent
-pub record Lends {K D : Type 0} (sites : List (Site K)) (olds news : List (List D)) (views now : List (PeerView K D)) : Type 0 where
+pub record Lends {K D : Type 0} (sites : List (Site K)) (olds news : List (List D)) (views now : List (PeerView K D))
+    : Type 0 where
   pub more : List (PeerView K D)
   pub added : now ≡ views ++ more
   pub lent : olds ≡ with_firsts (marks_of sites) (desks_in more) news
@@ -53,7 +57,8 @@ is_empty_list [] = true
 is_empty_list (x ∷ xs) = false
 
 -- some fetches more are made of the desks
-pub record LendsAll {K D : Type 0} (sites : List (Site K)) (olds news : List (List D)) (fetches now : List (PeerFetch K D)) : Type 0 where
+pub record LendsAll {K D : Type 0} (sites : List (Site K)) (olds news : List (List D))
+    (fetches now : List (PeerFetch K D)) : Type 0 where
   pub more : List (PeerFetch K D)
   pub added : now ≡ fetches ++ more
   pub lent : olds ≡ with_all (marks_of sites) (desks_lent more) news
@@ -65,7 +70,8 @@ AllViewed sites [] = ⊤
 AllViewed sites (fetch ∷ fetches) = (length (peers_in sites) ≡ length (views_of fetch)) × AllViewed sites fetches
 
 -- so many fetches were made of the desks, and these rows are left
-pub record IsLent {K D Z : Type 0} (count : ℕ) (sites : List (Site K)) (desks : List (List D)) (fetches : List (PeerFetch K D)) (rows : List (Vec D Z)) : Type 0 where
+pub record IsLent {K D Z : Type 0} (count : ℕ) (sites : List (Site K)) (desks : List (List D))
+    (fetches : List (PeerFetch K D)) (rows : List (Vec D Z)) : Type 0 where
   pub many : length fetches ≡ count
   pub lent : desks ≡ with_all (marks_of sites) (desks_lent fetches) (lists_of rows)
   pub of : AreFetches sites fetches

@@ -43,4 +43,5 @@ joined groups = flat_map (λ group. group) groups
 
 -- the processed blocks of a replica that has processed these groups, one after another
 abbrev pub processed_in_groups : Durable → Running → List (List Cid) → List Block
-processed_in_groups durable run groups = blocks_of (after (record { durable = durable; run = Some run }) (map Process groups)).durable
+processed_in_groups durable run groups =
+    blocks_of (after (record { durable = durable; run = Some run }) (map Process groups)).durable

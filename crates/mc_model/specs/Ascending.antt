@@ -9,7 +9,11 @@ use Rattle.mc_model.specs.SameMembers.{SameMembers}
 -- the item put into its place, unless it stands there
 abbrev pub insert_in_order : {X : Type 0} → (X → X → Ordering) → X → List X → List X
 insert_in_order cmp x [] = x ∷ []
-insert_in_order cmp x (y ∷ ys) = elim (cmp x y) [ Less ↦ x ∷ y ∷ ys | Equal ↦ y ∷ ys | Greater ↦ y ∷ insert_in_order cmp x ys ]
+insert_in_order cmp x (y ∷ ys) = elim (cmp x y) [
+  | Less ↦ x ∷ y ∷ ys
+  | Equal ↦ y ∷ ys
+  | Greater ↦ y ∷ insert_in_order cmp x ys
+]
 
 -- the items of a list in ascending order, each once
 abbrev pub ascending : {X : Type 0} → (X → X → Ordering) → List X → List X

@@ -30,18 +30,25 @@ is_empty_batch batch = is_nil batch.elements && is_nil batch.pairs
 abbrev pub put_element : Element → List Element → List Element
 put_element element [] = element ∷ []
 put_element element (other ∷ elements) =
-    elim (slice_cmp nat_cmp element.key other.key) [ Less ↦ element ∷ other ∷ elements | Equal ↦ element ∷ elements | Greater ↦ other ∷ put_element element elements ]
+    elim (slice_cmp nat_cmp element.key other.key) [
+      | Less ↦ element ∷ other ∷ elements
+      | Equal ↦ element ∷ elements
+      | Greater ↦ other ∷ put_element element elements
+    ]
 
 -- a put takes the place of the batch's element of its key; what was deleted stays so
 abbrev pub batch_put : List ℕ → List ℕ → OpenBatch → OpenBatch
-batch_put key value batch = record { elements = put_element (record { key = key; value = value }) batch.elements; pairs = batch.pairs }
+batch_put key value batch =
+    record { elements = put_element (record { key = key; value = value }) batch.elements; pairs = batch.pairs }
 
 -- a key with a block whose elements of the key are deleted: by the key, then by the identifier
 abbrev pub Deleted : Type 0
 Deleted = List ℕ × Cid
 
 abbrev pub deleted_cmp : Deleted → Deleted → Ordering
-deleted_cmp = then_cmp (on (λ (deleted : Deleted). deleted.0) (slice_cmp nat_cmp)) (on (λ (deleted : Deleted). deleted.1.0) (slice_cmp nat_cmp))
+deleted_cmp =
+    then_cmp (on (λ (deleted : Deleted). deleted.0) (slice_cmp nat_cmp))
+    (on (λ (deleted : Deleted). deleted.1.0) (slice_cmp nat_cmp))
 
 -- a delete drops the batch's element of its key, and adds the pairs that a delete takes
 abbrev pub batch_delete : List ℕ → List Pair → OpenBatch → OpenBatch
@@ -55,4 +62,5 @@ deleted_tomb deleted = record { key = deleted.0; id = id_text deleted.1.0 }
 
 -- the delta of a batch
 abbrev pub batch_delta : ℕ → OpenBatch → Delta
-batch_delta priority batch = record { elements = batch.elements; tombstones = map deleted_tomb batch.pairs; priority = priority }
+batch_delta priority batch =
+    record { elements = batch.elements; tombstones = map deleted_tomb batch.pairs; priority = priority }

@@ -1,5 +1,6 @@
 -- What a delete takes, the blocks with a live element of the key, and the deltas into which their tombstones are cut.
-use Rattle.std.specs.Prelude.{◌≡◌, ◌≢◌, ◌⊎◌, ⊤, ℕ, ◌+◌, ◌-◌, ◌^◌, ◌<◌, ◌≤◌, min, List, [], ◌∷◌, ◌++◌, length, map, Option}
+use Rattle.std.specs.Prelude.{◌≡◌, ◌≢◌, ◌⊎◌, ⊤, ℕ, ◌+◌, ◌-◌, ◌^◌, ◌<◌, ◌≤◌, min, List, [], ◌∷◌, ◌++◌, length, map}
+use Rattle.std.specs.Prelude.{Option}
 use Rattle.std.specs.List.{filter_map}
 use Rattle.std.specs.Option.{option_map}
 use Rattle.std.specs.Ordering.{nat_cmp, on, then_cmp}
@@ -25,13 +26,15 @@ pub record Pair : Type 0 where
 -- by the priority, then by the value, then by the identifier
 abbrev pub pair_cmp : Pair → Pair → Ordering
 pair_cmp =
-    then_cmp (then_cmp (on (λ (pair : Pair). pair.priority) nat_cmp) (on (λ (pair : Pair). pair.value) (slice_cmp nat_cmp)))
+    then_cmp
+    (then_cmp (on (λ (pair : Pair). pair.priority) nat_cmp) (on (λ (pair : Pair). pair.value) (slice_cmp nat_cmp)))
     (on (λ (pair : Pair). pair.cid.0) (slice_cmp nat_cmp))
 
 -- the pair of one block, where it has a live element of the key
 abbrev pub pair_in : List Block → List ℕ → Block → Option Pair
 pair_in blocks key block =
-    option_map (λ (best : Ranked). record { priority = best.0; value = best.1; cid = block.cid }) (greatest (live_among blocks key (block ∷ [])))
+    option_map (λ (best : Ranked). record { priority = best.0; value = best.1; cid = block.cid })
+    (greatest (live_among blocks key (block ∷ [])))
 
 -- the pairs of all blocks, each once, ascending
 abbrev pub pairs : List Block → List ℕ → List Pair
@@ -55,7 +58,8 @@ IsFull links priority key taken [] = ⊤
 IsFull links priority key taken (next ∷ rest) = block_max < tombs_size links priority key (taken ++ next ∷ [])
 
 -- the delta has the tombstones of at least one pair, and of as many as its block has room for
-pub record IsCut (links : List Cid) (priority : ℕ) (key : List ℕ) (taken rest : List Pair) (delta : Delta) : Type 0 where
+pub record IsCut (links : List Cid) (priority : ℕ) (key : List ℕ) (taken rest : List Pair) (delta : Delta)
+    : Type 0 where
   pub some : taken ≢ []
   pub made : delta ≡ tombs_delta key taken priority
   pub fits : length (made_bytes links delta) ≤ block_max
@@ -66,15 +70,19 @@ pub record IsCut (links : List Cid) (priority : ℕ) (key : List ℕ) (taken res
 abbrev pub IsCuts : List Cid → ℕ → List ℕ → List Pair → List Delta → Type 0
 IsCuts links priority key pairs [] = pairs ≡ []
 IsCuts links priority key pairs (delta ∷ deltas) =
-    (taken rest : List Pair) × (pairs ≡ taken ++ rest) × IsCut links priority key taken rest delta × IsCuts (made_cid links delta ∷ []) (priority + 1) key rest deltas
+    (taken rest : List Pair) × (pairs ≡ taken ++ rest) × IsCut links priority key taken rest delta
+    × IsCuts (made_cid links delta ∷ []) (priority + 1) key rest deltas
 
--- a priority is left for the first block, but it is too large with one tombstone already; `len` is its size, at most 2^64 - 1
+-- a priority is left for the first block, but it is too large with one tombstone already; `len` is its size, at most
+-- 2^64 - 1
 abbrev pub IsTooLarge : List Cid → ℕ → List ℕ → List Pair → ℕ → Type 0
 IsTooLarge links priority key [] len = ⊥
 IsTooLarge links priority key (pair ∷ pairs) len =
-    (priority < 2 ^ 64) × (block_max < tombs_size links priority key (pair ∷ [])) × (len ≡ min (tombs_size links priority key (pair ∷ [])) (2 ^ 64 - 1))
+    (priority < 2 ^ 64) × (block_max < tombs_size links priority key (pair ∷ []))
+    × (len ≡ min (tombs_size links priority key (pair ∷ [])) (2 ^ 64 - 1))
 
 -- no priority is left for the first block, or for a later one
 abbrev pub IsPriorityFull : List Cid → ℕ → List ℕ → List Pair → Type 0
 IsPriorityFull links priority key pairs =
-    ((pairs ≢ []) × (2 ^ 64 ≤ priority)) ⊎ ((deltas : List Delta) × IsCuts links priority key pairs deltas × (2 ^ 64 < priority + length deltas))
+    ((pairs ≢ []) × (2 ^ 64 ≤ priority))
+    ⊎ ((deltas : List Delta) × IsCuts links priority key pairs deltas × (2 ^ 64 < priority + length deltas))

@@ -1,6 +1,8 @@
--- Deltas as Protocol Buffers messages (Protocol Buffers documentation, "Encoding"): a delta has elements (1, each an entry),
--- tombstones (2, each an entry) and a priority (3, a varint), and an entry has a key (1), an id (2) and a value (3).
-use Rattle.std.specs.Prelude.{ℕ, ◌+◌, ◌-◌, List, [], ◌∷◌, ◌++◌, length, map, Bool, true, ◌==◌, ◌&&◌, ◌||◌, not, if◌then◌else◌, Option, Some, None, Result, Ok, Err}
+-- Deltas as Protocol Buffers messages (Protocol Buffers documentation, "Encoding"): a delta has elements (1, each an
+-- entry), tombstones (2, each an entry) and a priority (3, a varint), and an entry has a key (1), an id (2) and a value
+-- (3).
+use Rattle.std.specs.Prelude.{ℕ, ◌+◌, ◌-◌, List, [], ◌∷◌, ◌++◌, length, map, Bool, true, ◌==◌, ◌&&◌, ◌||◌, not}
+use Rattle.std.specs.Prelude.{if◌then◌else◌, Option, Some, None, Result, Ok, Err}
 use Rattle.std.specs.List.{list_all, filter_map, flat_map}
 use Rattle.std.specs.Option.{option_and_then, option_map, option_or}
 use Rattle.std.specs.Str.{is_utf8}
@@ -39,7 +41,10 @@ all_some (item ∷ items) = option_and_then (λ first. option_map (λ rest. firs
 
 -- the fields of an entry, where each key and id in it is UTF-8
 abbrev pub entry_of : List ℕ → Option (List Field)
-entry_of text = option_and_then (λ fields. if list_all is_utf8 (parts_of 1 fields) && list_all is_utf8 (parts_of 2 fields) then Some fields else None) (fields_of text)
+entry_of text =
+    option_and_then
+    (λ fields. if list_all is_utf8 (parts_of 1 fields)
+    && list_all is_utf8 (parts_of 2 fields) then Some fields else None) (fields_of text)
 
 abbrev pub entries_of : ℕ → List Field → Option (List (List Field))
 entries_of number fields = all_some (map entry_of (parts_of number fields))
@@ -52,13 +57,21 @@ tomb_of fields = record { key = last_part 1 fields; id = last_part 2 fields }
 
 abbrev pub delta_with : List Field → List (List Field) → List (List Field) → Delta
 delta_with fields elements tombstones =
-    record { elements = map element_of elements; tombstones = map tomb_of tombstones; priority = last_or 0 (filter_map (varint_of 3) fields) }
+    record {
+      elements = map element_of elements;
+      tombstones = map tomb_of tombstones;
+      priority = last_or 0
+          (filter_map (varint_of 3) fields);
+    }
 
 abbrev pub delta_of_fields : List Field → Option Delta
-delta_of_fields fields = option_and_then (λ elements. option_map (λ tombstones. delta_with fields elements tombstones) (entries_of 2 fields)) (entries_of 1 fields)
+delta_of_fields fields =
+    option_and_then
+    (λ elements. option_map (λ tombstones. delta_with fields elements tombstones) (entries_of 2 fields))
+    (entries_of 1 fields)
 
--- The delta of a text. Elements and tombstones are taken in order, the last of a repeated scalar counts, and an absent one
--- is empty or 0. Other fields, and known numbers with another wire type, count for nothing.
+-- The delta of a text. Elements and tombstones are taken in order, the last of a repeated scalar counts, and an absent
+-- one is empty or 0. Other fields, and known numbers with another wire type, count for nothing.
 unfoldable pub delta_of : List ℕ → Option Delta
 delta_of text = option_and_then delta_of_fields (fields_of text)
 
@@ -74,7 +87,9 @@ pub record DeltaFault : Type 0 where
 
 -- where a text that isn't UTF-8 stands as a key or an id
 abbrev pub text_fault : ℕ → Field → Option DeltaFault
-text_fault at field = if (field.number == 1 || field.number == 2) && not (is_text field.content) then Some (record { kind = TextFault; at = at }) else None
+text_fault at field =
+    if (field.number == 1 || field.number == 2)
+    && not (is_text field.content) then Some (record { kind = TextFault; at = at }) else None
 
 abbrev pub entry_front_fault : ℕ → Front → Option DeltaFault
 entry_front_fault at (NoKey fault) = Some (record { kind = Wire fault; at = at })
@@ -94,7 +109,8 @@ entry_part_fault end content = None
 abbrev pub delta_front_fault : ℕ → Front → Option DeltaFault
 delta_front_fault at (NoKey fault) = Some (record { kind = Wire fault; at = at })
 delta_front_fault at (NoContent number wire fault) = Some (record { kind = Wire fault; at = at })
-delta_front_fault at (Whole field len) = if field.number == 1 || field.number == 2 then entry_part_fault (at + len) field.content else None
+delta_front_fault at (Whole field len) =
+    if field.number == 1 || field.number == 2 then entry_part_fault (at + len) field.content else None
 
 -- the first fault of a delta: an element or a tombstone is looked at when it is met
 abbrev pub delta_fault_in : List Placed → Option DeltaFault
@@ -127,13 +143,19 @@ varints_in number fronts = filter_map (λ placed. varint_in number placed.front)
 -- what fields without a fault say
 abbrev pub delta_in : List Placed → Delta
 delta_in fronts =
-    record { elements = map element_in (parts_in 1 fronts); tombstones = map tomb_in (parts_in 2 fronts); priority = last_or 0 (varints_in 3 fronts) }
+    record {
+      elements = map element_in (parts_in 1 fronts);
+      tombstones = map tomb_in
+          (parts_in 2 fronts);
+      priority = last_or 0 (varints_in 3 fronts);
+    }
 
 abbrev pub delta_unless : Option DeltaFault → Delta → Result Delta DeltaFault
 delta_unless None delta = Ok delta
 delta_unless (Some fault) delta = Err fault
 
--- What a text says as a delta, or its first fault: the reading of `delta_of`, which has a fault exactly where there is no delta.
+-- What a text says as a delta, or its first fault: the reading of `delta_of`, which has a fault exactly where there is
+-- no delta.
 unfoldable pub delta_read : List ℕ → Result Delta DeltaFault
 delta_read text = delta_unless (delta_fault text) (delta_in (fronts_from 0 text))
 
@@ -155,4 +177,5 @@ abbrev pub priority_bytes : ℕ → List ℕ
 priority_bytes priority = if priority == 0 then [] else varint_field_bytes 3 priority
 
 abbrev pub delta_bytes : Delta → List ℕ
-delta_bytes delta = flat_map element_bytes delta.elements ++ flat_map tomb_bytes delta.tombstones ++ priority_bytes delta.priority
+delta_bytes delta =
+    flat_map element_bytes delta.elements ++ flat_map tomb_bytes delta.tombstones ++ priority_bytes delta.priority

@@ -1,5 +1,6 @@
 -- How far a drain of the wanted set has come, as a fact about two states: it names no event, and has one proof at most.
-use Rattle.std.specs.Prelude.{⊤, ℕ, ◌≤◌, ◌≡◌, Bool, true, false, ◌&&◌, ◌||◌, List, [], ◌∷◌, ◌++◌, length, drop, map, find, Option, Some, None, Result, Ok, Err, is_some}
+use Rattle.std.specs.Prelude.{⊤, ℕ, ◌≤◌, ◌≡◌, Bool, true, false, ◌&&◌, ◌||◌, List, [], ◌∷◌, ◌++◌, length, drop, map}
+use Rattle.std.specs.Prelude.{find, Option, Some, None, Result, Ok, Err, is_some}
 use Rattle.std.specs.Option.{option_map}
 use Rattle.mc_base.specs.declared.cid.Cid.{Cid}
 use Rattle.mc_model.specs.declared.block.Block.{Block}
@@ -19,7 +20,8 @@ queue_in (Some run) = run.queue
 
 -- the bytes of a stored block
 abbrev pub bytes_in : List Vertex → Cid → Option (List ℕ)
-bytes_in graph c = option_map (λ (vertex : Vertex). vertex.bytes) (find (λ (vertex : Vertex). same_cid c vertex.cid) graph)
+bytes_in graph c =
+    option_map (λ (vertex : Vertex). vertex.bytes) (find (λ (vertex : Vertex). same_cid c vertex.cid) graph)
 
 -- which bytes are found for each block, or none
 abbrev pub FoundBytes : Type 0
@@ -34,7 +36,8 @@ abbrev pub came : List Cid → List Cid → List Cid
 came order now = drop (length order) now
 
 -- From the durable state `old`, where `start` was wanted, these blocks were added by a drain, and `q` is wanted now.
-pub record DrainsWith (found : Offers) (old : Durable) (start : List Cid) (now : Durable) (q : Queue) (added : List Cid) : Type 0 where
+pub record DrainsWith (found : Offers) (old : Durable) (start : List Cid) (now : Durable) (q : Queue)
+    (added : List Cid) : Type 0 where
   -- the added blocks follow those that were processed
   pub grown : now.order ≡ old.order ++ added
   -- each has a good offer, and was not processed
@@ -57,8 +60,10 @@ IsDraining found old start now q = DrainsWith found old start now q (came old.or
 pub record IsClosing (found : Offers) (old : Durable) (start : List Cid) (now : Durable) (q : Queue) : Type 0 where
   pub within : (c : Cid) → has c now.order ≡ true → IsClosed found old.order start c
   pub whole : (c : Cid) → IsClosed found old.order start c → has c now.order ≡ true
-  pub coming : (c : Cid) → has c (wanted q) ≡ true → IsComing found old.order start c × (IsClosed found old.order start c → ⊥)
-  pub left : (c : Cid) → IsComing found old.order start c → (IsClosed found old.order start c → ⊥) → has c (wanted q) ≡ true
+  pub coming : (c : Cid) → has c (wanted q) ≡ true →
+      IsComing found old.order start c × (IsClosed found old.order start c → ⊥)
+  pub left : (c : Cid) → IsComing found old.order start c → (IsClosed found old.order start c → ⊥) →
+      has c (wanted q) ≡ true
 
 -- whether a drain may have the block stored: it was before, or it is added, or it is wanted and has a good offer
 abbrev pub may_be_stored : Offers → Durable → Durable → Queue → Cid → Bool
@@ -67,7 +72,8 @@ may_be_stored found old now q c =
 
 -- From the durable state `old`, where `start` was wanted, a drain has come to this state, and it is known which bytes
 -- are found.
-pub record HasDrained (bytes_of : FoundBytes) (kept : List Cid) (old : Durable) (start : List Cid) (state : State) : Type 0 where
+pub record HasDrained (bytes_of : FoundBytes) (kept : List Cid) (old : Durable) (start : List Cid) (state : State)
+    : Type 0 where
   pub draining : IsDraining (offers_of bytes_of) old start state.durable (queue_in state.run)
   -- each stored block has the bytes that are found
   pub stored : (c : Cid) (bytes : List ℕ) → bytes_in state.durable.graph c ≡ Some bytes → bytes_of c ≡ Some bytes
@@ -81,7 +87,8 @@ pub record HasDrained (bytes_of : FoundBytes) (kept : List Cid) (old : Durable) 
 -- bytes that are found; one that is processed is wanted
 abbrev pub TakesRun : FoundBytes → Running → Event → Type 0
 TakesRun bytes_of run (Store blocks) =
-    (c : Cid) (bytes : List ℕ) → bytes_in blocks c ≡ Some bytes → (has c (wanted run.queue) ≡ true) × (bytes_of c ≡ Some bytes)
+    (c : Cid) (bytes : List ℕ) → bytes_in blocks c ≡ Some bytes →
+    (has c (wanted run.queue) ≡ true) × (bytes_of c ≡ Some bytes)
 TakesRun bytes_of run (Process cids) = (c : Cid) → has c cids ≡ true → has c (wanted run.queue) ≡ true
 TakesRun bytes_of run Want = ⊤
 TakesRun bytes_of run (GiveBack c) = ⊤
@@ -98,7 +105,8 @@ Takes bytes_of (Some run) event = TakesRun bytes_of run event
 -- each event asks no more than that
 abbrev pub TakesAll : FoundBytes → State → List Event → Type 0
 TakesAll bytes_of state [] = ⊤
-TakesAll bytes_of state (event ∷ events) = Takes bytes_of state.run event × TakesAll bytes_of (happens state event) events
+TakesAll bytes_of state (event ∷ events) =
+    Takes bytes_of state.run event × TakesAll bytes_of (happens state event) events
 
 -- what an event says of an offer: a block is missing where it has none, and bad where it has one of this damage
 abbrev pub SaysRight : Offers → Event → Type 0

@@ -35,8 +35,8 @@ pub record PeerOffers : Type 0 where
 abbrev pub peer_list : PeerOffers → List (List ℕ)
 peer_list peer = option_list peer.planted ++ option_list peer.stored
 
--- all offers for a block: the replica's own stored block, and then those of each other running replica whose link is up,
--- in order of name
+-- all offers for a block: the replica's own stored block, and then those of each other running replica whose link is
+-- up, in order of name
 abbrev pub offers_from : Option (List ℕ) → List PeerOffers → List (List ℕ)
 offers_from own peers = option_list own ++ flat_map peer_list peers
 

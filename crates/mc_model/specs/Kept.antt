@@ -16,7 +16,8 @@ pub record Kept : Type 0 where
 
 -- the bytes that are stored under an identifier
 abbrev pub bytes_at : List Stored → Cid → Option (List ℕ)
-bytes_at graph cid = option_map (λ (stored : Stored). stored.bytes) (find (λ (stored : Stored). same_cid cid stored.cid) graph)
+bytes_at graph cid =
+    option_map (λ (stored : Stored). stored.bytes) (find (λ (stored : Stored). same_cid cid stored.cid) graph)
 
 abbrev pub is_stored : List Stored → Cid → Bool
 is_stored graph cid = is_some (bytes_at graph cid)

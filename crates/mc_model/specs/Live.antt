@@ -1,4 +1,5 @@
--- The value of a key over blocks: that of its live element of greatest priority, and of equal ones the greatest by its bytes.
+-- The value of a key over blocks: that of its live element of greatest priority, and of equal ones the greatest by its
+-- bytes.
 use Rattle.std.specs.Prelude.{ℕ, Bool, ◌&&◌, List, [], map, filter, Option, if◌then◌else◌}
 use Rattle.std.specs.List.{flat_map, list_any}
 use Rattle.std.specs.Option.{option_map}
@@ -23,7 +24,8 @@ is_hidden blocks key block = has_tomb blocks key (id_text block.cid.0)
 
 -- the elements of a key, with this priority
 abbrev pub ranked_elements : ℕ → List Element → List ℕ → List Ranked
-ranked_elements priority elements key = map (λ element. (priority, element.value)) (filter (λ element. bytes_eq element.key key) elements)
+ranked_elements priority elements key =
+    map (λ element. (priority, element.value)) (filter (λ element. bytes_eq element.key key) elements)
 
 -- the elements of the key in one block, with its priority
 abbrev pub ranked_in : List ℕ → Block → List Ranked

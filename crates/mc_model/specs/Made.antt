@@ -30,4 +30,5 @@ next_priority blocks = greatest_height (heads blocks) + 1
 
 -- what a put makes
 abbrev pub put_delta : List ℕ → List ℕ → ℕ → Delta
-put_delta key value priority = record { elements = record { key = key; value = value } ∷ []; tombstones = []; priority = priority }
+put_delta key value priority =
+    record { elements = record { key = key; value = value } ∷ []; tombstones = []; priority = priority }

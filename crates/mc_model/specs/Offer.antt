@@ -1,5 +1,6 @@
 -- Bytes that are offered under a content identifier: the block that they are, or the first damage.
-use Rattle.std.specs.Prelude.{ℕ, ◌+◌, List, [], ◌∷◌, length, nat_le, not, Bool, if◌then◌else◌, Option, Some, None, Result, Ok, Err, option_map, unwrap_or}
+use Rattle.std.specs.Prelude.{ℕ, ◌+◌, List, [], ◌∷◌, length, nat_le, not, Bool, if◌then◌else◌, Option, Some, None}
+use Rattle.std.specs.Prelude.{Result, Ok, Err, option_map, unwrap_or}
 use Rattle.std.specs.Result.{is_ok, result_ok}
 use Rattle.std.specs.Str.{bytes_eq}
 use Rattle.mc_base.specs.Cid.{cid_digest, digest_of}
@@ -13,7 +14,8 @@ use Rattle.mc_model.specs.DeltaText.{DeltaFault, delta_read}
 abbrev pub block_max : ℕ
 block_max = 1048576
 
--- why bytes are no block under an identifier: too many; of another digest; no node; a link of this index that is no identifier; or data that is no delta, with its first fault
+-- why bytes are no block under an identifier: too many; of another digest; no node; a link of this index that is no
+-- identifier; or data that is no delta, with its first fault
 pub data Damage : Type 0 where
   TooLarge : (len : ℕ) → Damage
   WrongDigest : (found : List ℕ) → Damage

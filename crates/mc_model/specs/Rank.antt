@@ -1,5 +1,7 @@
--- Values with the priorities of their blocks, and the greatest of them: by priority, and of equal priorities by the bytes.
-use Rattle.std.specs.Prelude.{◌≡◌, ℕ, Bool, false, ◌&&◌, nat_eq, List, [], fold, Option, Some, None, if◌then◌else◌, All, Contains}
+-- Values with the priorities of their blocks, and the greatest of them: by priority, and of equal priorities by the
+-- bytes.
+use Rattle.std.specs.Prelude.{◌≡◌, ℕ, Bool, false, ◌&&◌, nat_eq, List, [], fold, Option, Some, None, if◌then◌else◌, All}
+use Rattle.std.specs.Prelude.{Contains}
 use Rattle.std.specs.Str.{bytes_eq}
 use Rattle.std.specs.Ordering.{is_lt, is_gt, nat_cmp, on, then_cmp}
 use Rattle.std.specs.declared.cmp.Ordering.{Ordering}

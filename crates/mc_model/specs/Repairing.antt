@@ -15,7 +15,8 @@ abbrev pub with_gaps : Durable → List Cid → List Cid
 with_gaps old start = start ++ gaps_in old.graph old.order
 
 -- From the durable state `old`, where `start` was wanted, these blocks were added by a repair, and `q` is wanted now.
-pub record RepairsWith (found : Offers) (old : Durable) (start : List Cid) (now : Durable) (q : Queue) (added : List Cid) : Type 0 where
+pub record RepairsWith (found : Offers) (old : Durable) (start : List Cid) (now : Durable) (q : Queue)
+    (added : List Cid) : Type 0 where
   -- the added blocks follow those that were processed
   pub grown : now.order ≡ old.order ++ added
   -- each has a good offer, and was not processed
@@ -27,7 +28,8 @@ pub record RepairsWith (found : Offers) (old : Durable) (start : List Cid) (now 
   -- what an added block links to is processed or wanted
   pub linked : (c : Cid) → has c (offered_links found added) ≡ true → 1 ≤ held now.order q c
   -- nothing is wanted that was not, but gaps and what added blocks link to
-  pub traced : (c : Cid) → has c (wanted q) ≡ true → (has c (with_gaps old start) || has c (offered_links found added)) ≡ true
+  pub traced : (c : Cid) → has c (wanted q) ≡ true →
+      (has c (with_gaps old start) || has c (offered_links found added)) ≡ true
   -- the blocks that were processed have the same links, and each added one those that were offered
   pub same : (c : Cid) → has c old.order ≡ true → links_in now.graph c ≡ links_in old.graph c
   pub offered : (c : Cid) → has c added ≡ true → links_in now.graph c ≡ found_links (found c)
@@ -38,7 +40,8 @@ IsRepairing found old start now q = RepairsWith found old start now q (came old.
 
 -- From the durable state `old`, where `start` was wanted, a repair has come to this state, and it is known which bytes
 -- are found.
-pub record HasRepaired (bytes_of : FoundBytes) (kept : List Cid) (old : Durable) (start : List Cid) (state : State) : Type 0 where
+pub record HasRepaired (bytes_of : FoundBytes) (kept : List Cid) (old : Durable) (start : List Cid) (state : State)
+    : Type 0 where
   pub repairing : IsRepairing (offers_of bytes_of) old start state.durable (queue_in state.run)
   -- each stored block has the bytes that are found
   pub stored : (c : Cid) (bytes : List ℕ) → bytes_in state.durable.graph c ≡ Some bytes → bytes_of c ≡ Some bytes
@@ -70,4 +73,5 @@ Repairs found durable (Some run) event = RepairRuns found durable run event
 -- each event is one of a repair
 abbrev pub RepairsAll : Offers → State → List Event → Type 0
 RepairsAll found state [] = ⊤
-RepairsAll found state (event ∷ events) = Repairs found state.durable state.run event × RepairsAll found (happens state event) events
+RepairsAll found state (event ∷ events) =
+    Repairs found state.durable state.run event × RepairsAll found (happens state event) events

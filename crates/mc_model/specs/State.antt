@@ -1,5 +1,6 @@
 -- The state of a replica: what outlives a stop, and what doesn't; and where it is sound.
-use Rattle.std.specs.Prelude.{⊤, ℕ, ◌≤◌, ◌≡◌, Bool, true, false, not, List, [], ◌∷◌, ◌++◌, length, take, drop, map, Option, Some, None}
+use Rattle.std.specs.Prelude.{⊤, ℕ, ◌≤◌, ◌≡◌, Bool, true, false, not, List, [], ◌∷◌, ◌++◌, length, take, drop, map}
+use Rattle.std.specs.Prelude.{Option, Some, None}
 use Rattle.mc_base.specs.declared.cid.Cid.{Cid}
 use Rattle.mc_model.specs.declared.block.Block.{Block}
 use Rattle.mc_model.specs.declared.block.Stored.{Stored}
@@ -65,7 +66,8 @@ pub record State : Type 0 where
 
 -- the bytes of a block are good under its identifier, and its links are those that they have
 abbrev pub IsGoodVertex : Vertex → Type 0
-IsGoodVertex vertex = (is_good vertex.cid vertex.bytes ≡ true) × (vertex.links ≡ (block_of vertex.cid vertex.bytes).links)
+IsGoodVertex vertex =
+    (is_good vertex.cid vertex.bytes ≡ true) × (vertex.links ≡ (block_of vertex.cid vertex.bytes).links)
 
 -- so is each of these
 abbrev pub AllGood : List Vertex → Type 0
@@ -87,15 +89,18 @@ IsLinked durable q part = (c : Cid) → has c (all_links durable.graph part) ≡
 abbrev pub walked : List Cid → ℕ → ℕ → List Cid
 walked order end next = take next order ++ drop end order
 
--- a walk visits no more than is processed, and the links of what it has visited, or was added since it began, are processed or wanted
+-- a walk visits no more than is processed, and the links of what it has visited, or was added since it began, are
+-- processed or wanted
 abbrev pub WalkHolds : Durable → Queue → Option Walk → Type 0
 WalkHolds durable q None = ⊤
-WalkHolds durable q (Some (end, next)) = (next ≤ end) × (end ≤ length durable.order) × IsLinked durable q (walked durable.order end next)
+WalkHolds durable q (Some (end, next)) =
+    (next ≤ end) × (end ≤ length durable.order) × IsLinked durable q (walked durable.order end next)
 
 -- Where whole is true, there is no walk, every gap is wanted, and the mark is set exactly where there is a gap.
 -- Where it is false, the mark is set, and the walk holds.
 abbrev pub WholeHolds : Durable → Queue → Option Walk → Bool → Type 0
-WholeHolds durable q walk true = (walk ≡ None) × IsLinked durable q durable.order × (durable.mark ≡ not (no_gaps durable.graph durable.order))
+WholeHolds durable q walk true =
+    (walk ≡ None) × IsLinked durable q durable.order × (durable.mark ≡ not (no_gaps durable.graph durable.order))
 WholeHolds durable q walk false = (durable.mark ≡ true) × WalkHolds durable q walk
 
 -- where a replica doesn't run, a clear mark means that there is no gap

@@ -1,5 +1,6 @@
 -- The calls of a storm's writers, and what an interleaving of them is.
-use Rattle.std.specs.Prelude.{◌≡◌, ◌==◌, ℕ, zero, suc, Bool, true, false, not, ◌&&◌, nat_le, if◌then◌else◌, List, [], ◌∷◌, map}
+use Rattle.std.specs.Prelude.{◌≡◌, ◌==◌, ℕ, zero, suc, Bool, true, false, not, ◌&&◌, nat_le, if◌then◌else◌, List, []}
+use Rattle.std.specs.Prelude.{◌∷◌, map}
 use Rattle.std.specs.List.{filter}
 use Rattle.mc_turn.specs.Lists.{Begins, places, total}
 

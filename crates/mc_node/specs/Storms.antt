@@ -1,5 +1,6 @@
 -- What a storm does: writers that put and get beside one another, on one replica.
-use Rattle.std.specs.Prelude.{◌≡◌, ℕ, Bool, true, false, List, [], ◌∷◌, ◌++◌, Option, Some, None, Result, Ok, Err, codes}
+use Rattle.std.specs.Prelude.{◌≡◌, ℕ, Bool, true, false, List, [], ◌∷◌, ◌++◌, Option, Some, None, Result, Ok, Err}
+use Rattle.std.specs.Prelude.{codes}
 use Rattle.std.specs.Str.{bytes_eq}
 use Rattle.std.specs.Fmt.{decimal}
 use Rattle.std.specs.Int.{to_be_bytes, w32}
@@ -10,7 +11,9 @@ use Rattle.mc_core.specs.Events.{ReplicaState, Breaks}
 use Rattle.mc_core.specs.Puts.{AddsPut, PutEvents, put_refusal}
 use Rattle.mc_core.specs.Refusals.{Is}
 use Rattle.mc_core.specs.declared.error.CoreError.{CoreError}
-use Rattle.mc_core.specs.declared.error.CoreError.TheVariants.{BadKey, ValueTooLong, BlockTooLarge, PriorityFull, Clash, KeeperFault, Stopped, BadCast, NoBatch, BatchOpen, Memory}
+use Rattle.mc_core.specs.declared.error.CoreError.TheVariants.{BadKey, ValueTooLong, BlockTooLarge, PriorityFull, Clash}
+use Rattle.mc_core.specs.declared.error.CoreError.TheVariants.{KeeperFault, Stopped, BadCast, NoBatch, BatchOpen}
+use Rattle.mc_core.specs.declared.error.CoreError.TheVariants.{Memory}
 use Rattle.mc_core.specs.declared.made.Written.{Written}
 use Rattle.mc_node.specs.Interleavings.{InTurn, IsInterleaving, IsPartOfOne, StormCall, Write, gets_same, puts_made}
 use Rattle.mc_node.specs.declared.storming.StormError.{StormError}

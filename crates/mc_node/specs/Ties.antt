@@ -1,5 +1,6 @@
 -- How the log of a node is tied to its replica.
-use Rattle.std.specs.Prelude.{◌≡◌, ◌<◌, ◌≤◌, ℕ, Bool, true, false, ◌||◌, List, take, length, Option, Some, None, is_some}
+use Rattle.std.specs.Prelude.{◌≡◌, ◌<◌, ◌≤◌, ℕ, Bool, true, false, ◌||◌, List, take, length, Option, Some, None}
+use Rattle.std.specs.Prelude.{is_some}
 use Rattle.mc_base.specs.Causes.{Rose}
 use Rattle.mc_base.specs.declared.cid.Cid.{Cid}
 use Rattle.mc_keep.specs.Causes.{has_fired}
@@ -12,7 +13,8 @@ use Rattle.mc_model.specs.Wanted.{wanted}
 use Rattle.mc_core.specs.Events.{ReplicaState}
 use Rattle.mc_drain.specs.Leads.{count}
 use Rattle.mc_node.specs.Works.{Bounds, GoesBroken, HasLed, commits_in, reads_in}
-use Rattle.mc_node.specs.Items.{Item, Shown, blocks, blocks_in, has_halted, has_note, has_walked, is_callers, is_rooted, is_sealed, last, root, state_in, tells}
+use Rattle.mc_node.specs.Items.{Item, Shown, blocks, blocks_in, has_halted, has_note, has_walked, is_callers, is_rooted}
+use Rattle.mc_node.specs.Items.{is_sealed, last, root, state_in, tells}
 
 -- the frame of calls, of which the last may have failed: what every call of a replica leaves
 pub record Goes (failed : Bool) (before now : Shown) : Type 0 where
@@ -38,8 +40,8 @@ pub record GoesCalm (before now : Shown) : Type 0 where
       → NonePlanned old now.schedule
   pub runs : now.stopped ≡ before.stopped
 
--- The replica shows this after the last entry of the log: since then no call has failed and processed blocks stay first,
--- and on a log that isn't sealed only reads have come; on a sealed one calls of workers may have come too.
+-- The replica shows this after the last entry of the log: since then no call has failed and processed blocks stay
+-- first, and on a log that isn't sealed only reads have come; on a sealed one calls of workers may have come too.
 pub record IsMoment (log : List Item) (now : Shown) : Type 0 where
   pub own : now.own ≡ (last log).own
   pub faults : now.faults ≡ (last log).faults

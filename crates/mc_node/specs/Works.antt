@@ -34,8 +34,8 @@ abbrev pub IsKnown : Bounds → Map → List Cid → Type 0
 IsKnown limit map kept = (limit.found ≡ Some map) × (kept ≡ limit.kept)
 
 -- What workers lead to within these bounds, of whose calls the last alone may have failed: no block is lost, no more is
--- processed than the bounds say, the fuse burns by the commits at most, and where it is known what is found, a drain goes
--- on or has broken off.
+-- processed than the bounds say, the fuse burns by the commits at most, and where it is known what is found, a drain
+-- goes on or has broken off.
 abbrev pub WorkersLead : Bounds → Bool → ReplicaState → ReplicaState → Type 0
 WorkersLead limit failed s new = LeadsBy failed (bound_of limit.most (count new)) (IsKnown limit) Never s new
 
@@ -57,10 +57,13 @@ pub record HasLed (limit : Bounds) (failed : Bool) (s new : ReplicaState) : Type
   pub few : count new ≤ bound_of limit.most (count new)
   pub no_fuse : s.fuse ≡ None → new.fuse ≡ None
   pub fired : (old : Fuse) → s.fuse ≡ Some old → new.fuse ≡ None → IsFired failed (commits_between failed s new) old
-  pub burnt : (old now : Fuse) → s.fuse ≡ Some old → new.fuse ≡ Some now → IsBurnt (commits_between failed s new) old now
-  pub goes : failed ≡ false → (map : Map) (kept : List Cid) → IsKnown limit map kept → (old : Durable) (start : List Cid)
+  pub burnt : (old now : Fuse) → s.fuse ≡ Some old → new.fuse ≡ Some now →
+      IsBurnt (commits_between failed s new) old now
+  pub goes : failed ≡ false → (map : Map) (kept : List Cid) → IsKnown limit map kept →
+      (old : Durable) (start : List Cid)
       → HasDrained map kept old start s.state → HasDrained map kept old start new.state
-  pub breaks : failed ≡ true → (map : Map) (kept : List Cid) → IsKnown limit map kept → (old : Durable) (start : List Cid)
+  pub breaks : failed ≡ true → (map : Map) (kept : List Cid) → IsKnown limit map kept →
+      (old : Durable) (start : List Cid)
       → HasDrained map kept old start s.state → HasBrokenOff map old start new.state.durable
 
 -- so many reads and commits were made, where that is known
@@ -77,7 +80,8 @@ pub record OnePlanned (old : Schedule) (new : Option Schedule) : Type 0 where
   pub counted : new ≡ Some (record old { reads_made = reads_in new; commits_made = commits_in new })
   pub one : (is_planned old.reads (reads_in new) || is_planned_commit old (commits_in new)) ≡ true
   pub reads : AreMade (is_planned old.reads) old.reads_made (reads_in new) (is_planned old.reads (reads_in new))
-  pub commits : AreMade (is_planned_commit old) old.commits_made (commits_in new) (is_planned_commit old (commits_in new))
+  pub commits : AreMade (is_planned_commit old) old.commits_made (commits_in new)
+      (is_planned_commit old (commits_in new))
 
 -- the frame of calls of which the last has failed, in a form that has one proof at most
 pub record GoesBroken (before now : Shown) : Type 0 where

@@ -1,5 +1,6 @@
 -- What a storm's writers have called: one write of a writer, and all its calls.
-use Rattle.std.specs.Prelude.{◌≡◌, ◌≤◌, ◌+◌, ℕ, suc, Bool, true, false, List, [], ◌∷◌, ◌++◌, map, take, length, Option, Some, None, Result, Ok, Err, is_some, ◌&&◌, if◌then◌else◌}
+use Rattle.std.specs.Prelude.{◌≡◌, ◌≤◌, ◌+◌, ℕ, suc, Bool, true, false, List, [], ◌∷◌, ◌++◌, map, take, length, Option}
+use Rattle.std.specs.Prelude.{Some, None, Result, Ok, Err, is_some, ◌&&◌, if◌then◌else◌}
 use Rattle.mc_base.specs.Causes.{Rose}
 use Rattle.mc_base.specs.Told.{Told}
 use Rattle.mc_turn.specs.declared.view.View.{View}

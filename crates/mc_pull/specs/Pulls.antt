@@ -1,5 +1,6 @@
 -- What is found among the sites that a replica fetches from, and what calls through their desks leave of these.
-use Rattle.std.specs.Prelude.{◌≡◌, ◌≤◌, ◌<◌, ◌&&◌, ℕ, Bool, true, cond, List, [], ◌∷◌, Option, Some, slice_get, nat_eq, length}
+use Rattle.std.specs.Prelude.{◌≡◌, ◌≤◌, ◌<◌, ◌&&◌, ℕ, Bool, true, cond, List, [], ◌∷◌, Option, Some, slice_get, nat_eq}
+use Rattle.std.specs.Prelude.{length}
 use Rattle.std.specs.List.{AllZip, list_all, sum_by}
 use Rattle.std.specs.Option.{option_map}
 use Rattle.mc_base.specs.declared.cid.Cid.{Cid}

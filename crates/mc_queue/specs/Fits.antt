@@ -1,5 +1,6 @@
 -- The four parts fit the marks and have room, and what they show.
-use Rattle.std.specs.Prelude.{ℕ, ◌≡◌, ◌+◌, ◌-◌, ◌^◌, ◌||◌, nat_lt, ◌≤◌, ◌<◌, true, false, [], ◌∷◌, ◌++◌, cond, Option, Some}
+use Rattle.std.specs.Prelude.{ℕ, ◌≡◌, ◌+◌, ◌-◌, ◌^◌, ◌||◌, nat_lt, ◌≤◌, ◌<◌, true, false, [], ◌∷◌, ◌++◌, cond, Option}
+use Rattle.std.specs.Prelude.{Some}
 use Rattle.std.specs.VecDeque.{deque_len, deque_capacity}
 use Rattle.indexmap.specs.IndexMap.{spare, get}
 use Rattle.mc_base.specs.declared.cid.Cid.{Cid}
@@ -16,7 +17,8 @@ use Rattle.mc_queue.specs.Tickets.{goes_to, is_in, is_taken, live, cids_in, bad_
 -- the part has a place for a ticket, and no ticket that would count with the next stamp
 pub record IsReady (at : Cid → Option Mark) (part : Part) (ring : Ring) (next : ℕ) : Type 0 where
   pub room : deque_len ring.tickets < deque_capacity ring.tickets
-  pub free : (c : Cid) (mark : Mark) → mark.stamp ≡ next → is_in part (at c) ≡ false → is_taken part c (Some mark) ring.tickets.items ≡ false
+  pub free : (c : Cid) (mark : Mark) → mark.stamp ≡ next → is_in part (at c) ≡ false →
+      is_taken part c (Some mark) ring.tickets.items ≡ false
 
 -- how many blocks are in the four parts
 abbrev pub total : Store → ℕ
@@ -69,7 +71,8 @@ pub record Keeps (old new : Store) : Type 0 where
   pub room : new.room ≡ old.room
 
 -- a block with this mark left the part where it was in it, and the ticket came where it goes there
-pub record RingTurned (old new : Ring) (part : Part) (was : Option Mark) (to : Option Part) (ticket : Ticket) : Type 0 where
+pub record RingTurned (old new : Ring) (part : Part) (was : Option Mark) (to : Option Part) (ticket : Ticket)
+    : Type 0 where
   pub tickets : new.tickets.items ≡ cond (goes_to to part) (old.tickets.items ++ ticket ∷ []) old.tickets.items
   pub capacity : deque_capacity new.tickets ≡ deque_capacity old.tickets
   pub count : new.count ≡ old.count - cond (is_in part was) 1 0 + cond (goes_to to part) 1 0

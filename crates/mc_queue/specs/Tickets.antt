@@ -1,5 +1,6 @@
 -- Which tickets of a part count, and what they say.
-use Rattle.std.specs.Prelude.{ℕ, ◌≡◌, ◌-◌, ◌^◌, Bool, true, false, ◌&&◌, ◌||◌, nat_eq, nat_lt, length, List, [], ◌∷◌, map, filter, cond, Option, Some, None}
+use Rattle.std.specs.Prelude.{ℕ, ◌≡◌, ◌-◌, ◌^◌, Bool, true, false, ◌&&◌, ◌||◌, nat_eq, nat_lt, length, List, [], ◌∷◌}
+use Rattle.std.specs.Prelude.{map, filter, cond, Option, Some, None}
 use Rattle.std.specs.List.{list_any, list_all}
 use Rattle.mc_base.specs.declared.cid.Cid.{Cid}
 use Rattle.mc_model.specs.Front.{same_cid}
@@ -48,7 +49,8 @@ are_before next tickets = list_all (λ (ticket : Ticket). nat_lt ticket.stamp ne
 
 -- whether a ticket of the block would count with this mark
 abbrev pub is_taken : Part → Cid → Option Mark → List Ticket → Bool
-is_taken part c mark tickets = list_any (λ (ticket : Ticket). same_cid c ticket.cid && is_at part ticket.stamp mark) tickets
+is_taken part c mark tickets =
+    list_any (λ (ticket : Ticket). same_cid c ticket.cid && is_at part ticket.stamp mark) tickets
 
 -- the tickets of a part fit the marks: one counts for each block that is in the part, and they are this many
 pub record RingFits (at : Cid → Option Mark) (part : Part) (tickets : List Ticket) (number next : ℕ) : Type 0 where

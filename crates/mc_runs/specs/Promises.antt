@@ -1,5 +1,6 @@
 -- What is promised of every run.
-use Rattle.std.specs.Prelude.{◌≡◌, ◌≤◌, ⊤, ℕ, ◌+◌, ◌==◌, ◌&&◌, ◌||◌, Bool, true, false, List, [], ◌∷◌, ◌++◌, length, take, drop, suc, Option, Some, None, IfSome, is_some, slice_get}
+use Rattle.std.specs.Prelude.{◌≡◌, ◌≤◌, ⊤, ℕ, ◌+◌, ◌==◌, ◌&&◌, ◌||◌, Bool, true, false, List, [], ◌∷◌, ◌++◌, length}
+use Rattle.std.specs.Prelude.{take, drop, suc, Option, Some, None, IfSome, is_some, slice_get}
 use Rattle.std.specs.List.{list_any}
 use Rattle.mc_base.specs.Told.{Told}
 use Rattle.mc_base.specs.declared.cid.Cid.{Cid}
@@ -18,8 +19,10 @@ use Rattle.mc_core.specs.Puts.{next_links}
 use Rattle.mc_drain.specs.Reached.{AreReached}
 use Rattle.mc_script.specs.Line.{line_of}
 use Rattle.mc_script.specs.declared.command.Command.{Command}
-use Rattle.mc_script.specs.declared.command.Command.TheVariants.{Put, Del, Begin, BatchPut, BatchDel, Commit, Get, Has, Query, Heads}
-use Rattle.mc_script.specs.declared.command.Command.TheVariants.{Cast, Wire, Hear, Plant, Link, Step, Work, Repair, Storm, State, Same, Stop, Open, StopAt, StopAfter}
+use Rattle.mc_script.specs.declared.command.Command.TheVariants.{Put, Del, Begin, BatchPut, BatchDel, Commit, Get, Has}
+use Rattle.mc_script.specs.declared.command.Command.TheVariants.{Query, Heads}
+use Rattle.mc_script.specs.declared.command.Command.TheVariants.{Cast, Wire, Hear, Plant, Link, Step, Work, Repair}
+use Rattle.mc_script.specs.declared.command.Command.TheVariants.{Storm, State, Same, Stop, Open, StopAt, StopAfter}
 use Rattle.mc_script.specs.declared.reply.Reply.{Reply}
 use Rattle.mc_world.specs.Effects.{batch_in}
 use Rattle.mc_runs.specs.Runs.{Answer, Runs}

@@ -1,5 +1,6 @@
 -- What the lines of a script do, one after another.
-use Rattle.std.specs.Prelude.{◌≡◌, ◌≤◌, ℕ, ◌+◌, ◌-◌, ◌^◌, min, Bool, true, false, ◌&&◌, cond, List, [], ◌∷◌, Option, None, Some}
+use Rattle.std.specs.Prelude.{◌≡◌, ◌≤◌, ℕ, ◌+◌, ◌-◌, ◌^◌, min, Bool, true, false, ◌&&◌, cond, List, [], ◌∷◌, Option}
+use Rattle.std.specs.Prelude.{None, Some}
 use Rattle.std.specs.List.{flat_map, list_all, sum_by}
 use Rattle.mc_script.specs.Line.{line_of}
 use Rattle.mc_script.specs.ReplyText.{reply_text}
@@ -15,8 +16,8 @@ pub record Answer : Type 0 where
   pub reply : Reply
   pub entry : LineEntry
 
--- a line that asks for this may lead from one world to another, and be answered so: a bad one may not, and one without a
--- reply changes nothing
+-- a line that asks for this may lead from one world to another, and be answered so: a bad one may not, and one without
+-- a reply changes nothing
 abbrev pub LineStep : WorldState → Option (Option Command) → WorldState → Option Answer → Type 0
 LineStep old None new answer = ⊥
 LineStep old (Some None) new answer = (new ≡ old) × (answer ≡ None)

@@ -1,5 +1,6 @@
 -- The commands, one row for each: its name and the words behind it; and which lines are lines of a command.
-use Rattle.std.specs.Prelude.{◌≡◌, ◌≢◌, ℕ, ◌+◌, ◌<◌, ◌≤◌, ◌^◌, ◌==◌, ◌&&◌, ◌++◌, not, nat_lt, Bool, true, false, List, [], ◌∷◌, length, map, codes, Option, Some, None, Ok, ⊤}
+use Rattle.std.specs.Prelude.{◌≡◌, ◌≢◌, ℕ, ◌+◌, ◌<◌, ◌≤◌, ◌^◌, ◌==◌, ◌&&◌, ◌++◌, not, nat_lt, Bool, true, false, List}
+use Rattle.std.specs.Prelude.{[], ◌∷◌, length, map, codes, Option, Some, None, Ok, ⊤}
 use Rattle.std.specs.Fmt.{decimal}
 use Rattle.std.specs.List.{AllByRecursion, join_with_byte, list_all, repeat}
 use Rattle.std.specs.Str.{IsUtf8, str_to_ascii_lowercase}
@@ -10,7 +11,10 @@ use Rattle.mc_script.specs.Limits.{IsUpTo, budget_max, commit_max, thread_max, w
 use Rattle.mc_script.specs.Replies.{IsDigest}
 use Rattle.mc_script.specs.ReplyText.{hex_text}
 use Rattle.mc_script.specs.declared.command.Command.{Command}
-use Rattle.mc_script.specs.declared.command.Command.TheVariants.{Put, Del, Begin, BatchPut, BatchDel, Commit, Get, Has, Query, Heads, Cast, Wire, Hear, Plant, Link, Step, Work, Repair, Storm, State, Same, Stop, Open, StopAt, StopAfter}
+use Rattle.mc_script.specs.declared.command.Command.TheVariants.{Put, Del, Begin, BatchPut, BatchDel, Commit, Get, Has}
+use Rattle.mc_script.specs.declared.command.Command.TheVariants.{Query, Heads, Cast, Wire, Hear, Plant, Link, Step}
+use Rattle.mc_script.specs.declared.command.Command.TheVariants.{Work, Repair, Storm, State, Same, Stop, Open, StopAt}
+use Rattle.mc_script.specs.declared.command.Command.TheVariants.{StopAfter}
 
 -- what a word behind a command's name says
 pub data Part : Type 0 where

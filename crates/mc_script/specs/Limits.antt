@@ -3,7 +3,8 @@ use Rattle.std.specs.Prelude.{◌≢◌, ℕ, ◌≤◌, IfSome, ⊤}
 use Rattle.mc_script.specs.declared.command.Command.{Command}
 use Rattle.mc_script.specs.declared.command.Command.TheVariants.{Link, Work, Repair, Storm, StopAt, StopAfter}
 
--- the greatest number of a commit that is told to fail, of workers or writers, of blocks to process, and of writes by one writer
+-- the greatest number of a commit that is told to fail, of workers or writers, of blocks to process, and of writes by
+-- one writer
 abbrev pub commit_max : ℕ
 commit_max = 1000000
 
@@ -19,8 +20,8 @@ write_max = 10000
 abbrev pub IsUpTo : ℕ → ℕ → Type 0
 IsUpTo most number = (1 ≤ number) × (number ≤ most)
 
--- the two replicas of a link differ, and the numbers of commits, workers, blocks to process, writers and writes are from 1
--- to their greatest
+-- the two replicas of a link differ, and the numbers of commits, workers, blocks to process, writers and writes are
+-- from 1 to their greatest
 abbrev pub IsInLimits : Command → Type 0
 IsInLimits (Link r other up) = r ≢ other
 IsInLimits (Work r workers budget) = IsUpTo thread_max workers × IfSome budget (IsUpTo budget_max)

@@ -4,7 +4,9 @@ use Rattle.std.specs.List.{AllByRecursion}
 use Rattle.hex.specs.Hex.{IsBytes}
 use Rattle.mc_base.specs.declared.cid.Cid.{Cid}
 use Rattle.mc_script.specs.declared.reply.Reply.{Reply}
-use Rattle.mc_script.specs.declared.reply.Reply.TheVariants.{Priority, Deleted, Value, Rows, Heads, Message, Queued, Bad, Worked, Again, OpenGaps, Stormed, State, RefusedKey, RefusedSize, RefusedClash}
+use Rattle.mc_script.specs.declared.reply.Reply.TheVariants.{Priority, Deleted, Value, Rows, Heads, Message, Queued}
+use Rattle.mc_script.specs.declared.reply.Reply.TheVariants.{Bad, Worked, Again, OpenGaps, Stormed, State, RefusedKey}
+use Rattle.mc_script.specs.declared.reply.Reply.TheVariants.{RefusedSize, RefusedClash}
 
 -- a number of 64 bits
 abbrev pub IsWide : ℕ → Type 0

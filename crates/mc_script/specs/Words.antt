@@ -1,5 +1,6 @@
 -- The words of a line.
-use Rattle.std.specs.Prelude.{ℕ, ◌-◌, ◌^◌, List, [], ◌∷◌, length, Option, Some, None, Bool, true, false, nat_le, nat_lt, if◌then◌else◌, ◌==◌, ◌&&◌, codes, map}
+use Rattle.std.specs.Prelude.{ℕ, ◌-◌, ◌^◌, List, [], ◌∷◌, length, Option, Some, None, Bool, true, false, nat_le, nat_lt}
+use Rattle.std.specs.Prelude.{if◌then◌else◌, ◌==◌, ◌&&◌, codes, map}
 use denote.Ref.{Bor}
 use Rattle.std.specs.List.{slice_split}
 use Rattle.std.specs.Option.{option_map}
@@ -38,7 +39,9 @@ replica_of word = None
 
 -- one to twenty decimal digits, with a value below 2^64
 abbrev pub is_number : List ℕ → Bool
-is_number word = nat_le 1 (length word) && (nat_le (length word) 20 && (all_ascii_digits word && nat_lt (digits_value 10 word) (2 ^ 64)))
+is_number word =
+    nat_le 1 (length word)
+    && (nat_le (length word) 20 && (all_ascii_digits word && nat_lt (digits_value 10 word) (2 ^ 64)))
 
 abbrev pub number_of : List ℕ → Option ℕ
 number_of word = if is_number word then Some (digits_value 10 word) else None

@@ -10,18 +10,29 @@ all_parts = 2 ^ 63
 module _ {E : Type 0} where
   -- the first seat of a turn whose value has this list
   abbrev pub first_view : List E → View E
-  first_view log = record { seen = log; shorter = []; mine = []; tried = []; parts = all_parts; base = length log; held = None }
+  first_view log =
+      record { seen = log; shorter = []; mine = []; tried = []; parts = all_parts; base = length log; held = None }
 
   -- a split: the seat keeps the greater half of its parts, and the new seat gets the others
   abbrev pub left_view : View E → View E
   left_view v = record v { parts = v.parts - v.parts / 2 }
 
   abbrev pub right_view : View E → View E
-  right_view v = record { seen = v.seen; shorter = []; mine = []; tried = []; parts = v.parts / 2; base = v.base; held = None }
+  right_view v =
+      record { seen = v.seen; shorter = []; mine = []; tried = []; parts = v.parts / 2; base = v.base; held = None }
 
   -- a join: the seat v takes in w, which is then spent
   abbrev pub joined_view : View E → View E → View E
-  joined_view v w = record { seen = longer_of v.seen w.seen; shorter = shorter_of v.seen w.seen; mine = v.mine ++ w.mine; tried = v.tried; parts = v.parts + w.parts; base = v.base; held = v.held }
+  joined_view v w =
+      record {
+        seen = longer_of v.seen w.seen;
+        shorter = shorter_of v.seen w.seen;
+        mine = v.mine ++ w.mine;
+        tried = v.tried;
+        parts = v.parts + w.parts;
+        base = v.base;
+        held = v.held;
+      }
 
   abbrev pub spent_view : View E
   spent_view = record { seen = []; shorter = []; mine = []; tried = []; parts = 0; base = 0; held = None }

@@ -1,5 +1,6 @@
 -- What the events of a replica visit between the beginning of a walk and its end.
-use Rattle.std.specs.Prelude.{ℕ, ◌≡◌, ◌≤◌, Bool, true, false, List, [], ◌∷◌, ◌++◌, length, take, drop, Option, Some, None}
+use Rattle.std.specs.Prelude.{ℕ, ◌≡◌, ◌≤◌, Bool, true, false, List, [], ◌∷◌, ◌++◌, length, take, drop, Option, Some}
+use Rattle.std.specs.Prelude.{None}
 use Rattle.std.specs.List.{list_all, range_with_len}
 use Rattle.mc_base.specs.declared.cid.Cid.{Cid}
 use Rattle.mc_model.specs.State.{Durable, Walk, Running, State}
@@ -53,7 +54,8 @@ pub record IsWalking (durable : Durable) (run : Running) (events : List Event) :
 -- a walk begins, these events come while it goes on, and it may end
 pub record IsWalked (durable : Durable) (run : Running) (events : List Event) : Type 0 where
   pub walking : IsWalking durable run events
-  pub ends : MayCome (after (running durable run) (WalkBegin ∷ events)).durable (after (running durable run) (WalkBegin ∷ events)).run WalkEnd
+  pub ends : MayCome (after (running durable run) (WalkBegin ∷ events)).durable
+      (after (running durable run) (WalkBegin ∷ events)).run WalkEnd
 
 -- the walk of what runs
 abbrev pub walk_in : Option Running → Option Walk

@@ -1,9 +1,11 @@
 -- What the values of this crate say of a text.
-use Rattle.std.specs.Prelude.{◌≡◌, ◌≢◌, ℕ, ◌+◌, ◌-◌, ◌*◌, ◌<◌, ◌≤◌, List, [], ◌∷◌, length, take, drop, Some, Result, Ok, Err, ⊤}
+use Rattle.std.specs.Prelude.{◌≡◌, ◌≢◌, ℕ, ◌+◌, ◌-◌, ◌*◌, ◌<◌, ◌≤◌, List, [], ◌∷◌, length, take, drop, Some, Result, Ok}
+use Rattle.std.specs.Prelude.{Err, ⊤}
 use Rattle.mc_base.specs.Wire as wire
 use Rattle.mc_base.specs.Wire.{Field, wire_type}
 use Rattle.mc_base.specs.WireRead as read
-use Rattle.mc_base.specs.WireRead.{WireFault, Front, after_key, front_varint, front_content, front_of, fault_of, NoKey, NoContent, Whole, Placed, fronts_from}
+use Rattle.mc_base.specs.WireRead.{WireFault, Front, after_key, front_varint, front_content, front_of, fault_of, NoKey}
+use Rattle.mc_base.specs.WireRead.{NoContent, Whole, Placed, fronts_from}
 use Rattle.mc_wire.specs.declared.fault.WireFault.{WireFault as Fault}
 use Rattle.mc_wire.specs.declared.fault.WireFault.TheVariants.{Short, LongVarint, WireType, FieldZero}
 use Rattle.mc_wire.specs.declared.fault.WireFaultAt.{WireFaultAt}
@@ -74,7 +76,8 @@ pub record FieldAt (text : List ℕ) (at : ℕ) (field : PlacedField) : Type 0 w
   pub bytes : EndsAt field.content field.next
   pub begins : at < field.next
   pub ends : field.next ≤ length text
-  pub fronts : fronts_at text at ≡ record { at = at; front = Whole (field_at text field) (field.next - at) } ∷ fronts_at text field.next
+  pub fronts : fronts_at text at
+      ≡ record { at = at; front = Whole (field_at text field) (field.next - at) } ∷ fronts_at text field.next
 
 -- the fault at an offset of a text that isn't its end
 pub record FaultAt (text : List ℕ) (at : ℕ) (fault : WireFaultAt) : Type 0 where
@@ -100,5 +103,8 @@ pub record FieldOf (text : List ℕ) (key : Key) (field : PlacedField) : Type 0 
 
 -- why a key begins no field
 pub record FaultOf (text : List ℕ) (key : Key) (fault : Fault) : Type 0 where
-  pub kind : (len : ℕ) → after_key key.number key.wire_type len (drop key.next text) ≡ NoContent key.number key.wire_type (fault_named fault)
-  pub at_key : (at : ℕ) → KeyAt text at key → fronts_at text at ≡ record { at = at; front = NoContent key.number key.wire_type (fault_named fault) } ∷ []
+  pub kind : (len : ℕ) →
+      after_key key.number key.wire_type len (drop key.next text)
+      ≡ NoContent key.number key.wire_type (fault_named fault)
+  pub at_key : (at : ℕ) → KeyAt text at key →
+      fronts_at text at ≡ record { at = at; front = NoContent key.number key.wire_type (fault_named fault) } ∷ []

@@ -1,9 +1,12 @@
 -- What a command names: replicas and messages.
-use Rattle.std.specs.Prelude.{ℕ, ◌-◌, nat_lt, Bool, true, false, not, ◌&&◌, List, [], ◌∷◌, ◌==◌, length, Option, Some, None, slice_get, unwrap_or}
+use Rattle.std.specs.Prelude.{ℕ, ◌-◌, nat_lt, Bool, true, false, not, ◌&&◌, List, [], ◌∷◌, ◌==◌, length, Option, Some}
+use Rattle.std.specs.Prelude.{None, slice_get, unwrap_or}
 use Rattle.std.specs.List.{list_any}
 use Rattle.mc_script.specs.declared.command.Command.{Command}
-use Rattle.mc_script.specs.declared.command.Command.TheVariants.{Put, Del, Begin, BatchPut, BatchDel, Commit, Get, Has, Query, Heads}
-use Rattle.mc_script.specs.declared.command.Command.TheVariants.{Cast, Wire, Hear, Plant, Link, Step, Work, Repair, Storm, State, Same, Stop, Open, StopAt, StopAfter}
+use Rattle.mc_script.specs.declared.command.Command.TheVariants.{Put, Del, Begin, BatchPut, BatchDel, Commit, Get, Has}
+use Rattle.mc_script.specs.declared.command.Command.TheVariants.{Query, Heads}
+use Rattle.mc_script.specs.declared.command.Command.TheVariants.{Cast, Wire, Hear, Plant, Link, Step, Work, Repair}
+use Rattle.mc_script.specs.declared.command.Command.TheVariants.{Storm, State, Same, Stop, Open, StopAt, StopAfter}
 use Rattle.mc_world.specs.Worlds.{WorldState}
 
 -- whether a list of replicas has this number

@@ -10,7 +10,8 @@ use Rattle.mc_core.specs.declared.replica.Replica.{Replica}
 use Rattle.mc_core.specs.Exact.{IfRefused}
 use Rattle.mc_core.specs.Words.{TellsSame}
 use Rattle.mc_script.specs.declared.command.Command.{Command}
-use Rattle.mc_script.specs.declared.command.Command.TheVariants.{Put, Del, Begin, BatchPut, BatchDel, Commit, Get, Has as HasKey, Query, Heads as HeadsOf}
+use Rattle.mc_script.specs.declared.command.Command.TheVariants.{Put, Del, Begin, BatchPut, BatchDel, Commit, Get}
+use Rattle.mc_script.specs.declared.command.Command.TheVariants.{Has as HasKey, Query, Heads as HeadsOf}
 use Rattle.mc_script.specs.declared.reply.Reply.{Reply}
 use Rattle.mc_script.specs.declared.reply.Reply.TheVariants.{Done, Priority, Deleted, Value, Has, Rows, Heads}
 use Rattle.mc_world.specs.Effects.{AddsPut, IsForm, SameBatch}
@@ -69,7 +70,8 @@ only_runs command = true
 module _ {K D : Type 0} {g : keeper.Ghosts K D} {h : counted.Ghosts K} {i : counted.Ghosts D} (k : Members K D) where
   -- What is as before, over every keeper: the walk and the whole; after every error the batch; after a refusal what is
   -- told, the fuse and what is wanted.
-  pub record CallLeaves (command : Command) (result : Result Reply CoreError) (old new : Replica K D g h i) : Type 0 where
+  pub record CallLeaves (command : Command) (result : Result Reply CoreError) (old new : Replica K D g h i)
+      : Type 0 where
     pub walk_same : new.walk ≡ old.walk
     pub whole_same : new.whole ≡ old.whole
     pub batch_same : IfErr result (λ error. new.batch ≡ old.batch)

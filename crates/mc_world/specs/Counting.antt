@@ -18,10 +18,12 @@ risen_from number [] news = []
 risen_from number (old ∷ olds) [] = []
 risen_from number (old ∷ olds) (new ∷ news) = cond (rises old new) (number ∷ []) [] ++ risen_from (number + 1) olds news
 
-abbrev pub fault_counts : {K D : Type 0} {g : keeper.Ghosts K D} {h : counted.Ghosts K} {i : counted.Ghosts D} → (K → ℕ) → List (Seat K D g h i) → List ℕ
+abbrev pub fault_counts : {K D : Type 0} {g : keeper.Ghosts K D} {h : counted.Ghosts K} {i : counted.Ghosts D} →
+    (K → ℕ) → List (Seat K D g h i) → List ℕ
 fault_counts {K} {D} {g} {h} {i} count seats = map (λ (seat : Seat K D g h i). count (keeper_of seat)) seats
 
-abbrev pub own_counts : {K D : Type 0} {g : keeper.Ghosts K D} {h : counted.Ghosts K} {i : counted.Ghosts D} → (K → ℕ) → List (Seat K D g h i) → List ℕ
+abbrev pub own_counts : {K D : Type 0} {g : keeper.Ghosts K D} {h : counted.Ghosts K} {i : counted.Ghosts D} →
+    (K → ℕ) → List (Seat K D g h i) → List ℕ
 own_counts {K} {D} {g} {h} {i} count seats = map (λ (seat : Seat K D g h i). count (keeper_of seat)) seats
 
 abbrev pub desk_counts : {D : Type 0} → (D → ℕ) → List (List D) → List ℕ

@@ -1,5 +1,6 @@
 -- What a command does at one replica: when it is refused, which events it makes, and what is exact over every keeper.
-use Rattle.std.specs.Prelude.{◌≡◌, ◌≢◌, ◌⊎◌, ⊤, ℕ, Bool, true, false, List, [], length, Option, Some, None, Result, Ok, Err, IfSome, is_some}
+use Rattle.std.specs.Prelude.{◌≡◌, ◌≢◌, ◌⊎◌, ⊤, ℕ, Bool, true, false, List, [], length, Option, Some, None, Result, Ok}
+use Rattle.std.specs.Prelude.{Err, IfSome, is_some}
 use Rattle.mc_base.specs.Told.{Told}
 use Rattle.mc_base.specs.declared.cid.Cid.{Cid}
 use Rattle.mc_key.specs.KeyRule.{fault_number}
@@ -35,11 +36,15 @@ use Rattle.mc_node.specs.declared.storming.Stormed.{Stormed}
 use Rattle.mc_script.specs.declared.command.Command.{Command}
 use Rattle.mc_script.specs.declared.command.Command.TheVariants.{Put, Del, Begin, BatchPut, BatchDel, Commit}
 use Rattle.mc_script.specs.declared.command.Command.TheVariants.{Get, Has as HasKey, Query, Heads as HeadsOf}
-use Rattle.mc_script.specs.declared.command.Command.TheVariants.{Cast, Hear, Plant, Step, Work, Repair, Storm, State as StateOf, Stop, Open, StopAt, StopAfter}
+use Rattle.mc_script.specs.declared.command.Command.TheVariants.{Cast, Hear, Plant, Step, Work, Repair, Storm}
+use Rattle.mc_script.specs.declared.command.Command.TheVariants.{State as StateOf, Stop, Open, StopAt, StopAfter}
 use Rattle.mc_script.specs.declared.reply.Reply.{Reply}
-use Rattle.mc_script.specs.declared.reply.Reply.TheVariants.{Done, Priority, Deleted, Value, Has, Rows, Heads, State, Queued}
-use Rattle.mc_script.specs.declared.reply.Reply.TheVariants.{Idle, Processed, Missing, Bad, Stopped, FaultKeeper, RefusedOpen}
-use Rattle.mc_script.specs.declared.reply.Reply.TheVariants.{RefusedKey, RefusedValue, RefusedSize, RefusedPriority, RefusedClash, RefusedBatch, RefusedCast}
+use Rattle.mc_script.specs.declared.reply.Reply.TheVariants.{Done, Priority, Deleted, Value, Has, Rows, Heads, State}
+use Rattle.mc_script.specs.declared.reply.Reply.TheVariants.{Queued}
+use Rattle.mc_script.specs.declared.reply.Reply.TheVariants.{Idle, Processed, Missing, Bad, Stopped, FaultKeeper}
+use Rattle.mc_script.specs.declared.reply.Reply.TheVariants.{RefusedOpen}
+use Rattle.mc_script.specs.declared.reply.Reply.TheVariants.{RefusedKey, RefusedValue, RefusedSize, RefusedPriority}
+use Rattle.mc_script.specs.declared.reply.Reply.TheVariants.{RefusedClash, RefusedBatch, RefusedCast}
 use Rattle.mc_world.specs.declared.acting.ActError.{ActError}
 use Rattle.mc_world.specs.declared.acting.ActError.TheVariants.{Memory}
 use Rattle.mc_world.specs.Asks.{message_at}
@@ -201,7 +206,8 @@ Exact command p q reply = ⊥
 -- its events have happened, where the content is told
 abbrev pub Happens : WorldState → Command → Place → Place → Reply → Type 0
 Happens w command p q reply =
-    Told (state_at p) (state_at q) (λ s new. (events : List Event) × EventsOf w s command events reply × Goes events s new)
+    Told (state_at p) (state_at q)
+    (λ s new. (events : List Event) × EventsOf w s command events reply × Goes events s new)
 
 -- what runs after an opening: nothing is wanted, no walk and no batch are begun, and every gap counts as wanted exactly
 -- where the mark is clear

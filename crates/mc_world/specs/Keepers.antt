@@ -10,11 +10,13 @@ use Rattle.mc_world.specs.declared.seat.Seat.{Seat}
 use Rattle.mc_world.specs.declared.world.World.{World}
 
 -- the keeper of a replica that runs or doesn't
-abbrev pub keeper_in : {K D : Type 0} {g : keeper.Ghosts K D} {h : counted.Ghosts K} {i : counted.Ghosts D} → Held K D g h i → K
+abbrev pub keeper_in : {K D : Type 0} {g : keeper.Ghosts K D} {h : counted.Ghosts K} {i : counted.Ghosts D} →
+    Held K D g h i → K
 keeper_in (Up replica) = replica.keeper
 keeper_in (Down idle) = idle.keeper
 
-abbrev pub keeper_of : {K D : Type 0} {g : keeper.Ghosts K D} {h : counted.Ghosts K} {i : counted.Ghosts D} → Seat K D g h i → K
+abbrev pub keeper_of : {K D : Type 0} {g : keeper.Ghosts K D} {h : counted.Ghosts K} {i : counted.Ghosts D} →
+    Seat K D g h i → K
 keeper_of seat = keeper_in seat.held
 
 -- the counts of some desks together, at most the last value of 64 bits
@@ -25,8 +27,8 @@ desk_count count desks = min (sum_by count desks) (2 ^ 64 - 1)
 abbrev pub desks_in : {D : Type 0} → (D → ℕ) → List (List D) → ℕ
 desks_in desk_faults desks = sum_by (λ list. sum_by desk_faults list) desks
 
--- A count of faults over a step: it never falls. Each fault that is answered is paid by it, or by a fuse that is armed no
--- more, and each fuse that is armed by a command that arms one; or the count stands at the last value of 64 bits.
+-- A count of faults over a step: it never falls. Each fault that is answered is paid by it, or by a fuse that is armed
+-- no more, and each fuse that is armed by a command that arms one; or the count stands at the last value of 64 bits.
 pub record IsPaid (faults arms : ℕ) (before armed now armed_now : ℕ) : Type 0 where
   pub later : before ≤ now
   pub paid : (before + faults + armed_now ≤ now + armed + arms) ⊎ (2 ^ 64 - 1 ≤ now)
@@ -58,7 +60,8 @@ module _ {K D : Type 0} {g : keeper.Ghosts K D} {h : counted.Ghosts K} {i : coun
   abbrev pub armed_in : List (Seat K D g h i) → ℕ
   armed_in seats = sum_by (λ (seat : Seat K D g h i). armed_at k (keeper_of seat)) seats
 
-module _ {K D : Type 0} {g : keeper.Ghosts K D} {h : counted.Ghosts K} {i : counted.Ghosts D} (k : Members K D) (desk_faults : D → ℕ) where
+module _ {K D : Type 0} {g : keeper.Ghosts K D} {h : counted.Ghosts K} {i : counted.Ghosts D} (k : Members K D)
+    (desk_faults : D → ℕ) where
   -- the faults of all keepers by themselves, and of all desks
   abbrev pub counted_in : World K D g h i → ℕ
   counted_in world = own_in k world.seats.items + desks_in desk_faults world.desks.items
@@ -70,5 +73,6 @@ module _ {K D : Type 0} {g : keeper.Ghosts K D} {h : counted.Ghosts K} {i : coun
 
   -- What every call leaves of a world: each fault that it answers is paid, and what is calm stays calm.
   pub record WorldGoes (faults arms : ℕ) (old new : World K D g h i) : Type 0 where
-    pub paid : IsPaid faults arms (counted_in old) (armed_in k old.seats.items) (counted_in new) (armed_in k new.seats.items)
+    pub paid : IsPaid faults arms (counted_in old) (armed_in k old.seats.items) (counted_in new)
+        (armed_in k new.seats.items)
     pub calm : is_calm old ≡ true → is_calm new ≡ true

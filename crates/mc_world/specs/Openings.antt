@@ -1,5 +1,6 @@
 -- How a world is made of its parts, and what is handed back.
-use Rattle.std.specs.Prelude.{◌≡◌, ◌≤◌, ⊤, ℕ, ◌+◌, nat_eq, Bool, true, false, List, [], ◌∷◌, length, Option, None, Result, Ok, Err, IfSome}
+use Rattle.std.specs.Prelude.{◌≡◌, ◌≤◌, ⊤, ℕ, ◌+◌, nat_eq, Bool, true, false, List, [], ◌∷◌, length, Option, None}
+use Rattle.std.specs.Prelude.{Result, Ok, Err, IfSome}
 use Rattle.std.specs.List.{list_all, sum_by}
 use Rattle.mc_base.specs.Causes.{Rose}
 use Rattle.mc_base.specs.declared.counted.Counted as counted
@@ -63,8 +64,8 @@ module _ {K D : Type 0} (k : Members K D) where
   abbrev pub are_calm : List (Part K D) → Bool
   are_calm parts = list_all (λ (part : Part K D). is_calm_keeper k part.keeper) parts
 
-  -- A keeper of which no replica was opened, for this cause: it tells what it told, has no fuse, and has failed by itself
-  -- where that is the cause.
+  -- A keeper of which no replica was opened, for this cause: it tells what it told, has no fuse, and has failed by
+  -- itself where that is the cause.
   pub record IsBack (cause : OpenCause) (old new : K) : Type 0 where
     pub told_same : k.told new ≡ k.told old
     pub no_fuse : k.fuse new ≡ None

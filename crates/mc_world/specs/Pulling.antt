@@ -1,5 +1,6 @@
 -- A work or a repair of a replica among others, in its parts.
-use Rattle.std.specs.Prelude.{◌≡◌, ◌⊎◌, ⊤, ℕ, ◌+◌, length, Bool, true, false, cond, List, [], ◌∷◌, ◌++◌, map, Option, Some, None, Result, Ok, Err, slice_get, set}
+use Rattle.std.specs.Prelude.{◌≡◌, ◌⊎◌, ⊤, ℕ, ◌+◌, length, Bool, true, false, cond, List, [], ◌∷◌, ◌++◌, map, Option}
+use Rattle.std.specs.Prelude.{Some, None, Result, Ok, Err, slice_get, set}
 use Rattle.std.specs.List.{AllZip, remove}
 use Rattle.mc_base.specs.Causes.{Rose}
 use Rattle.mc_base.specs.Told.{Told}
@@ -68,7 +69,8 @@ module _ {K D : Type 0} (k : Members K D) where
     pub goes : KeeperGoes k (cond failed 1 0) 0 old new
     pub named : failed ≡ true → Rose (k.faults old) (k.faults new)
 
-module _ {K D : Type 0} {g : keeper.Ghosts K D} {h : counted.Ghosts K} {i : counted.Ghosts D} (k : Members K D) (down : List Link) (r : ℕ) where
+module _ {K D : Type 0} {g : keeper.Ghosts K D} {h : counted.Ghosts K} {i : counted.Ghosts D} (k : Members K D)
+    (down : List Link) (r : ℕ) where
   -- how the replica with this number is read, which is in this seat
   pub record IsSite (number : ℕ) (seat : Seat K D g h i) (site : Site K) : Type 0 where
     pub keeper_same : site.keeper.now ≡ keeper_of seat
@@ -96,7 +98,8 @@ module _ {K D : Type 0} {g : keeper.Ghosts K D} {h : counted.Ghosts K} {i : coun
 
   -- What a work or a repair makes of the replica r among others, and of the desks of these: `By` says what of the
   -- replica, by what is found among its peers.
-  pub record PullsAmong (desk_faults : D → ℕ) (By : Option Map → Type 0 → Place → Place → Type 0) (failed faulted : Bool)
+  pub record PullsAmong (desk_faults : D → ℕ) (By : Option Map → Type 0 → Place → Place → Type 0)
+      (failed faulted : Bool)
       (olds news : List (Seat K D g h i)) (desks left : List (List D)) : Type 0 where
     pub old : Seat K D g h i
     pub new : Seat K D g h i

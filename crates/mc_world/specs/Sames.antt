@@ -1,5 +1,6 @@
 -- How two replicas are compared, block by block.
-use Rattle.std.specs.Prelude.{◌≡◌, ◌≤◌, ◌⊎◌, ◌&&◌, ℕ, Bool, true, false, List, Option, Some, None, Result, Ok, Err, IfSome, slice_get, unwrap_or}
+use Rattle.std.specs.Prelude.{◌≡◌, ◌≤◌, ◌⊎◌, ◌&&◌, ℕ, Bool, true, false, List, Option, Some, None, Result, Ok, Err}
+use Rattle.std.specs.Prelude.{IfSome, slice_get, unwrap_or}
 use Rattle.std.specs.List.{AllZip, list_all}
 use Rattle.std.specs.Option.{option_and_then, option_map}
 use Rattle.mc_base.specs.Causes.{Rose}
@@ -73,7 +74,8 @@ module _ {K D : Type 0} {g : keeper.Ghosts K D} {h : counted.Ghosts K} {i : coun
       pub falls : Moved at mid news SeatFails
 
     -- what a comparison of two replicas leaves
-    abbrev pub Compares : {T : Type 0} → ℕ → ℕ → Result T CompareError → List (Seat K D g h i) → List (Seat K D g h i) → Type 0
+    abbrev pub Compares : {T : Type 0} → ℕ → ℕ → Result T CompareError → List (Seat K D g h i) →
+        List (Seat K D g h i) → Type 0
     Compares r other (Ok value) olds news = AllStay olds news
     Compares r other (Err TooMany) olds news = AllStay olds news
     Compares r other (Err (Fault at)) olds news = ((at ≡ r) ⊎ (at ≡ other)) × FailsAt at olds news

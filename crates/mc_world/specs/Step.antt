@@ -1,5 +1,6 @@
 -- What a command may do to a world, and what is answered: one relation for all commands.
-use Rattle.std.specs.Prelude.{◌≡◌, ◌≢◌, ◌⊎◌, ◌↔◌, ⊤, ℕ, ◌+◌, Bool, true, false, List, [], ◌∷◌, ◌++◌, filter, not, if◌then◌else◌, length, Option, Some, None, Result, Ok, Err, IfSome, slice_get}
+use Rattle.std.specs.Prelude.{◌≡◌, ◌≢◌, ◌⊎◌, ◌↔◌, ⊤, ℕ, ◌+◌, Bool, true, false, List, [], ◌∷◌, ◌++◌, filter, not}
+use Rattle.std.specs.Prelude.{if◌then◌else◌, length, Option, Some, None, Result, Ok, Err, IfSome, slice_get}
 use Rattle.std.specs.List.{list_any}
 use Rattle.std.specs.Option.{option_or}
 use Rattle.mc_base.specs.Told.{Told}
@@ -17,7 +18,8 @@ use Rattle.mc_drain.specs.declared.working.WorkError.TheVariants as broke
 use Rattle.mc_node.specs.Storms.{StormLeads}
 use Rattle.mc_node.specs.declared.storming.StormError.TheVariants as storm
 use Rattle.mc_script.specs.declared.command.Command.{Command}
-use Rattle.mc_script.specs.declared.command.Command.TheVariants.{Cast, Wire, Link as LinkOf, Same as SameOf, Step as StepOf, Work, Repair, Storm}
+use Rattle.mc_script.specs.declared.command.Command.TheVariants.{Cast, Wire, Link as LinkOf, Same as SameOf}
+use Rattle.mc_script.specs.declared.command.Command.TheVariants.{Step as StepOf, Work, Repair, Storm}
 use Rattle.mc_script.specs.declared.reply.Reply.{Reply}
 use Rattle.mc_script.specs.declared.reply.Reply.TheVariants.{Done, Message, Same, FaultKeeper, FaultPeer}
 use Rattle.mc_world.specs.declared.entry.LineEntry.{LineEntry}
@@ -25,7 +27,8 @@ use Rattle.mc_world.specs.declared.links.Link.{Link}
 use Rattle.mc_world.specs.Asks.{focus, is_named, is_there, may_fail}
 use Rattle.mc_world.specs.Effects.{AsksAt, DoneAt, Leaves, EventsOf, RefusedAt, RunOn, SameBatch, stop_reply}
 use Rattle.mc_world.specs.Works.{RepairsTo, WorksTo, budget_of, offered_by, repair_budget}
-use Rattle.mc_world.specs.Worlds.{Around, AtPlace, IfRuns, Moved, MovedAt, Place, WorldState, is_marked, joins, peer_row, peers_of, state_at}
+use Rattle.mc_world.specs.Worlds.{Around, AtPlace, IfRuns, Moved, MovedAt, Place, WorldState, is_marked, joins}
+use Rattle.mc_world.specs.Worlds.{peer_row, peers_of, state_at}
 
 -- `fault keeper` or `fault peer`
 abbrev pub is_fault : Reply → Bool
@@ -65,7 +68,8 @@ Asks w command = AsksOf w command (focus command)
 -- the links that are down, once that of two replicas is set
 abbrev pub with_link : List Link → ℕ → ℕ → Bool → List Link
 with_link down r other true = filter (λ link. not (joins r other link)) down
-with_link down r other false = if list_any (joins r other) down then down else down ++ record { first = r; second = other } ∷ []
+with_link down r other false =
+    if list_any (joins r other) down then down else down ++ record { first = r; second = other } ∷ []
 
 -- one message more, and its number
 pub record Sends (P : List ℕ → Type 0) (old : Around) (reply : Reply) (new : Around) : Type 0 where
@@ -178,13 +182,14 @@ Row w command named own desk reply w2 =
     ⊎ IsPeerFault w command desk reply w2
 
 -- a command leads from one world to another with this reply and this entry of the record
-pub record Step (w : WorldState) (command : Command) (entry : LineEntry) (reply : Reply) (w2 : WorldState) : Type 0 where
+pub record Step (w : WorldState) (command : Command) (entry : LineEntry) (reply : Reply) (w2 : WorldState)
+    : Type 0 where
   pub there : is_there w command ≡ true
   pub row : Row w command (λ r. is_named entry.keepers r ≡ true) (λ r. is_named entry.own r ≡ true)
       (λ r. is_named entry.desks r ≡ true) reply w2
 
--- what a want of memory leaves of the replica that a command works on: it runs on where it ran, and where the content is
--- told the call has left this
+-- what a want of memory leaves of the replica that a command works on: it runs on where it ran, and where the content
+-- is told the call has left this
 abbrev pub StillRuns : Option Running → Option Running → Type 0
 StillRuns None new = new ≡ None
 StillRuns (Some old) new = RunOn SameBatch (Some old) new

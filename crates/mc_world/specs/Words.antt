@@ -1,5 +1,6 @@
 -- The words of what is done at a replica and in a world, at a bound `K: Keeper`.
-use Rattle.std.specs.Prelude.{◌≡◌, ◌⊎◌, ⊤, ℕ, Bool, true, false, cond, List, [], ◌∷◌, None, Some, Result, Ok, Err, IfOk, IfErr, IfSome, IsErrOf}
+use Rattle.std.specs.Prelude.{◌≡◌, ◌⊎◌, ⊤, ℕ, Bool, true, false, cond, List, [], ◌∷◌, None, Some, Result, Ok, Err, IfOk}
+use Rattle.std.specs.Prelude.{IfErr, IfSome, IsErrOf}
 use Rattle.mc_base.specs.Causes.{Rose}
 use Rattle.mc_base.specs.declared.counted.Counted as counted
 use Rattle.mc_keep.specs.Calls.{Members}
@@ -16,7 +17,8 @@ use Rattle.mc_world.specs.declared.entry.LineEntry.{LineEntry}
 use Rattle.mc_world.specs.declared.seat.Seat.{Seat}
 use Rattle.mc_world.specs.declared.world.World.{World}
 use Rattle.mc_world.specs.Asks.{arms, is_there, may_fail, message_at}
-use Rattle.mc_world.specs.Keepers.{IsPaid, Tally, WorldGoes, armed_at, armed_in, counted_in, desk_count, is_calm, is_calm_keeper, keeper_of}
+use Rattle.mc_world.specs.Keepers.{IsPaid, Tally, WorldGoes, armed_at, armed_in, counted_in, desk_count, is_calm}
+use Rattle.mc_world.specs.Keepers.{is_calm_keeper, keeper_of}
 use Rattle.mc_world.specs.Effects.{AsksAt, DoneAt, RefusedAt}
 use Rattle.mc_world.specs.Record.{NamesNone, NamesRisen, Recorded, RoseIn}
 use Rattle.mc_world.specs.Step.{CutShort, LeavesStep, Row, ShortAt, Step, answers_fault, is_fault}
@@ -74,8 +76,8 @@ module _ {K D : Type 0} {g : keeper.Ghosts K D} {h : counted.Ghosts K} {i : coun
   SeatEarly w command x y reply = EarlyRow w command (Rose (k.faults (keeper_of x)) (k.faults (keeper_of y)))
       (Rose (k.own (keeper_of x)) (k.own (keeper_of y))) (place x) (place y) reply
 
-  -- What is done at the replica that a command works on, over each world that it may stand in; and what a want of memory
-  -- leaves.
+  -- What is done at the replica that a command works on, over each world that it may stand in; and what a want of
+  -- memory leaves.
   pub record SeatActsIn (Where : WorldState → Type 0) (command : Command) (result : Result Reply ActError)
       (old new : Seat K D g h i) : Type 0 where
     pub row : (w : WorldState) → Where w → IfOk result (SeatRow w command old new)
@@ -126,7 +128,8 @@ module _ {K D : Type 0} {g : keeper.Ghosts K D} {h : counted.Ghosts K} {i : coun
     pub record Names (entry : LineEntry) (old new : World K D g h i) : Type 0 where
       pub keepers : NamesRisen (λ (seat : Seat K D g h i). k.faults (keeper_of seat)) old.seats.items new.seats.items
           entry.keepers
-      pub owns : NamesRisen (λ (seat : Seat K D g h i). k.own (keeper_of seat)) old.seats.items new.seats.items entry.own
+      pub owns : NamesRisen
+          (λ (seat : Seat K D g h i). k.own (keeper_of seat)) old.seats.items new.seats.items entry.own
       pub desks : NamesRisen (desk_count desk_faults) old.desks.items new.desks.items entry.desks
       pub calm : is_calm k desk_faults old ≡ true → NamesNone entry
 

@@ -1,5 +1,6 @@
 -- What a world stands for.
-use Rattle.std.specs.Prelude.{◌≡◌, ℕ, ◌+◌, ◌==◌, ◌&&◌, ◌||◌, not, Bool, true, false, List, [], ◌∷◌, map, Option, Some, None, IfSome, slice_get, set, unwrap_or}
+use Rattle.std.specs.Prelude.{◌≡◌, ℕ, ◌+◌, ◌==◌, ◌&&◌, ◌||◌, not, Bool, true, false, List, [], ◌∷◌, map, Option, Some}
+use Rattle.std.specs.Prelude.{None, IfSome, slice_get, set, unwrap_or}
 use Rattle.std.specs.List.{list_any}
 use Rattle.mc_base.specs.declared.counted.Counted as counted
 use Rattle.mc_model.specs.Kept.{Kept}
@@ -16,8 +17,8 @@ use Rattle.mc_world.specs.declared.seat.Held.TheVariants.{Up, Down}
 use Rattle.mc_world.specs.declared.seat.Seat.{Seat}
 use Rattle.mc_world.specs.declared.world.World.{World}
 
--- one replica of a world: what its keeper tells, where it tells; the fuse of its keeper; what is lost at a stop, where it
--- runs; and the offers that are planted at it
+-- one replica of a world: what its keeper tells, where it tells; the fuse of its keeper; what is lost at a stop, where
+-- it runs; and the offers that are planted at it
 pub record Place : Type 0 where
   pub content : Option Kept
   pub fuse : Option Fuse
@@ -67,7 +68,8 @@ is_linked down r other = not (r == other) && not (list_any (joins r other) down)
 -- of the replicas from this number on, whether each is one that r fetches from: it runs, and its link to r is up
 abbrev pub peer_row : List Link → ℕ → ℕ → List Place → List Bool
 peer_row down r number [] = []
-peer_row down r number (place ∷ places) = (is_linked down r number && is_up place.run) ∷ peer_row down r (number + 1) places
+peer_row down r number (place ∷ places) =
+    (is_linked down r number && is_up place.run) ∷ peer_row down r (number + 1) places
 
 -- whether the one at this place is marked
 abbrev pub is_marked : List Bool → ℕ → Bool
@@ -93,7 +95,8 @@ place_with told fuse planted (Up replica) = record {
   run = run_of replica.stopped (running_of replica);
   planted = planted;
 }
-place_with told fuse planted (Down idle) = record { content = told idle.keeper; fuse = fuse idle.keeper; run = None; planted = planted }
+place_with told fuse planted (Down idle) =
+    record { content = told idle.keeper; fuse = fuse idle.keeper; run = None; planted = planted }
 
 abbrev pub place_of : {K D : Type 0} {g : keeper.Ghosts K D} {h : counted.Ghosts K} {i : counted.Ghosts D}
     → (K → Option Kept) → (K → Option Fuse) → Seat K D g h i → Place

@@ -8,7 +8,11 @@ use Rattle.mc_write.specs.declared.pair.Pair.{Pair as Own}
 use Rattle.mc_write.specs.Pairs.{seen}
 
 pub pair_total : IsTotalOrder pair_cmp
-pair_total = then_total (then_total (on_total (λ (pair : Pair). pair.priority) nat_cmp_total) (on_total (λ (pair : Pair). pair.value) nat_list_cmp_total)) (on_total (λ (pair : Pair). pair.cid.0) nat_list_cmp_total)
+pair_total =
+    then_total
+    (then_total (on_total (λ (pair : Pair). pair.priority) nat_cmp_total)
+    (on_total (λ (pair : Pair). pair.value) nat_list_cmp_total)) (on_total
+    (λ (pair : Pair). pair.cid.0) nat_list_cmp_total)
 
 abbrev pub own_cmp : Own → Own → Ordering
 own_cmp = on seen pair_cmp

@@ -4,7 +4,8 @@ use Rattle.mc_keep.specs.Causes.{Kind, Refusal, Fault, Shortage, fails}
 use Rattle.mc_keep.specs.declared.error.KeepError.{KeepError}
 use Rattle.mc_keep.specs.declared.error.KeepError.TheVariants.{Failed, Memory}
 use Rattle.mc_write.specs.declared.error.WriteError.{WriteError}
-use Rattle.mc_write.specs.declared.error.WriteError.TheVariants.{BlockTooLarge, PriorityFull, Failed as KeeperFailed, Memory as NoMemory}
+use Rattle.mc_write.specs.declared.error.WriteError.TheVariants.{BlockTooLarge, PriorityFull, Failed as KeeperFailed}
+use Rattle.mc_write.specs.declared.error.WriteError.TheVariants.{Memory as NoMemory}
 
 -- a keeper's refusal, as a delete's
 abbrev pub IsKeepers : KeepError → WriteError → Type 0
