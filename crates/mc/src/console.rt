@@ -1,5 +1,5 @@
-//! The script of standard input, and the replies on standard output. Replies are gathered, and written before more of the
-//! script is read: a long script costs few writes, and whoever sends a line and waits has the reply to it.
+//! The script of standard input, and the replies on standard output. Replies are gathered, and written before more of
+//! the script is read: a long script costs few writes, and whoever sends a line and waits has the reply to it.
 ghost use Rattle.std.specs.Prelude.{◌<◌, length, IfOk};
 ghost use Rattle.std.specs.Io.{WritesAtMost};
 
@@ -51,8 +51,8 @@ impl<W: Write + Drop> Gathered<W> {
     }
 }
 
-/// The script that a reader gives. What is gathered is written before each read. It tells nothing of the reader's bytes,
-/// and counts the reader's errors.
+/// The script that a reader gives. What is gathered is written before each read. It tells nothing of the reader's
+/// bytes, and counts the reader's errors.
 #[derive(Drop)]
 pub(crate) struct Script<'a, R, W: Write + Drop> {
     input: R,

@@ -1,5 +1,6 @@
 // What the words behind the program's name ask for.
-ghost use Rattle.std.specs.Prelude.{◌≡◌, ◌≢◌, ◌≤◌, ◌&&◌, IfOk, IfSome, IfErr, IsErrOf, None, Some, map, not, string_bytes};
+ghost use Rattle.std.specs.Prelude.{◌≡◌, ◌≢◌, ◌≤◌, ◌&&◌, IfOk, IfSome, IfErr, IsErrOf, None, Some, map, not};
+ghost use Rattle.std.specs.Prelude.{string_bytes};
 ghost use Rattle.std.specs.Option.{is_some};
 ghost use Rattle.mc_app.specs.CommandLine.{
   IsInRange,

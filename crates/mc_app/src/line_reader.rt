@@ -1,5 +1,6 @@
 // The lines of a source, within the limits of a line and of a script.
-ghost use Rattle.std.specs.Prelude.{◌≡◌, ◌≤◌, ◌+◌, ◌-◌, ◌<◌, ◌++◌, [], ◌∷◌, true, false, take, drop, IfOk, IfSome, IfNone, IsErrOf, length, ⊤};
+ghost use Rattle.std.specs.Prelude.{◌≡◌, ◌≤◌, ◌+◌, ◌-◌, ◌<◌, ◌++◌, [], ◌∷◌, true, false, take, drop, IfOk, IfSome};
+ghost use Rattle.std.specs.Prelude.{IfNone, IsErrOf, length, ⊤};
 ghost use Rattle.mc_base.specs.Told.{Told};
 ghost use Rattle.mc_base.specs.Causes.{Counts};
 ghost use Rattle.mc_app.specs.Lines.{IsTooLong, NoFeed, line_max, script_max};

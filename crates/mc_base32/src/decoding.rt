@@ -1,6 +1,8 @@
 // From text to bytes.
-ghost use Rattle.std.specs.Prelude.{◌≡◌, ◌+◌, ◌^◌, ◌<◌, ◌≤◌, ◌++◌, ℕ, length, map, None, Some, Ok, Err, is_some, IfSome, IfOk, IfErr, OnOk};
-ghost use Rattle.mc_base32.specs.Reading.{IsBadChar, IsFaultOf, after, decode32, decode32_from, digit_value, first_bad, is_digit32, number32};
+ghost use Rattle.std.specs.Prelude.{◌≡◌, ◌+◌, ◌^◌, ◌<◌, ◌≤◌, ◌++◌, ℕ, length, map, None, Some, Ok, Err, is_some};
+ghost use Rattle.std.specs.Prelude.{IfSome, IfOk, IfErr, OnOk};
+ghost use Rattle.mc_base32.specs.Reading.{IsBadChar, IsFaultOf, after, decode32, decode32_from, digit_value, first_bad};
+ghost use Rattle.mc_base32.specs.Reading.{is_digit32, number32};
 
 use crate::fault::{Base32Error, Base32Fault};
 use mc_base::{Bytes, Case};

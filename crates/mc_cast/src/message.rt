@@ -1,5 +1,6 @@
 // Broadcasts, read and written.
-ghost use Rattle.std.specs.Prelude.{◌≡◌, ◌≤◌, ◌<◌, ◌^◌, ◌++◌, ◌∷◌, [], length, map, List as ListOf, ℕ, Option as OptionOf, None, Some, IfOk, IfErr, OnOk, option_map};
+ghost use Rattle.std.specs.Prelude.{◌≡◌, ◌≤◌, ◌<◌, ◌^◌, ◌++◌, ◌∷◌, [], length, map, List as ListOf, ℕ};
+ghost use Rattle.std.specs.Prelude.{Option as OptionOf, None, Some, IfOk, IfErr, OnOk, option_map};
 ghost use Rattle.mc_base.specs.Wire as wire;
 ghost use Rattle.mc_wire.specs.Named.{FieldAt, field_at};
 ghost use Rattle.mc_cast.specs.Cast as cast;

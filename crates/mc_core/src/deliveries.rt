@@ -1,5 +1,6 @@
 // Deliveries: what was found for a job comes in.
-ghost use Rattle.std.specs.Prelude.{◌≡◌, ◌≤◌, ◌++◌, ◌∷◌, [], true, false, None, Some, Ok, IfOk, IfErr, IfSome, OnOk, cond, length, not};
+ghost use Rattle.std.specs.Prelude.{◌≡◌, ◌≤◌, ◌++◌, ◌∷◌, [], true, false, None, Some, Ok, IfOk, IfErr, IfSome, OnOk};
+ghost use Rattle.std.specs.Prelude.{cond, length, not};
 ghost use Rattle.mc_base.specs.Cid.{digest_of};
 ghost use Rattle.mc_keep.specs.Calls.{Reads};
 ghost use Rattle.mc_keep.specs.Causes.{IfTold};
@@ -13,9 +14,11 @@ ghost use Rattle.mc_queue.specs.Views.{shown, spare};
 ghost use Rattle.mc_core.specs.Exact.{RestSame, front_of, stop_front};
 ghost use Rattle.mc_fetch.specs.declared.job.Delivered.{Delivered};
 ghost use Rattle.mc_core.specs.Deletes.{IsOutside};
-ghost use Rattle.mc_core.specs.Jobs.{DeliverEvents, DeliverShort, DeliverWants, IsTaken, TakesArrival, found_in, is_known};
+ghost use Rattle.mc_core.specs.Jobs.{DeliverEvents, DeliverShort, DeliverWants, IsTaken, TakesArrival, found_in};
+ghost use Rattle.mc_core.specs.Jobs.{is_known};
 ghost use Rattle.mc_model.specs.Events.{Process};
-ghost use Rattle.mc_core.specs.Uptakes.{IsNoOther, IsShaped, IsSomeUptake, uptake_events, uptake_rows, store_change, with_store};
+ghost use Rattle.mc_core.specs.Uptakes.{IsNoOther, IsShaped, IsSomeUptake, uptake_events, uptake_rows, store_change};
+ghost use Rattle.mc_core.specs.Uptakes.{with_store};
 ghost use Rattle.mc_core.specs.Reads.{read_refusal};
 ghost use Rattle.mc_core.specs.Refusals.{Is, is_fault};
 ghost use Rattle.mc_core.specs.Words.{Acts, Becomes, Continues};

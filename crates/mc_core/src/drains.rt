@@ -22,7 +22,8 @@ use mc_model::{deliveries_are_drains, found_drains_go_on, recall_gives_back};
 /// the bytes which were handed over are those that are found for the block.
 pub fn calls_on_jobs_drain()
     ensures next { (bytes_of : FoundBytes) (before now : ℕ) (result : Result (Option Job) CoreError)
-        (s new : ReplicaState) → Call (Is (read_refusal s)) (NextEvents s) (NextShort s) (Rose before now) result s new →
+        (s new : ReplicaState) →
+        Call (Is (read_refusal s)) (NextEvents s) (NextShort s) (Rose before now) result s new →
         CallDrains bytes_of result s new }
     ensures delivered { (bytes_of : FoundBytes) (cid : Cid) (found : Option (List ℕ)) (before now : ℕ)
         (result : Result Delivered CoreError) (s new : ReplicaState) → IsFoundFor bytes_of cid found →

@@ -11,7 +11,8 @@ ghost use Rattle.mc_write.specs.Pairs.{row_cids};
 ghost use Rattle.mc_core.specs.Exact.{front_of};
 ghost use Rattle.mc_core.specs.Uptakes.{IsShaped, uptake_rows};
 ghost use Rattle.mc_core.specs.Puts.{IsPlanned, next_links};
-ghost use Rattle.mc_core.specs.Refusals.{Is, IsDue, clash_refusal, is_fault, made_refusal, other_refusal, priority_refusal, size_refusal};
+ghost use Rattle.mc_core.specs.Refusals.{Is, IsDue, clash_refusal, is_fault, made_refusal, other_refusal};
+ghost use Rattle.mc_core.specs.Refusals.{priority_refusal, size_refusal};
 
 use crate::CoreError;
 use crate::uptake::{Uptake, uptake_of};

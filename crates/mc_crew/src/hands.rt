@@ -1,5 +1,6 @@
 // The workers of a round: their seats are split from one, and come back to it.
-ghost use Rattle.std.specs.Prelude.{◌≡◌, ◌≤◌, ◌<◌, ◌+◌, ◌^◌, ◌||◌, ◌++◌, ◌∷◌, [], All, length, map, None, true, false, vec_len, vec_capacity};
+ghost use Rattle.std.specs.Prelude.{◌≡◌, ◌≤◌, ◌<◌, ◌+◌, ◌^◌, ◌||◌, ◌++◌, ◌∷◌, [], All, length, map, None, true, false};
+ghost use Rattle.std.specs.Prelude.{vec_len, vec_capacity};
 ghost use Rattle.std.specs.List.{AllZip, list_any};
 ghost use Rattle.mc_fetch.specs.Calls.{Asks};
 ghost use Rattle.mc_fetch.specs.Fits.{FetchFits};

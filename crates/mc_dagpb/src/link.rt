@@ -1,5 +1,6 @@
 // The fields of a link: Hash (1), Name (2) and Tsize (3), in ascending order.
-ghost use Rattle.std.specs.Prelude.{◌≡◌, ◌≤◌, ◌↔◌, [], length, drop, Ok, Err, None, Some, IfOk, IfSome, IfErr, IfNone, if◌then◌else◌};
+ghost use Rattle.std.specs.Prelude.{◌≡◌, ◌≤◌, ◌↔◌, [], length, drop, Ok, Err, None, Some, IfOk, IfSome, IfErr, IfNone};
+ghost use Rattle.std.specs.Prelude.{if◌then◌else◌};
 ghost use Rattle.std.specs.Option.{option_map};
 ghost use Rattle.std.specs.Str.{is_utf8};
 ghost use Rattle.mc_base.specs.NodeRead.{link_key_fault, link_front_fault, link_fault, name_fault, link_of, part_in};

@@ -1,5 +1,6 @@
 // The fields of a node: Data (1), and links (2).
-ghost use Rattle.std.specs.Prelude.{◌≡◌, ◌≤◌, ◌-◌, ◌⊎◌, List, ℕ, [], length, Ok, Err, None, Some, IfOk, IfSome, IfErr, IfNone};
+ghost use Rattle.std.specs.Prelude.{◌≡◌, ◌≤◌, ◌-◌, ◌⊎◌, List, ℕ, [], length, Ok, Err, None, Some, IfOk, IfSome, IfErr};
+ghost use Rattle.std.specs.Prelude.{IfNone};
 ghost use Rattle.mc_base.specs.NodeRead.{node_fault, body_fault, part_in};
 ghost use Rattle.mc_base.specs.Wire.{wire_type};
 ghost use Rattle.mc_wire.specs.Named.{fronts_at, content_at, field_at, EndsAt, FieldAt};

@@ -1,6 +1,7 @@
 // Writing a delta.
 ghost use Rattle.std.specs.Prelude.{◌≡◌, ◌≤◌, ◌<◌, ◌++◌, ◌+◌, ◌-◌, ◌^◌, ℕ, List, [], length, IfOk, OnOk};
-ghost use Rattle.mc_model.specs.DeltaText.{delta_bytes, element_bytes, tomb_bytes, entry_bytes, some_part, priority_bytes};
+ghost use Rattle.mc_model.specs.DeltaText.{delta_bytes, element_bytes, tomb_bytes, entry_bytes, some_part};
+ghost use Rattle.mc_model.specs.DeltaText.{priority_bytes};
 ghost use Rattle.std.specs.List.{flat_map};
 ghost use Rattle.mc_base.specs.Wire.{part_field_bytes};
 

@@ -7,7 +7,8 @@ ghost use Rattle.mc_core.specs.Exact.{RestSame};
 ghost use Rattle.mc_core.specs.Replica.{replica_state};
 ghost use Rattle.mc_core.specs.Words.{Becomes, Continues};
 ghost use Rattle.mc_drain.specs.Leads.{Always, Leads, count, up_to};
-ghost use Rattle.mc_drain.specs.Words.{AllGood, DrainLeads, Fetched, NothingStuck, is_keeper, is_peer, keeper_failed, peer_failed};
+ghost use Rattle.mc_drain.specs.Words.{AllGood, DrainLeads, Fetched, NothingStuck, is_keeper, is_peer, keeper_failed};
+ghost use Rattle.mc_drain.specs.Words.{peer_failed};
 
 use crate::DrainEnd;
 use crate::jobs::{recall, requeue};

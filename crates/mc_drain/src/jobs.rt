@@ -12,7 +12,8 @@ ghost use Rattle.mc_core.specs.Jobs.{WantsAfter, found_in, is_known};
 ghost use Rattle.mc_core.specs.Replica.{replica_state};
 ghost use Rattle.mc_core.specs.Words.{Becomes, Continues};
 ghost use Rattle.mc_drain.specs.Leads.{Always, Leads, LeadsBy, all_processes, count};
-ghost use Rattle.mc_drain.specs.Words.{Begins, FoundFor, TakenFor, IsBroken, IsNoBlock, begin_failed, is_keeper, keeper_failed};
+ghost use Rattle.mc_drain.specs.Words.{Begins, FoundFor, TakenFor, IsBroken, IsNoBlock, begin_failed, is_keeper};
+ghost use Rattle.mc_drain.specs.Words.{keeper_failed};
 
 use crate::DrainEnd;
 use crate::end::{is_fault, is_keeper};

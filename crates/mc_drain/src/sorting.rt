@@ -9,7 +9,8 @@ ghost use Rattle.mc_core.specs.Jobs.{found_in};
 ghost use Rattle.mc_core.specs.Replica.{replica_state};
 ghost use Rattle.mc_core.specs.Words.{Becomes, Continues};
 ghost use Rattle.mc_drain.specs.Leads.{Leads, count};
-ghost use Rattle.mc_drain.specs.Words.{AllGood, Fetched, FetchedFor, FoundFor, IsBroken, IsGoodness, Sorts, SortsFirst, keeper_failed, peer_failed};
+ghost use Rattle.mc_drain.specs.Words.{AllGood, Fetched, FetchedFor, FoundFor, IsBroken, IsGoodness, Sorts, SortsFirst};
+ghost use Rattle.mc_drain.specs.Words.{keeper_failed, peer_failed};
 
 use crate::DrainEnd;
 use crate::end::end_by;

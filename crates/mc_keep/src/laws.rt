@@ -1,5 +1,6 @@
 // What a keeper's commits are as events of a replica, and when a fuse fires.
-ghost use Rattle.std.specs.Prelude.{◌≡◌, ◌≢◌, ℕ, ◌+◌, ◌<◌, ◌≤◌, Bool, false, true, List, [], map, Option, None, Some, unwrap_or, ◌++◌};
+ghost use Rattle.std.specs.Prelude.{◌≡◌, ◌≢◌, ℕ, ◌+◌, ◌<◌, ◌≤◌, Bool, false, true, List, [], map, Option, None, Some};
+ghost use Rattle.std.specs.Prelude.{unwrap_or, ◌++◌};
 ghost use Rattle.std.specs.List.{list_all};
 ghost use Rattle.std.specs.declared.cmp.Ordering.TheVariants.{Equal};
 ghost use Rattle.mc_model.specs.declared.block.Block.{Block};

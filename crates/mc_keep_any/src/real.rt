@@ -68,7 +68,8 @@ impl Keepers for RealKeepers {
     ghost lost = { λ keepers. keepers.lost };
 
     ghost takes = { λ old keeper desks new. new ≡ record old {
-      lost = min (old.lost + ⟦<AnyKeeper<MemKeeper, FileKeeper> as Counted>⟧.faults keeper + sum_by ⟦<AnyDesk<MemDesk, SqlDesk> as Counted>⟧.faults desks) (2 ^ 64 - 1);
+      lost = min (old.lost + ⟦<AnyKeeper<MemKeeper, FileKeeper> as Counted>⟧.faults keeper
+          + sum_by ⟦<AnyDesk<MemDesk, SqlDesk> as Counted>⟧.faults desks) (2 ^ 64 - 1);
     } };
 
     fn make(
@@ -96,10 +97,12 @@ impl Keepers for RealKeepers {
         desks: List<AnyDesk<MemDesk, SqlDesk>>,
     )
         ensures taken { self.new ≡ record self.old {
-          lost = min (self.old.lost + ⟦<AnyKeeper<MemKeeper, FileKeeper> as Counted>⟧.faults keeper + sum_by ⟦<AnyDesk<MemDesk, SqlDesk> as Counted>⟧.faults desks) (2 ^ 64 - 1);
+          lost = min (self.old.lost + ⟦<AnyKeeper<MemKeeper, FileKeeper> as Counted>⟧.faults keeper
+              + sum_by ⟦<AnyDesk<MemDesk, SqlDesk> as Counted>⟧.faults desks) (2 ^ 64 - 1);
         } }
         ensures lost { self.new.lost
-            ≡ min (self.old.lost + ⟦<AnyKeeper<MemKeeper, FileKeeper> as Counted>⟧.faults keeper + sum_by ⟦<AnyDesk<MemDesk, SqlDesk> as Counted>⟧.faults desks) (2 ^ 64 - 1) }
+            ≡ min (self.old.lost + ⟦<AnyKeeper<MemKeeper, FileKeeper> as Counted>⟧.faults keeper
+            + sum_by ⟦<AnyDesk<MemDesk, SqlDesk> as Counted>⟧.faults desks) (2 ^ 64 - 1) }
         ensures starts_same { (plan : KeeperPlan) (index : ℕ) → starts_of plan ≡ starts_of plan }
         ensures quiet_same { (plan : KeeperPlan) → is_memory plan ≡ is_memory plan }
         ensures planned { never_told ≡ never_told }

@@ -1,5 +1,6 @@
 // Fetches over the peers, one after another, each with a desk of its own of every peer.
-ghost use Rattle.std.specs.Prelude.{ℕ, ◌≡◌, ◌≤◌, ◌<◌, ◌+◌, ◌++◌, ◌∷◌, [], length, vec_len, vec_capacity, IfOk, OnOk, OnErr};
+ghost use Rattle.std.specs.Prelude.{ℕ, ◌≡◌, ◌≤◌, ◌<◌, ◌+◌, ◌++◌, ◌∷◌, [], length, vec_len, vec_capacity, IfOk, OnOk};
+ghost use Rattle.std.specs.Prelude.{OnErr};
 ghost use Rattle.mc_fetch.specs.Views.{views_of};
 ghost use Rattle.mc_lend.specs.Lending.{AreViewsOf, desks_lent, desks_of, marks_of, peers_in, with_all, with_firsts};
 ghost use Rattle.mc_lend.specs.Rows.{AllViewed, Holds, LendsAll, lists_of};

@@ -67,7 +67,8 @@ pub fn take_back<'a, K: Keeper>(
     requires viewed { AllViewed sites.now lent.fetches }
     requires many { length desks.old ≡ length lent.rows.items }
     requires empty { list_all is_empty_list desks.old ≡ true }
-    ensures { desks.new ≡ with_all (marks_of sites.now) (desks_lent lent.entry.fetches) (lists_of lent.entry.rows.items) }
+    ensures { desks.new
+        ≡ with_all (marks_of sites.now) (desks_lent lent.entry.fetches) (lists_of lent.entry.rows.items) }
 {
     let Lent { fetches, rows } = lent;
     give_back(sites, desks, rows, fetches.into_vec());

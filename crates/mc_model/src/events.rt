@@ -4,7 +4,8 @@ ghost use Rattle.mc_base.specs.declared.cid.Cid.{Cid};
 ghost use Rattle.mc_model.specs.Graph.{Vertex, has, in_graph, links_in, no_gaps, heads_in, HasNoCycle, IsReached};
 ghost use Rattle.mc_model.specs.Wanted.{IsOnce, wanted, start_first, recall};
 ghost use Rattle.mc_model.specs.State.{Durable, Running, State, nothing_durable, IsSound, IsWhole, wanted_in};
-ghost use Rattle.mc_model.specs.Events.{Event, MayCome, MayComeAll, StaysSound, happens, after, is_commit, failed, Goes, GoesOn};
+ghost use Rattle.mc_model.specs.Events.{Event, MayCome, MayComeAll, StaysSound, happens, after, is_commit, failed};
+ghost use Rattle.mc_model.specs.Events.{Goes, GoesOn};
 ghost use Rattle.mc_model.specs.Offer.{is_good, block_of};
 ghost use Rattle.mc_model.specs.Found.{Offers, Nothing, Good, found_bytes, found_in, is_found, found_links};
 ghost use Rattle.mc_model.specs.Drain.{IsAdded, IsClosed, DrainsAll, IsDrained, IsClosure, IsSoFar, RunFits, IsEmptied};
@@ -81,9 +82,11 @@ pub fn drain_is_closed()
 /// A start of a job, where something waits, and a recall of all that is in flight are events.
 pub fn queue_moves_are_events()
     ensures start { (durable : Durable) (run : Running) →
-        Goes (record { durable = durable; run = Some run }) (record { durable = durable; run = Some (record run { queue = start_first run.queue run.queue.waiting }) }) }
+        Goes (record { durable = durable; run = Some run })
+        (record { durable = durable; run = Some (record run { queue = start_first run.queue run.queue.waiting }) }) }
     ensures recall { (durable : Durable) (run : Running) → IsOnce durable.order run.queue →
-        Goes (record { durable = durable; run = Some run }) (record { durable = durable; run = Some (record run { queue = recall run.queue }) }) }
+        Goes (record { durable = durable; run = Some run })
+        (record { durable = durable; run = Some (record run { queue = recall run.queue }) }) }
 {}
 
 /// What the heads reach is the least set that holds them and, with each block, its links within the graph.

@@ -1,5 +1,6 @@
 // The writers of a storm: their seats are split from one, and come back to it.
-ghost use Rattle.std.specs.Prelude.{◌≡◌, ◌≤◌, ◌<◌, ◌+◌, ◌^◌, [], ◌∷◌, ◌++◌, ℕ, All, length, map, is_some, slice_index_or, true, vec_len, vec_capacity};
+ghost use Rattle.std.specs.Prelude.{◌≡◌, ◌≤◌, ◌<◌, ◌+◌, ◌^◌, [], ◌∷◌, ◌++◌, ℕ, All, length, map, is_some};
+ghost use Rattle.std.specs.Prelude.{slice_index_or, true, vec_len, vec_capacity};
 ghost use Rattle.mc_turn.specs.Lists.{Begins, places, total};
 ghost use Rattle.mc_turn.specs.Seats.{IsSeatOf};
 ghost use Rattle.mc_node.specs.Crews.{HasStormed, IsReady};

@@ -1,5 +1,6 @@
 // The moves of the wanted set, each as one function of its four lists.
-ghost use Rattle.std.specs.Prelude.{◌≡◌, ◌≤◌, ◌<◌, ◌+◌, ◌-◌, [], true, false, Some, None, IfSome, IfNone, not, ◌||◌, cond, length, is_some};
+ghost use Rattle.std.specs.Prelude.{◌≡◌, ◌≤◌, ◌<◌, ◌+◌, ◌-◌, [], true, false, Some, None, IfSome, IfNone, not, ◌||◌};
+ghost use Rattle.std.specs.Prelude.{cond, length, is_some};
 ghost use Rattle.indexmap.specs.IndexMap.{get};
 ghost use Rattle.mc_model.specs.Front.{same_cid};
 ghost use Rattle.mc_model.specs.Graph.{has};
@@ -33,7 +34,8 @@ pub(crate) fn shift(store: &mut Store, cid: Cid, from: Part, to: Part, damage: u
     requires fits { Fits store.old }
     requires apart { same_part from to ≡ false }
     ensures fits { Fits store.new }
-    ensures shown { shown_in store.new ≡ cond (is_in from (get same_cid store.old.marks cid)) (moved (Some to) (shown_in store.old) cid damage) (shown_in store.old) }
+    ensures shown { shown_in store.new ≡ cond (is_in from (get same_cid store.old.marks cid))
+        (moved (Some to) (shown_in store.old) cid damage) (shown_in store.old) }
     ensures room { store.new.room ≡ store.old.room }
 {
     if !is_within(store, from, &cid) {

@@ -1,10 +1,12 @@
 // The tickets of one part, from the front to the back, with those that count no more among them.
-ghost use Rattle.std.specs.Prelude.{◌≡◌, ◌≤◌, ◌<◌, ◌+◌, ◌-◌, ◌^◌, ◌++◌, ◌∷◌, [], ℕ, true, false, Some, cond, drop, length, OnOk, IfSome, IfNone, filter, nat_lt, ◌||◌};
+ghost use Rattle.std.specs.Prelude.{◌≡◌, ◌≤◌, ◌<◌, ◌+◌, ◌-◌, ◌^◌, ◌++◌, ◌∷◌, [], ℕ, true, false, Some, cond, drop};
+ghost use Rattle.std.specs.Prelude.{length, OnOk, IfSome, IfNone, filter, nat_lt, ◌||◌};
 ghost use Rattle.std.specs.VecDeque.{deque_len, deque_capacity};
 ghost use Rattle.indexmap.specs.IndexMap.{get};
 ghost use Rattle.mc_base.specs.declared.cid.Cid.{Cid};
 ghost use Rattle.mc_model.specs.Front.{same_cid};
-ghost use Rattle.mc_queue.specs.Tickets.{is_live, live, is_in, is_taken, are_before, cids_in, front, first_of, goes_to, RingFits};
+ghost use Rattle.mc_queue.specs.Tickets.{is_live, live, is_in, is_taken, are_before, cids_in, front, first_of, goes_to};
+ghost use Rattle.mc_queue.specs.Tickets.{RingFits};
 ghost use Rattle.mc_queue.specs.Fits.{IsReady, RingTurned};
 
 use crate::marks::mark_of;

@@ -1,6 +1,8 @@
 // The words behind a command's name.
 ghost use Rattle.std.specs.Prelude.{◌≡◌, ◌≢◌, IfOk, IfErr, IfSome, IsErrOf, Some, None};
-ghost use Rattle.mc_script.specs.Arguments.{replica_words, key_words, value_words, range_words, hex_words, message_words, offer_words, link_words, pair_words, up_to_words, budget_words, work_words, storm_words};
+ghost use Rattle.mc_script.specs.Arguments.{replica_words, key_words, value_words, range_words, hex_words};
+ghost use Rattle.mc_script.specs.Arguments.{message_words, offer_words, link_words, pair_words, up_to_words};
+ghost use Rattle.mc_script.specs.Arguments.{budget_words, work_words, storm_words};
 ghost use Rattle.mc_script.specs.Limits.{IsUpTo, budget_max, thread_max, write_max};
 ghost use Rattle.mc_script.specs.Words.{texts_of};
 

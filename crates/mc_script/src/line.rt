@@ -3,7 +3,8 @@ ghost use Rattle.std.specs.Prelude.{◌≡◌, IfOk, IfSome, IsErrOf, Some, None
 ghost use Rattle.std.specs.List.{list_all};
 ghost use Rattle.mc_script.specs.Words.{words_of, texts_of, is_word};
 ghost use Rattle.mc_script.specs.Limits.{IsInLimits};
-ghost use Rattle.mc_script.specs.Line.{batch_by_name, command_by_name, command_of_words, has_no_reply, crowd_by_name, line_of, line_of_text, message_by_name, run_by_name};
+ghost use Rattle.mc_script.specs.Line.{batch_by_name, command_by_name, command_of_words, has_no_reply, crowd_by_name};
+ghost use Rattle.mc_script.specs.Line.{line_of, line_of_text, message_by_name, run_by_name};
 ghost use Rattle.mc_script.specs.declared.line.LineError.TheVariants.{Memory};
 
 use crate::Command;

@@ -1,7 +1,8 @@
 // The lines of a reply. A refusal leaves the bytes that are written to as they were.
 ghost use Rattle.std.specs.Prelude.{◌≡◌, ◌++◌, IfOk, OnOk, OnErr, string_bytes};
 ghost use Rattle.std.specs.List.{flat_map};
-ghost use Rattle.mc_script.specs.ReplyText.{clear_or_set, count_words, hex_text, joined, line, mark_words, number_line, pair_line, state_text, stormed_text, worked_text, yes_or_no};
+ghost use Rattle.mc_script.specs.ReplyText.{clear_or_set, count_words, hex_text, joined, line, mark_words, number_line};
+ghost use Rattle.mc_script.specs.ReplyText.{pair_line, state_text, stormed_text, worked_text, yes_or_no};
 ghost use Rattle.mc_script.specs.Words.{text_of};
 
 use itoa::Buffer;

@@ -1,6 +1,7 @@
 // What holds of the definitions, whatever is read or written.
 ghost use Rattle.std.specs.Prelude.{◌≡◌, ◌≤◌, ◌<◌, ◌^◌, ℕ, List, ◌++◌, length, take, Ok, Some};
-ghost use Rattle.mc_base.specs.Wire.{IsVarint, Fields, Field, IsPiece, Varint, Part, varint_bytes, varint_field_bytes, part_field_bytes};
+ghost use Rattle.mc_base.specs.Wire.{IsVarint, Fields, Field, IsPiece, Varint, Part, varint_bytes, varint_field_bytes};
+ghost use Rattle.mc_base.specs.Wire.{part_field_bytes};
 ghost use Rattle.mc_base.specs.WireRead.{front_varint, fields_of};
 
 /// A varint by its bytes and value is the one that is read at the front of a text.

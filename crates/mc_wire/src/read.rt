@@ -1,7 +1,8 @@
 // Reading fields, from offset to offset.
 ghost use Rattle.std.specs.Prelude.{◌≡◌, ◌≤◌, ◌<◌, ◌+◌, ◌↔◌, [], length, drop, Ok, Err, None, IfOk, IfSome, IfErr};
 ghost use Rattle.mc_base.specs.WireRead.{front_varint, front_content};
-ghost use Rattle.mc_wire.specs.Named.{KeyAt, ContentAt, FieldAt, FaultAt, KeyFaultAt, fronts_at, FieldOf, FaultOf, fault_named, reading};
+ghost use Rattle.mc_wire.specs.Named.{KeyAt, ContentAt, FieldAt, FaultAt, KeyFaultAt, fronts_at, FieldOf, FaultOf};
+ghost use Rattle.mc_wire.specs.Named.{fault_named, reading};
 
 use crate::varint::read_varint;
 use crate::{Content, Field, Key, WireFault, WireFaultAt};

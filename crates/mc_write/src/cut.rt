@@ -1,5 +1,6 @@
 // The deltas into which the tombstones of a delete are cut.
-ghost use Rattle.std.specs.Prelude.{◌≡◌, ◌+◌, ◌<◌, ◌≤◌, ◌++◌, ◌∷◌, ◌^◌, [], length, map, drop, true, false, IfOk, IfErr, OnOk};
+ghost use Rattle.std.specs.Prelude.{◌≡◌, ◌+◌, ◌<◌, ◌≤◌, ◌++◌, ◌∷◌, ◌^◌, [], length, map, drop, true, false, IfOk};
+ghost use Rattle.std.specs.Prelude.{IfErr, OnOk};
 ghost use Rattle.std.specs.Prelude as prelude;
 ghost use Rattle.mc_base.specs.declared.cid.Cid.{Cid as Link};
 ghost use Rattle.mc_model.specs.Cuts.{IsCuts, pair_tomb};

@@ -4,7 +4,8 @@ ghost use Rattle.mc_turn.specs.Lists.{Begins};
 ghost use Rattle.mc_turn.specs.Seats.{IsSeatOf};
 ghost use Rattle.mc_turn.specs.Views.{first_view, left_view, right_view, joined_view, AreApart, IsTaken};
 ghost use Rattle.mc_core.specs.Replica.{replica_state};
-ghost use Rattle.mc_node.specs.Entries.{IsRootLog, IsSealedOf, StaysOpen, StaysSealed, is_open, is_sealed_log, items, shown};
+ghost use Rattle.mc_node.specs.Entries.{IsRootLog, IsSealedOf, StaysOpen, StaysSealed, is_open, is_sealed_log, items};
+ghost use Rattle.mc_node.specs.Entries.{shown};
 ghost use Rattle.mc_node.specs.Seats.{knows};
 ghost use Rattle.mc_core.specs.Exact.{RestSame};
 ghost use Rattle.mc_core.specs.Words.{Becomes, Continues};
@@ -103,7 +104,8 @@ impl<K: Keeper, J: Naming> Node<Stored<K, J>> {
             × IsTied (record { walks = J.walks; most = J.most; found = J.found; kept = J.kept })
             (shown K.Keeper result) (items K.Keeper log) }
         ensures leads { (root : _) → IsSealedOf root (knows seat).seen → Becomes K.Keeper (λ rose s new.
-            WorkersLead (record { walks = J.walks; most = J.most; found = J.found; kept = J.kept }) result.stopped s new)
+            WorkersLead (record { walks = J.walks; most = J.most; found = J.found; kept = J.kept })
+            result.stopped s new)
             root result }
         ensures keeps { (root : _) → IsSealedOf root (knows seat).seen →
             Continues K.Keeper result.stopped root result }

@@ -1,7 +1,8 @@
 //! The calls of a turn.
 ghost use Rattle.std.specs.Prelude.{◌≡◌, ◌≢◌, ℕ, ◌<◌, ◌≤◌, List, [], ◌∷◌, ◌++◌, length, All, Some, IfOk, IfErr};
 ghost use Rattle.mc_turn.specs.Lists.{Begins};
-ghost use Rattle.mc_turn.specs.Views.{first_view, left_view, right_view, joined_view, noted_view, held_view, given_view, Extends, AreApart, KnowsPlaces, IsTaken};
+ghost use Rattle.mc_turn.specs.Views.{first_view, left_view, right_view, joined_view, noted_view, held_view};
+ghost use Rattle.mc_turn.specs.Views.{given_view, Extends, AreApart, KnowsPlaces, IsTaken};
 ghost use Rattle.mc_turn.specs.Seats.{view, IsSameSeat, IsSeatOf, IsIdle};
 
 use super::{Busy, Held, Refused, Seat, Turn};
