@@ -50,7 +50,20 @@ where
     let mut reader = open(alloc, second)?;
     writer.put(alloc, "/fruit/apple", b"red")?;
     reader.hear(alloc, writer.cast(alloc)?.as_slice())?;
+    pull(alloc, &mut reader, &mut writer, wait)?;
+    Ok(reader.get(alloc, "/fruit/apple")?)
+}
 
+// Fetches what the reader wants from the writer, and processes it.
+fn pull<K: Keeper + Drop, W: Wait>(
+    alloc: Global,
+    reader: &mut Replica<K>,
+    writer: &mut Replica<K>,
+    wait: &W,
+) -> Result<(), Failed>
+where
+    K::Desk: Drop,
+{
     let planted = Plants::new(alloc);
     let desk = writer.desk(alloc)?;
     let mut peers = Vec::with_capacity(alloc, 1)?;
@@ -60,9 +73,8 @@ where
         planted: &planted,
     });
     let mut fetch = PeerFetch::new(List::from_vec(peers));
-    work(alloc, &mut reader, &mut fetch, 100, wait)?;
-
-    Ok(reader.get(alloc, "/fruit/apple")?)
+    work(alloc, reader, &mut fetch, 100, wait)?;
+    Ok(())
 }
 
 // A replica over a keeper.
