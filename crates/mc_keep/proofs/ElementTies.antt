@@ -12,11 +12,11 @@ use Rattle.mc_keep.specs.ElementOrder.{element_cmp}
 
 pub element_tied : (x y : ElementRow) → element_cmp x y ≡ Equal → x ≡ y
 element_tied x y e =
-    let last = then_equal _ (nat_cmp x.priority y.priority) e in
-    let third = then_equal _ (slice_cmp nat_cmp x.key y.key) last.0 in
-    let first = then_equal (slice_cmp nat_cmp x.cid.0 y.cid.0) (slice_cmp nat_cmp x.value y.value) third.0 in
-    let cid : x.cid ≡ y.cid = cid_same x.cid y.cid (exact_bytes x.cid.0 y.cid.0 first.0) in
-    let value : x.value ≡ y.value = exact_bytes x.value y.value first.1 in
-    let key : x.key ≡ y.key = exact_bytes x.key y.key third.1 in
-    let priority : x.priority ≡ y.priority = nat_cmp-IsAntisymmetric x.priority y.priority last.1 in
+    let last = then_equal _ (slice_cmp nat_cmp x.key y.key) e in
+    let third = then_equal _ (slice_cmp nat_cmp x.value y.value) last.0 in
+    let first = then_equal (nat_cmp x.priority y.priority) (slice_cmp nat_cmp x.cid.0 y.cid.0) third.0 in
+    let priority : x.priority ≡ y.priority = nat_cmp-IsAntisymmetric x.priority y.priority first.0 in
+    let cid : x.cid ≡ y.cid = cid_same x.cid y.cid (exact_bytes x.cid.0 y.cid.0 first.1) in
+    let value : x.value ≡ y.value = exact_bytes x.value y.value third.1 in
+    let key : x.key ≡ y.key = exact_bytes x.key y.key last.1 in
     λ i. record { key = key i; cid = cid i; priority = priority i; value = value i }

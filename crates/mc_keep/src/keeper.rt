@@ -139,8 +139,8 @@ pub trait Keeper: Counted {
         ensures reads { ReadsAt told fuse spare own Self.faults quiet schedule (is_fault result) self.old self.new }
         ensures planned { ReadsAsPlanned (schedule self.old) (schedule self.new) (is_fault result) };
 
-    /// The element rows of a key that no tombstone of a processed block hides, ascending by the block and then by the
-    /// value.
+    /// The element rows of a key that no tombstone of a processed block hides, ascending by the priority and the block,
+    /// and then by the value.
     fn live_elements(&mut self, alloc: Global, key: &str) -> Result<List<ElementRow>, KeepError>
         ensures row { IfTold (told self.old) result (λ kept rows.
             Ascends element_cmp rows (live_element_rows (processed kept) key.now)) }

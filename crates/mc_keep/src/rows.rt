@@ -2,7 +2,7 @@
 ghost use Rattle.std.specs.Prelude.{refl};
 ghost use Rattle.std.proofs.Common.{◌∙◌};
 ghost use Rattle.std.specs.Ordering.{eq_by_cmp, as_partial_cmp};
-ghost use Rattle.std.specs.Cmp.{partial_order_from_own_ties};
+ghost use Rattle.std.specs.Cmp.{partial_order_from_own_ties, partial_order_from_total};
 ghost use Rattle.std.specs.Cmp.Rules.{comparing};
 ghost use Rattle.std.proofs.Common.{rules};
 ghost use Rattle.std.proofs.lemmas.Cmp.{eq_by_cmp_equiv};
@@ -45,14 +45,14 @@ impl Eq for ElementRow {
 impl PartialOrd for ElementRow {
     ghost partial_cmp = { as_partial_cmp element_cmp };
 
-    ghost laws = { partial_order_from_own_ties (Prim.search (comparing, rules)) (Prim.search (comparing, rules)) };
+    ghost laws = { partial_order_from_total element_total };
 
     fn partial_cmp(&self, other: &ElementRow) -> Option<Ordering> {
         Some(self.cmp(other))
     }
 }
 
-/// By the block, and then by the value, the key and the priority.
+/// By the priority and the block, and then by the value and the key.
 impl Ord for ElementRow {
     ghost cmp = { element_cmp };
 
@@ -63,11 +63,11 @@ impl Ord for ElementRow {
     ghost matches_eq = { λ x y. refl };
 
     fn cmp(&self, other: &ElementRow) -> Ordering {
-        self.cid
-            .cmp(&other.cid)
+        self.priority
+            .cmp(&other.priority)
+            .then(self.cid.cmp(&other.cid))
             .then(self.value.as_slice().cmp(other.value.as_slice()))
             .then(self.key.as_bytes().cmp(other.key.as_bytes()))
-            .then(self.priority.cmp(&other.priority))
     }
 }
 

@@ -1,6 +1,7 @@
 -- The last rows of the blocks, of rows that ascend by the block and then by the value.
-use Rattle.std.proofs.Common.{◌≡◌, ℕ, true, false, cond, List, [], ◌∷◌, ◌++◌, ◌⊎◌, inl, inr, sym, refl, ap, ◌∙◌, subst}
-use Rattle.std.specs.Prelude.{reverse}
+use Rattle.std.proofs.Common.{◌≡◌, ℕ, Bool, true, false, cond, ◌&&◌, List, [], ◌∷◌, ◌++◌, ◌⊎◌, inl, inr, sym, refl, ap, ◌∙◌, subst}
+use Rattle.std.specs.Prelude.{nat_eq, reverse}
+use Rattle.std.proofs.lemmas.Bool.{and_parts, eqb-true, eq-eqb}
 use Rattle.std.proofs.lemmas.List.{reverse-append}
 use Rattle.std.specs.List.{dedup_from, AllByRecursion}
 use Rattle.std.specs.List.Sorted.{IsStrictlySortedBy}
@@ -9,13 +10,16 @@ use Rattle.std.specs.Cmp.Lexicographic.{slice_cmp}
 use Rattle.std.specs.Ordering.{nat_cmp, ordering_then, ordering_reverse, is_gt}
 use Rattle.std.specs.declared.cmp.Ordering.{Ordering}
 use Rattle.std.specs.declared.cmp.Ordering.TheVariants.{Less, Equal, Greater}
-use Rattle.std.specs.FinMap.{nat_cmp-IsAntisymmetric, slice_cmp-IsAntisymmetric}
+use Rattle.std.specs.FinMap.{nat_cmp-IsAntisymmetric}
 use Rattle.std.proofs.lemmas.Cmp.{nat_list_cmp_total, tied_itself}
+use Rattle.std.proofs.lemmas.Map.Lookups.{exact_bytes}
+use Rattle.mc_base.proofs.Cids.{cid_same}
+use Rattle.mc_base.proofs.Orders.{then_equal}
 use Rattle.mc_base.specs.declared.cid.Cid.{Cid}
 use Rattle.mc_model.specs.Front.{same_cid}
 use Rattle.mc_model.proofs.Counts.{cid_is, cid_itself}
 use Rattle.mc_keep.specs.declared.rows.ElementRow.{ElementRow}
-use Rattle.mc_keep.specs.ElementOrder.{element_cmp, element_total}
+use Rattle.mc_keep.specs.ElementOrder.{block_cmp, block_total, element_cmp, element_total}
 use Rattle.mc_write.specs.Rows.{same_block}
 use Rattle.mc_write.proofs.Membership.{In}
 
@@ -61,30 +65,45 @@ under_in row other (first ∷ rows) u (inr i) = under_in row other rows u.1 i
 abbrev pub UpTo : ElementRow → ElementRow → Type 0
 UpTo other row = (other ≡ row) ⊎ (element_cmp other row ≡ Less)
 
-first_part : (c v k p : Ordering) → ordering_then (ordering_then (ordering_then c v) k) p ≡ Less → (c ≡ Less) ⊎ (c ≡ Equal)
-first_part Less v k p e = inl refl
-first_part Equal v k p e = inr refl
-first_part Greater v k p e = absurd (let f : Greater ≡ Less = e in cc)
+first_part : (c v k : Ordering) → ordering_then (ordering_then c v) k ≡ Less → (c ≡ Less) ⊎ (c ≡ Equal)
+first_part Less v k e = inl refl
+first_part Equal v k e = inr refl
+first_part Greater v k e = absurd (let f : Greater ≡ Less = e in cc)
 
-second_part : (v k p : Ordering) → ordering_then (ordering_then (ordering_then Equal v) k) p ≡ Less → is_gt v ≡ false
-second_part Less k p e = refl
-second_part Equal k p e = refl
-second_part Greater k p e = absurd (let f : Greater ≡ Less = e in cc)
+second_part : (v k : Ordering) → ordering_then (ordering_then Equal v) k ≡ Less → is_gt v ≡ false
+second_part Less k e = refl
+second_part Equal k e = refl
+second_part Greater k e = absurd (let f : Greater ≡ Less = e in cc)
 
-digest_cmp : ElementRow → ElementRow → Ordering
-digest_cmp a b = slice_cmp nat_cmp a.cid.0 b.cid.0
+-- rows of one block have its priority and its identifier
+pub block_is : (a b : ElementRow) → a.priority ≡ b.priority → a.cid ≡ b.cid → same_block a b ≡ true
+block_is a b p c =
+    ap (λ (n : ℕ). nat_eq a.priority n && same_cid a.cid b.cid) (sym p) ∙ ap (λ (t : Bool). t && same_cid a.cid b.cid) (eq-eqb a.priority a.priority refl)
+    ∙ subst (λ (z : Cid). same_cid a.cid z ≡ true) c (cid_itself a.cid)
 
-less_digest : (a b : ElementRow) → element_cmp a b ≡ Less → (slice_cmp nat_cmp a.cid.0 b.cid.0 ≡ Less) ⊎ (slice_cmp nat_cmp a.cid.0 b.cid.0 ≡ Equal)
-less_digest a b e = first_part (slice_cmp nat_cmp a.cid.0 b.cid.0) (slice_cmp nat_cmp a.value b.value) (slice_cmp nat_cmp a.key b.key) (nat_cmp a.priority b.priority) e
+pub block_of : (a b : ElementRow) → same_block a b ≡ true → (a.priority ≡ b.priority) × (a.cid ≡ b.cid)
+block_of a b e =
+    let both = and_parts (nat_eq a.priority b.priority) (same_cid a.cid b.cid) e in
+    (eqb-true a.priority b.priority both.0, cid_is a.cid b.cid both.1)
+
+same_itself : (row : ElementRow) → same_block row row ≡ true
+same_itself row = block_is row row refl refl
+
+less_digest : (a b : ElementRow) → element_cmp a b ≡ Less → (block_cmp a b ≡ Less) ⊎ (block_cmp a b ≡ Equal)
+less_digest a b e = first_part (block_cmp a b) (slice_cmp nat_cmp a.value b.value) (slice_cmp nat_cmp a.key b.key) e
 
 not_less : (o p : Ordering) → o ≡ ordering_reverse p → o ≡ Less → (p ≡ Less) ⊎ (p ≡ Equal) → true ≡ false
 not_less o p e l (inl f) = absurd (let g : Less ≡ Greater = sym l ∙ e ∙ ap ordering_reverse f in cc)
 not_less o p e l (inr f) = absurd (let g : Less ≡ Equal = sym l ∙ e ∙ ap ordering_reverse f in cc)
 
-digests_same : (a b : ElementRow) → slice_cmp nat_cmp a.cid.0 b.cid.0 ≡ Equal → same_block a b ≡ true
+digests_same : (a b : ElementRow) → block_cmp a b ≡ Equal → same_block a b ≡ true
 digests_same a b e =
-    let same : a.cid.0 ≡ b.cid.0 = slice_cmp-IsAntisymmetric nat_cmp-IsAntisymmetric a.cid.0 b.cid.0 e in
-    subst (λ (z : List ℕ). bytes_eq z b.cid.0 ≡ true) (sym same) (cid_itself b.cid)
+    let both = then_equal (nat_cmp a.priority b.priority) (slice_cmp nat_cmp a.cid.0 b.cid.0) e in
+    block_is a b (nat_cmp-IsAntisymmetric a.priority b.priority both.0) (cid_same a.cid b.cid (exact_bytes a.cid.0 b.cid.0 both.1))
+
+-- how a block compares with that of a row
+abbrev at_block : ℕ → Cid → ElementRow → Ordering
+at_block priority cid row = ordering_then (nat_cmp priority row.priority) (slice_cmp nat_cmp cid.0 row.cid.0)
 
 -- a row between two of one block is of that block
 between : (first middle last : ElementRow) → element_cmp middle first ≡ Less → UpTo last middle → same_block last first ≡ true → same_block middle first ≡ true
@@ -92,9 +111,12 @@ between first middle last below (inl same) e = subst (λ z. same_block z first �
 between first middle last below (inr less) e = elim (less_digest middle first below) [
   | inr tied ↦ digests_same middle first tied
   | inl lower ↦
-      let back : (slice_cmp nat_cmp first.cid.0 middle.cid.0 ≡ Less) ⊎ (slice_cmp nat_cmp first.cid.0 middle.cid.0 ≡ Equal) =
-      subst (λ z. (slice_cmp nat_cmp z.0 middle.cid.0 ≡ Less) ⊎ (slice_cmp nat_cmp z.0 middle.cid.0 ≡ Equal)) (cid_is last.cid first.cid e) (less_digest last middle less) in
-      absurd (let f : true ≡ false = not_less (slice_cmp nat_cmp middle.cid.0 first.cid.0) (slice_cmp nat_cmp first.cid.0 middle.cid.0) (nat_list_cmp_total.antisymm middle.cid.0 first.cid.0) lower back in cc)
+      let both = block_of last first e in
+      let at_cid : (at_block last.priority first.cid middle ≡ Less) ⊎ (at_block last.priority first.cid middle ≡ Equal) =
+      subst (λ (c : Cid). (at_block last.priority c middle ≡ Less) ⊎ (at_block last.priority c middle ≡ Equal)) both.1 (less_digest last middle less) in
+      let back : (block_cmp first middle ≡ Less) ⊎ (block_cmp first middle ≡ Equal) =
+      subst (λ (p : ℕ). (at_block p first.cid middle ≡ Less) ⊎ (at_block p first.cid middle ≡ Equal)) both.0 at_cid in
+      absurd (let f : true ≡ false = not_less (block_cmp middle first) (block_cmp first middle) (block_total.antisymm middle first) lower back in cc)
 ]
 
 pub in_dedup : (row kept : ElementRow) (rows : List ElementRow) → In row (dedup_from same_block kept rows) → In row (kept ∷ rows)
@@ -105,10 +127,13 @@ in_dedup row kept (next ∷ rows) i = elim (same_block next kept) as (λ t. In r
 ] i
 
 same_turned : (a b : ElementRow) → same_block a b ≡ true → same_block b a ≡ true
-same_turned a b e = subst (λ z. bytes_eq z.0 a.cid.0 ≡ true) (cid_is a.cid b.cid e) (cid_itself a.cid)
+same_turned a b e = let both = block_of a b e in block_is b a (sym both.0) (sym both.1)
 
 same_then : (a b c : ElementRow) → same_block a b ≡ true → same_block b c ≡ true → same_block a c ≡ true
-same_then a b c e f = subst (λ z. same_cid a.cid z ≡ true) (cid_is b.cid c.cid f) e
+same_then a b c e f =
+    let first = block_of a b e in
+    let next = block_of b c f in
+    block_is a c (first.0 ∙ next.0) (first.1 ∙ next.1)
 
 up_then : (a b c : ElementRow) → element_cmp a b ≡ Less → UpTo b c → UpTo a c
 up_then a b c e (inl same) = inr (subst (λ z. element_cmp a z ≡ Less) same e)
@@ -147,7 +172,7 @@ last_of_block row other kept (next ∷ rows) u d i j e = (elim (same_block next 
 
 -- each block has a row that is kept
 pub has_last : (row kept : ElementRow) (rows : List ElementRow) → In row (kept ∷ rows) → (last : ElementRow) × In last (dedup_from same_block kept rows) × (same_block last row ≡ true)
-has_last row kept [] (inl same) = (kept, inl refl, subst (λ z. same_block kept z ≡ true) (sym same) (cid_itself kept.cid))
+has_last row kept [] (inl same) = (kept, inl refl, subst (λ z. same_block kept z ≡ true) (sym same) (same_itself kept))
 has_last row kept [] (inr i) = absurd i
 has_last row kept (next ∷ rows) i = (elim (same_block next kept) as (λ t. same_block next kept ≡ t → (last : ElementRow) × In last (cond t (dedup_from same_block kept rows) (kept ∷ dedup_from same_block next rows)) × (same_block last row ≡ true)) [
   | true ↦ λ s. elim i [
@@ -159,7 +184,7 @@ has_last row kept (next ∷ rows) i = (elim (same_block next kept) as (λ t. sam
     ]
   ]
   | false ↦ λ s. elim i [
-    | inl is_kept ↦ (kept, inl refl, subst (λ z. same_block kept z ≡ true) (sym is_kept) (cid_itself kept.cid))
+    | inl is_kept ↦ (kept, inl refl, subst (λ z. same_block kept z ≡ true) (sym is_kept) (same_itself kept))
     | inr later ↦ let found = has_last row next rows later in (found.0, inr found.1, found.2)
   ]
 ]) refl
@@ -168,7 +193,10 @@ has_last row kept (next ∷ rows) i = (elim (same_block next kept) as (λ t. sam
 pub value_up_to : (other row : ElementRow) → UpTo other row → same_block row other ≡ true → is_gt (slice_cmp nat_cmp other.value row.value) ≡ false
 value_up_to other row (inl same) e = ap (λ (z : ElementRow). is_gt (slice_cmp nat_cmp z.value row.value)) same ∙ ap is_gt (tied_itself nat_list_cmp_total row.value)
 value_up_to other row (inr less) e =
-    let tied : slice_cmp nat_cmp other.cid.0 row.cid.0 ≡ Equal =
-    ap (λ (c : Cid). slice_cmp nat_cmp other.cid.0 c.0) (cid_is row.cid other.cid e) ∙ tied_itself nat_list_cmp_total other.cid.0 in
-    second_part (slice_cmp nat_cmp other.value row.value) (slice_cmp nat_cmp other.key row.key) (nat_cmp other.priority row.priority)
-    (ap (λ o. ordering_then (ordering_then (ordering_then o (slice_cmp nat_cmp other.value row.value)) (slice_cmp nat_cmp other.key row.key)) (nat_cmp other.priority row.priority)) (sym tied) ∙ less)
+    let both = block_of row other e in
+    let tied : block_cmp other row ≡ Equal =
+    ap (λ (p : ℕ). ordering_then (nat_cmp other.priority p) (slice_cmp nat_cmp other.cid.0 row.cid.0)) both.0
+    ∙ ap (λ (c : Cid). ordering_then (nat_cmp other.priority other.priority) (slice_cmp nat_cmp other.cid.0 c.0)) both.1
+    ∙ tied_itself block_total other in
+    second_part (slice_cmp nat_cmp other.value row.value) (slice_cmp nat_cmp other.key row.key)
+    (ap (λ o. ordering_then (ordering_then o (slice_cmp nat_cmp other.value row.value)) (slice_cmp nat_cmp other.key row.key)) (sym tied) ∙ less)

@@ -40,7 +40,7 @@ use Rattle.mc_write.specs.Rows.{same_block, last_rows}
 use Rattle.mc_write.specs.Pairs.{row_pair}
 use Rattle.mc_write.proofs.Membership.{In, any_from_in, in_from_any, in_same, in_map, from_map, in_filter, from_filter, in_flat_map, from_flat_map, in_filter_map, from_filter_map}
 use Rattle.mc_write.proofs.PairFacts.{pair_tied}
-use Rattle.mc_write.proofs.RowOrder.{Descends, UpTo, reverse_cons, reverse_descends, in_dedup, last_of_block, has_last, value_up_to}
+use Rattle.mc_write.proofs.RowOrder.{block_is, block_of, Descends, UpTo, reverse_cons, reverse_descends, in_dedup, last_of_block, has_last, value_up_to}
 
 -- the greatest of ranked values
 
@@ -204,7 +204,8 @@ module _ (graph : List Stored) (order : List Cid) (key : List ℕ) (rows : List 
         let from = origin (blocks_in graph order) key row found.0 in
         let cid : row.cid ≡ from.block.cid = ap (λ (r : ElementRow). r.cid) from.is in
         let own : block_in graph row.cid ≡ from.block = ap (block_in graph) cid ∙ is_own graph order from.block from.within in
-        let same : (element : Element) → same_block row (element_row from.block element) ≡ true = λ element. subst (λ (c : Cid). same_cid c from.block.cid ≡ true) (sym cid) (cid_itself from.block.cid) in
+        let priority : row.priority ≡ from.block.delta.priority = ap (λ (r : ElementRow). r.priority) from.is in
+        let same : (element : Element) → same_block row (element_row from.block element) ≡ true = λ element. block_is row (element_row from.block element) priority cid in
         let free : (element : Element) → shown (element_row from.block element) ≡ true = λ element. subst (λ (c : Cid). not (has_tomb (blocks_in graph order) key (id_text c.0)) ≡ true) cid found.1 in
         ap (pair_in (blocks_in graph order) key) own ∙ pair_is (blocks_in graph order) key row from (λ element j e.
         let other = element_row from.block element in
@@ -234,7 +235,7 @@ module _ (graph : List Stored) (order : List Cid) (key : List ℕ) (rows : List 
         let free : shown (element_row block element.0) ≡ true = shown_of_pair (blocks_in graph order) key block found.item given.gives in
         let last = last_there (reverse rows) (element_row block element.0) (forth (element_row block element.0) (has_row (blocks_in graph order) key block element.0 given.within element.1 element.2) free) in
         let row : ElementRow = last.0 in
-        let cid : row.cid ≡ block.cid = cid_is row.cid block.cid last.2 in
+        let cid : row.cid ≡ block.cid = (block_of row (element_row block element.0) last.2).1 in
         let own : block_in graph row.cid ≡ block = ap (block_in graph) cid ∙ is_own graph order block given.within in
         let same : row_pair row ≡ found.item = some_same (row_pair row) found.item (sym (kept_pair row last.1) ∙ ap (pair_in (blocks_in graph order) key) own ∙ given.gives) in
         any_from_in test (row_pair row) (map row_pair (last_rows rows)) (in_map row_pair row (last_rows rows) last.1) (ap test same ∙ found.passes)

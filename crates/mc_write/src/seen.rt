@@ -35,7 +35,7 @@ fn last_of_blocks(rows: Vec<ElementRow>) -> Vec<ElementRow>
 {
     let mut rows = rows;
     rows.reverse();
-    rows.dedup_by_key(|row| row.cid);
+    rows.dedup_by(|a, b| a.priority == b.priority && a.cid == b.cid);
     rows
 }
 
