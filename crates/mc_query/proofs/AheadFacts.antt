@@ -1,10 +1,10 @@
 -- The rows that a query has read ahead.
-use Rattle.std.proofs.Common.{◌≡◌, ℕ, ◌-◌, ◌<◌, Bool, false, List, [], ◌∷◌, sym, ◌∙◌, subst, arith, Option, None}
+use Rattle.std.proofs.Common.{◌≡◌, ℕ, ◌-◌, ◌<◌, Bool, false, List, [], ◌∷◌, sym, ◌∙◌, subst, arith, Option}
 use Rattle.std.specs.Prelude.{length}
 use Rattle.mc_model.specs.declared.block.Block.{Block}
 use Rattle.mc_model.specs.Rank.{Ranked}
 use Rattle.mc_model.specs.Live.{value_row}
-use Rattle.mc_keep.specs.Next.{IsNext, AreNext, AreNextOf}
+use Rattle.mc_keep.specs.Next.{AreNext, AreNextOf}
 use Rattle.mc_keep.specs.declared.rows.ValueRow.{ValueRow}
 use Rattle.mc_query.specs.Ahead.{AreAhead, AreMore}
 

@@ -5,4 +5,5 @@ pub mod Leaving
 pub mod NextFacts
 pub mod PairFacts
 pub mod Slashes
+pub mod StrideFacts
 pub mod ReadFacts

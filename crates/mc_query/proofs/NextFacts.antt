@@ -135,6 +135,11 @@ none_after prefix key next from outside past true e =
     let begins = between (start_of prefix) key is.0 from (ap is_le less) in
     absurd (false≢true (sym outside ∙ is_selected prefix key begins.0 begins.1))
 
+-- and so no selected key is left past it
+pub none_left_after : (blocks : List Block) (prefix key : List ℕ) → is_past (start_of prefix) true key ≡ true → is_under prefix key ≡ false → left_of blocks prefix key false ≡ []
+none_left_after blocks prefix key from outside =
+    no_selected (is_under prefix) (is_past key false) (valued_keys blocks) (λ next past. none_after prefix key next from outside past (is_under prefix next) refl)
+
 -- all selected keys are past the start
 pub from_start : (blocks : List Block) (prefix : List ℕ) → left_of blocks prefix (start_of prefix) true ≡ filter (is_under prefix) (valued_keys blocks)
 from_start blocks prefix = all_selected (is_under prefix) (is_past (start_of prefix) true) (valued_keys blocks) (selected_past prefix)
@@ -166,8 +171,7 @@ module _ (sorted : AreSorted) (exact : AreExact) where
   )
   by_test blocks prefix bound inclusive row false under from next =
       ap (filter (is_under prefix)) (past_row blocks bound inclusive row next) ∙ ap (λ b. cond b (row.key ∷ left_of blocks prefix row.key false) (left_of blocks prefix row.key false)) under
-      ∙ no_selected (is_under prefix) (is_past row.key false) (valued_keys blocks)
-      (λ key past. none_after prefix row.key key (past_bound (start_of prefix) bound inclusive row.key from next.past) under past (is_under prefix key) refl)
+      ∙ none_left_after blocks prefix row.key (past_bound (start_of prefix) bound inclusive row.key from next.past) under
 
   -- the row past a bound, where the prefix selects it, is the first of the keys that are left
   pub next_is : (blocks : List Block) (prefix bound : List ℕ) (inclusive : Bool) (row : Option ValueRow) → is_past (start_of prefix) true bound ≡ true →

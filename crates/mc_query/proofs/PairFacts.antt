@@ -1,8 +1,8 @@
 -- Pairs that were taken, and the place after them.
-use Rattle.std.proofs.Common.{◌≡◌, ℕ, zero, suc, ◌+◌, ◌≤◌, Bool, true, false, List, [], ◌∷◌, ◌++◌, length, take, drop, map, refl, sym, ap, ◌∙◌, subst, arith, Option, Some, None}
+use Rattle.std.proofs.Common.{◌≡◌, ℕ, zero, suc, ◌+◌, ◌-◌, ◌<◌, ◌≤◌, Bool, true, false, List, [], ◌∷◌, ◌++◌, length, take, drop, map, refl, sym, ap, ◌∙◌, subst, arith, Option, Some, None}
 use Rattle.std.specs.Prelude.{filter, unwrap_or}
 use Rattle.std.proofs.Math.ListN.{drop_of_length-le}
-use Rattle.std.proofs.lemmas.List.{take_all, length-drop, map-append}
+use Rattle.std.proofs.lemmas.List.{take_all, drop-drop, length-drop, map-append}
 use Rattle.mc_keep.specs.Next.{is_past}
 use Rattle.std.proofs.lemmas.List.Sums.{fold-append}
 use Rattle.mc_model.specs.declared.block.Block.{Block}
@@ -11,7 +11,7 @@ use Rattle.mc_model.specs.Live.{value}
 use Rattle.mc_key.specs.Prefix.{is_under}
 use Rattle.mc_keep.specs.declared.rows.ValueRow.{ValueRow}
 use Rattle.mc_query.specs.Ahead.{AreAhead}
-use Rattle.mc_query.specs.Places.{pair_of, pair_of_row, past_pair, place_after, left_of, start_of, IsNextUnder, IsPassed}
+use Rattle.mc_query.specs.Places.{pair_of, pair_of_row, past_pair, place_after, left_of, start_of, IsKeyUnder, IsNextUnder, IsPassed}
 use Rattle.mc_query.specs.declared.pair.Pair.{Pair}
 use Rattle.mc_query.specs.declared.place.Place.{Place}
 use Rattle.mc_query.proofs.NextFacts.{from_start}
@@ -39,30 +39,43 @@ pub record IsTaken (blocks : List Block) (prefix : List ℕ) (place : Place) (pa
   pub got : map pair_of pairs ≡ map (with_value blocks) (take index (left_of blocks prefix place.bound place.inclusive))
   pub next : left_of blocks prefix (place_after place pairs).bound (place_after place pairs).inclusive ≡ drop index (left_of blocks prefix place.bound place.inclusive)
 
--- so many of the selected keys were passed over
-pub record IsPassing (blocks : List Block) (prefix : List ℕ) (place : Place) (index : ℕ) : Type 0 where
-  pub next : left_of blocks prefix place.bound place.inclusive ≡ drop index (filter (is_under prefix) (valued_keys blocks))
+-- of the selected keys that are passed over so many are still before a place
+pub record IsPassing (blocks : List Block) (prefix : List ℕ) (place : Place) (left skip : ℕ) : Type 0 where
+  pub next : drop left (left_of blocks prefix place.bound place.inclusive) ≡ drop skip (filter (is_under prefix) (valued_keys blocks))
 
 pub drop_ended : {X : Type 0} (items : List X) (index count : ℕ) → drop index items ≡ [] → index ≤ count → drop count items ≡ []
 drop_ended items index count none within = drop_of_length-le items (omega (arith, length-drop index items, ap length none, within))
 
 -- nothing was passed over at the start
-pub passing_start : (blocks : List Block) (prefix start : List ℕ) → start ≡ start_of prefix → IsPassing blocks prefix (record { bound = start; inclusive = true }) 0
-passing_start blocks prefix start is = record { next = rw is (from_start blocks prefix) }
+pub passing_start : (blocks : List Block) (prefix start : List ℕ) (skip : ℕ) → start ≡ start_of prefix → IsPassing blocks prefix (record { bound = start; inclusive = true }) skip skip
+passing_start blocks prefix start skip is = record { next = rw is (ap (drop skip) (from_start blocks prefix)) }
 
--- the key of a row that was found is passed over
-pub passing_more : (blocks : List Block) (prefix : List ℕ) (place : Place) (index : ℕ) (bound : List ℕ) (found : Option ValueRow) (row : ValueRow) → bound ≡ place.bound → found ≡ Some row →
-    IsPassing blocks prefix place index → IsNextUnder blocks prefix bound place.inclusive found → IsPassing blocks prefix (record { bound = row.key; inclusive = false }) (index + 1)
-passing_more blocks prefix place index bound found row same is passing next =
-    let here : IsNextUnder blocks prefix place.bound place.inclusive (Some row) = rw (same, is) at next in
-    record { next = sym (drop_next (filter (is_under prefix) (valued_keys blocks)) index row.key (left_of blocks prefix row.key false) (sym passing.next ∙ here.0)) }
+-- a stride to the key at its end
+stride_taken : {X : Type 0} (items : List X) (stride : ℕ) (item : X) (rest : List X) → 0 < stride → drop (stride - 1) items ≡ item ∷ rest → drop stride items ≡ rest
+stride_taken items stride item rest some at =
+    let one : stride - 1 + 1 ≡ stride = omega (arith, some) in
+    ap (λ (n : ℕ). drop n items) (sym one) ∙ drop_next items (stride - 1) item rest at
 
--- where no row is found there are no more keys than were passed over
-pub passing_ended : (blocks : List Block) (prefix : List ℕ) (place : Place) (index skip : ℕ) (bound : List ℕ) (found : Option ValueRow) → bound ≡ place.bound → found ≡ None → index ≤ skip →
-    IsPassing blocks prefix place index → IsNextUnder blocks prefix bound place.inclusive found → IsPassed blocks prefix skip None
-passing_ended blocks prefix place index skip bound found same is within passing next =
-    let here : IsNextUnder blocks prefix place.bound place.inclusive None = rw (same, is) at next in
-    drop_ended (filter (is_under prefix) (valued_keys blocks)) index skip (sym passing.next ∙ here) within
+-- the keys of a stride are passed over where the one at its end was found
+pub passing_more : (blocks : List Block) (prefix : List ℕ) (place : Place) (left stride skip : ℕ) (bound : List ℕ) (found : Option (List ℕ)) (key : List ℕ) → bound ≡ place.bound → found ≡ Some key →
+    0 < stride → stride ≤ left → IsPassing blocks prefix place left skip → IsKeyUnder blocks prefix bound place.inclusive (stride - 1) found →
+    IsPassing blocks prefix (record { bound = key; inclusive = false }) (left - stride) skip
+passing_more blocks prefix place left stride skip bound found key same is some within passing at =
+    let keys = left_of blocks prefix place.bound place.inclusive in
+    let here : IsKeyUnder blocks prefix place.bound place.inclusive (stride - 1) (Some key) = rw (same, is) at at in
+    let all : stride + (left - stride) ≡ left = omega (arith, within) in
+    record {
+      next =
+          ap (drop (left - stride)) (sym (stride_taken keys stride key (left_of blocks prefix key false) some here))
+          ∙ drop-drop (left - stride) stride keys ∙ ap (λ (n : ℕ). drop n keys) all ∙ passing.next;
+    }
+
+-- where none is found there are no more keys than are to be passed over
+pub passing_ended : (blocks : List Block) (prefix : List ℕ) (place : Place) (left stride skip : ℕ) (bound : List ℕ) (found : Option (List ℕ)) → bound ≡ place.bound → found ≡ None → stride ≤ left →
+    IsPassing blocks prefix place left skip → IsKeyUnder blocks prefix bound place.inclusive (stride - 1) found → IsPassed blocks prefix skip None
+passing_ended blocks prefix place left stride skip bound found same is within passing at =
+    let here : IsKeyUnder blocks prefix place.bound place.inclusive (stride - 1) None = rw (same, is) at at in
+    sym passing.next ∙ drop_ended (left_of blocks prefix place.bound place.inclusive) (stride - 1) left here (omega (arith, within))
 
 pub taken_start : (blocks : List Block) (prefix : List ℕ) (place : Place) (pairs : List Pair) → pairs ≡ [] → IsTaken blocks prefix place pairs 0
 taken_start blocks prefix place pairs none = rw none (record { got = refl; next = refl })

@@ -1,5 +1,5 @@
 -- The keys that a query has still before it.
-use Rattle.std.specs.Prelude.{◌≡◌, ℕ, Bool, false, if◌then◌else◌, List, [], ◌∷◌, ◌++◌, filter, drop, fold, Option, Some, None}
+use Rattle.std.specs.Prelude.{◌≡◌, ℕ, Bool, false, ◌&&◌, if◌then◌else◌, List, [], ◌∷◌, ◌++◌, filter, drop, fold, Option, Some, None}
 use Rattle.mc_key.specs.Prefix.{is_under, without_slashes}
 use Rattle.mc_model.specs.declared.block.Block.{Block}
 use Rattle.mc_model.specs.Answers.{valued_keys}
@@ -46,12 +46,27 @@ abbrev pub row_past : List ℕ → Bool → Option ValueRow → Option ValueRow
 row_past bound inclusive None = None
 row_past bound inclusive (Some row) = if is_past bound inclusive row.key then Some row else None
 
--- the first of these keys with its value, or none where there are none
+-- whether a key is past a bound and the prefix selects it
+abbrev pub is_left : List ℕ → List ℕ → Bool → List ℕ → Bool
+is_left prefix bound inclusive key = is_past bound inclusive key && is_under prefix key
+
+-- the key, where it is past a bound and the prefix selects it
+abbrev pub key_left : List ℕ → List ℕ → Bool → Option (List ℕ) → Option (List ℕ)
+key_left prefix bound inclusive None = None
+key_left prefix bound inclusive (Some key) = if is_left prefix bound inclusive key then Some key else None
+
+-- the first of the keys that are left with its value, or none where there are none
 abbrev pub IsNextUnder : List Block → List ℕ → List ℕ → Bool → Option ValueRow → Type 0
 IsNextUnder blocks prefix bound inclusive None = left_of blocks prefix bound inclusive ≡ []
 IsNextUnder blocks prefix bound inclusive (Some row) =
     (left_of blocks prefix bound inclusive ≡ row.key ∷ left_of blocks prefix row.key false)
     × (value blocks row.key ≡ Some row.value)
+
+-- the key at a place, from 0, among these keys, or none where there are not so many
+abbrev pub IsKeyUnder : List Block → List ℕ → List ℕ → Bool → ℕ → Option (List ℕ) → Type 0
+IsKeyUnder blocks prefix bound inclusive place None = drop place (left_of blocks prefix bound inclusive) ≡ []
+IsKeyUnder blocks prefix bound inclusive place (Some key) =
+    drop place (left_of blocks prefix bound inclusive) ≡ key ∷ left_of blocks prefix key false
 
 -- the place past the first keys that the prefix selects, or none where there are no more
 abbrev pub IsPassed : List Block → List ℕ → ℕ → Option Place → Type 0

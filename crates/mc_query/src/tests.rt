@@ -1,7 +1,7 @@
 // The parts of a query.
 use super::*;
 use crate::place::{Place, place_after, start_of};
-use crate::range::selected;
+use crate::range::{key_left, selected};
 use mc_base::{Bytes, List, Text};
 use mc_keep::ValueRow;
 use std::alloc::{AllocError, Global};
@@ -33,6 +33,24 @@ fn row(alloc: Global, key: &str) -> Result<ValueRow, AllocError> {
         priority: 1,
         value,
     })
+}
+
+#[test]
+fn a_key_past_the_bound_and_under_the_prefix_is_left(rt: HostRuntime) -> Result<(), Fail> {
+    let alloc = rt.alloc();
+    for (prefix, bound, inclusive, key, want) in [
+        ("/a", "/a/b", true, "/a/b", true),
+        ("/a", "/a/b", false, "/a/b", false),
+        ("/a", "/a/b", false, "/a/c", true),
+        ("/a", "/a/c", true, "/a/b", false),
+        ("/a", "/a/b", false, "/ab", false),
+        ("/", "", true, "", true),
+    ] {
+        let next = key_left(prefix, bound, inclusive, Some(Text::from_text(alloc, key)?));
+        assert_eq!(rt; next.is_some(), want, "{prefix} {bound} {key}");
+    }
+    assert!(rt; key_left("", "", true, None).is_none());
+    Ok(())
 }
 
 #[test]

@@ -115,7 +115,7 @@ fn queries_over_four_keys(rt: HostRuntime) -> Result<(), Fail> {
     let alloc = rt.alloc();
     let cases = [
         query_of("/a", 0, 10, &[("/a/b", 3), ("/a/c", 4)], 1),
-        query_of("/", 1, 2, &[("/a/b", 3), ("/a/c", 4)], 1),
+        query_of("/", 1, 2, &[("/a/b", 3), ("/a/c", 4)], 2),
         query_of("/a/", 5, 5, &[], 1),
         query_of(
             "",
@@ -124,7 +124,7 @@ fn queries_over_four_keys(rt: HostRuntime) -> Result<(), Fail> {
             &[("/a", 1), ("/a/b", 3), ("/a/c", 4), ("/ab", 2)],
             2,
         ),
-        query_of("/a//", 1, 1, &[("/a/c", 4)], 1),
+        query_of("/a//", 1, 1, &[("/a/c", 4)], 2),
         query_of("/ab", 0, 9, &[], 1),
         query_of("/a/b", 0, 9, &[], 1),
         query_of("/", 2, 0, &[], 0),

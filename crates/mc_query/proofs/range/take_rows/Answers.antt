@@ -2,6 +2,7 @@ use Rattle.std.proofs.Common.{arith, ◌+◌, false}
 use Rattle.mc_model.specs.Kept.{Kept, processed}
 use Rattle.mc_keep.proofs.Frames.{read_itself, read_more}
 use Rattle.mc_query.specs.Places.{start_of}
+use Rattle.mc_query.proofs.AheadFacts.{none_ahead}
 use Rattle.mc_query.proofs.AnswerFacts.{answers_none, answers_within, answers_more}
 use Rattle.mc_query.proofs.Leaving.{told_all, told_both}
 use Rattle.mc_query.proofs.PairFacts.{taken_start, taken_more, taken_ended, past_after, ahead_after}
@@ -13,7 +14,7 @@ loop-init g c = record {
   reads = read_itself _;
   planned = reads_none 0 (g.K.Keeper.schedule c.args.keeper.now);
   past = rw c.new-pairs.ensures c.requires.past;
-  ahead = rw c.new-pairs.ensures c.requires.ahead;
+  ahead = rw c.new-pairs.ensures (told_all (g.K.Keeper.told c.args.keeper.now) (λ (kept : Kept). none_ahead (processed kept) c.args.place.now.bound c.args.place.now.inclusive c.new-ahead.result.rows.items c.new-ahead.ensures));
   answers = answers_none c.args.place.now.bound c.args.place.now.inclusive c.args.prefix.now 0 c.new-pairs.result c.new-pairs.ensures;
   done = told_all (g.K.Keeper.told c.args.keeper.now) (λ (kept : Kept). taken_start (processed kept) c.args.prefix.now c.args.place.now c.new-pairs.result c.new-pairs.ensures);
 }
