@@ -92,7 +92,7 @@ pub(crate) fn key_at(
 
 // The key at a place of those in a range.
 fn nth_key<'a>(keys: Range<'a, String>, place: u64) -> Option<&'a String>
-    ensures { option_copied result ≡ slice_get keys place }
+    ensures { option_copied result ≡ slice_get keys.entry place }
 {
     let mut left = place;
     for key in keys {

@@ -8,4 +8,4 @@ returns-then-inclusive-clause-keys c =
 
 pub returns-clause-keys : goal.returns-clause-keys
 returns-clause-keys c =
-    c.range.ensures.between tt ∙ past_after c.args.ordered.now c.in_ok-from.from c.args.bound.now c.args.inclusive c.in_ok-from.ensures.ok c.if-inclusive.false
+    c.range-2.ensures.between tt ∙ past_after c.args.ordered.now c.in_ok-from.from c.args.bound.now c.args.inclusive c.in_ok-from.ensures.ok c.if-inclusive.false
