@@ -71,7 +71,7 @@ fn add_row<S: BuildHasher + Drop>(
 }
 
 /// The key at a place, from 0, among the next keys past a bound, or from it on where `inclusive`, or none where there
-/// are not so many. The keys in order are those with a value, so none is looked up on the way.
+/// are not so many. The keys in order are to be those with a value: none is looked up on the way.
 pub(crate) fn key_at(
     alloc: Global,
     ordered: &BTreeSet<String>,
