@@ -112,7 +112,7 @@ row_kept nodes new values stays there key = by (values key) (there.each key)
     by None e = refl
     by (Some place) e = ap (option_map ranked_of) (one place (row_at nodes key place) refl e)
 
--- a key that is put into order needs to wait no more, and one without a value does not wait
+-- a key that is put into order, where it has a value, needs to wait no more
 pub covered_moved : {Y S : Type 0} (keys : HashMap (String Y) Places S) (ordered new : BTreeSet (String Y)) (pending all : List ℕ) (number : ℕ)
     → all ≡ pending ++ number ∷ []
     → ((other : List ℕ) → contains_text new other ≡ cond (has_value_at keys other number) true (contains_text ordered other))

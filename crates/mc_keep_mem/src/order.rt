@@ -1,4 +1,5 @@
-// The keys with a value in their order: those that wait are put there, and those that lose their value taken out.
+// The keys with a value in their order: those that wait and still have one are put there, and those that lose it taken
+// out.
 ghost use Rattle.std.specs.Prelude.{◌≡◌, ◌≤◌, ℕ, List, [], true, false, cond, vec_len, vec_capacity, OnOk, OnErr};
 ghost use Rattle.std.specs.Str.{bytes_eq};
 ghost use Rattle.std.specs.BTreeSet.{contains_text};
