@@ -7,6 +7,8 @@ use Rattle.std.specs.Map.{lookup}
 use Rattle.std.specs.Option.{option_map, option_and_then}
 use Rattle.std.specs.Str.{bytes_eq}
 use Rattle.std.specs.String.{string_bytes}
+use Rattle.std.specs.Ordering.{is_eq, nat_cmp}
+use Rattle.std.specs.Cmp.Lexicographic.{slice_cmp}
 use Rattle.std.specs.declared.hash.BuildHasher as build
 use Rattle.std.specs.declared.hash.Hasher as hash
 use Rattle.mc_model.specs.Front.{same_cid, is_among, is_gap, head_at}
@@ -27,7 +29,8 @@ empty mark = record { graph = []; order = []; mark = mark }
 
 module _ {S X : Type 0} {g : build.Ghosts S X} {h : hash.Ghosts X} (tables : Tables S X g h)
     (blocks : tables.graph.blocks.entries ≡ []) (order : tables.graph.order.items ≡ []) (gaps : tables.gaps.keys ≡ []) (heads : tables.heads.entries ≡ [])
-    (nodes : tables.elements.nodes.items ≡ []) (pairs : tables.tombs.pairs.keys ≡ []) (keys : tables.elements.keys.entries ≡ []) where
+    (nodes : tables.elements.nodes.items ≡ []) (pairs : tables.tombs.pairs.keys ≡ []) (keys : tables.elements.keys.entries ≡ [])
+    (ordered : tables.values.ordered.keys ≡ []) where
   told : kept_in tables ≡ empty tables.mark
   told = λ i. record { graph = ap (map stored_of) blocks i; order = ap (map (cid_in (map_keys tables.graph.blocks))) order i; mark = tables.mark }
 
@@ -44,7 +47,10 @@ module _ {S X : Type 0} {g : build.Ghosts S X} {h : hash.Ghosts X} (tables : Tab
     tombs = λ key id.
         ap (list_any (same_pair (number_of tables.tombs.keys.keys key, number_of tables.tombs.ids.keys id))) pairs ∙ ap (λ z. has_tomb z key id) (sym none);
     values = λ key. ap (λ z. option_map ranked_of (option_and_then (row_at tables.elements.nodes.items key) z)) (no_value key) ∙ ap (λ z. value_row z key) (sym none);
-    covered = record { each = λ key some. absurd (let f : false ≡ true = sym (ap is_some (no_value key)) ∙ some in cc) };
+    covered = record {
+      each = λ key some. absurd (let f : false ≡ true = sym (ap is_some (no_value key)) ∙ some in cc);
+      exact = λ key there. absurd (let f : false ≡ true = sym (ap (list_any (λ k. is_eq (slice_cmp nat_cmp key (string_bytes k)))) ordered) ∙ there in cc);
+    };
     backed = record {
       each = λ key. ap (is_backed (tomb_in tables key) (rows_in tables.elements.nodes.items (last_in tables.elements.keys) key) (row_at tables.elements.nodes.items key)) (no_value key);
     };

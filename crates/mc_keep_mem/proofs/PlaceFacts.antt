@@ -1,7 +1,7 @@
 -- What a change of one key does to the places of the rows.
-use Rattle.std.proofs.Common.{◌≡◌, ℕ, zero, suc, ◌+◌, arith, Bool, true, false, not, cond, List, [], ◌∷◌, Option, Some, None, refl, sym, ap, subst, ◌∙◌}
-use Rattle.std.specs.Prelude.{slice_get, if◌then◌else◌}
-use Rattle.std.specs.HashMap.{HashMap, get_by_text, get_key_by, values, IsUnique}
+use Rattle.std.proofs.Common.{◌≡◌, ℕ, zero, suc, ◌+◌, arith, Bool, true, false, not, cond, ◌&&◌, List, [], ◌∷◌, Option, Some, None, refl, sym, ap, subst, ◌∙◌}
+use Rattle.std.specs.Prelude.{is_some, slice_get, if◌then◌else◌}
+use Rattle.std.specs.HashMap.{HashMap, get, get_by_text, get_key_by, values, IsUnique}
 use Rattle.std.specs.List.{position_or_len}
 use Rattle.std.specs.Map.{keys_of, values_of, lookup_key}
 use Rattle.std.specs.Option.{option_map, option_and_then}
@@ -16,7 +16,7 @@ use Rattle.std.proofs.lemmas.Slice.Eq.{bytes_eq-Decides}
 use Rattle.indexmap.specs.IndexMap.{insert_entry, with_value_at}
 use Rattle.indexmap.proofs.CallerLemmas.{updates-with_value_at}
 use Rattle.mc_keep_mem.specs.declared.places.Places.{Places}
-use Rattle.mc_keep_mem.specs.Places.{last_in, value_in, texts_in, is_named, stands_at, KeepsTexts}
+use Rattle.mc_keep_mem.specs.Places.{last_in, value_in, texts_in, is_named, stands_at, has_value_at, KeepsTexts}
 use Rattle.mc_keep_mem.specs.Tombs.{is_text}
 
 abbrev last : Option Places → Option ℕ
@@ -144,6 +144,16 @@ pub stands_as : {Y S : Type 0} (keys : HashMap (String Y) Places S) (number : �
     → stands_at (texts_in keys) key number ≡ bytes_eq key (string_bytes text)
 stands_as {Y = Y} keys number text places key got =
     ap (is_named key) (slice_get-map (λ (e : String Y × Places). e.0) keys.entries number ∙ ap (option_map (λ (e : String Y × Places). e.0)) got)
+
+-- whether the key at a place is this one, and has a value
+pub has_value_as : {Y S : Type 0} (keys : HashMap (String Y) Places S) (number : ℕ) (text : String Y) (places : Places) (key : List ℕ) → slice_get keys.entries number ≡ Some (text, places)
+    → get string_eq keys text ≡ Some places → (b : Bool) → is_some places.value ≡ b → has_value_at keys key number ≡ (bytes_eq key (string_bytes text) && b)
+has_value_as keys number text places key got found b has =
+    ap (λ t. t && is_some (value_in keys key)) (stands_as keys number text places key got) ∙ by (bytes_eq key (string_bytes text)) refl
+  where
+    by : (t : Bool) → bytes_eq key (string_bytes text) ≡ t → (t && is_some (value_in keys key)) ≡ (t && b)
+    by true e = ap (λ z. is_some (value_in keys z)) ((bytes_eq-Decides key (string_bytes text)).0 e) ∙ ap (λ p. is_some (value p)) found ∙ has
+    by false e = refl
 
 -- a key that is found stands at its place
 pub found_stands_at : {Y S : Type 0} (keys : HashMap (String Y) Places S) (number : ℕ) (text : String Y) (places : Places) (key : List ℕ) → slice_get keys.entries number ≡ Some (text, places)

@@ -52,6 +52,7 @@ module _ {S X : Type 0} {g : build.Ghosts S X} {h : hash.Ghosts X} (old new : Ta
           ∙ ap (λ z. contains_text old.values.ordered key || waits_in z new.values.pending.items key) reserved.texts
           ∙ ap (λ z. contains_text old.values.ordered key || waits_in (texts_in old.elements.keys) z key) reserved.pending
           ∙ fits.covered.each key (sym (ap is_some (reserved.values key)) ∙ has);
+      exact = λ key there. ap is_some (reserved.values key) ∙ fits.covered.exact key (ap (λ z. contains_text z key) (sym reserved.ordered) ∙ there);
     };
     backed = backed_same (tomb_in old) (tomb_in new) old.elements.nodes.items new.elements.nodes.items (last_in old.elements.keys) (last_in new.elements.keys) (value_in old.elements.keys) (value_in new.elements.keys)
         reserved.tombs reserved.nodes reserved.elements reserved.values fits.backed;

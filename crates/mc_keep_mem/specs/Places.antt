@@ -1,5 +1,5 @@
 -- What the table of the keys says: the places of each key's last row, and of the row with its value.
-use Rattle.std.specs.Prelude.{◌≡◌, ℕ, Bool, false, List, Option, Some, None, slice_get}
+use Rattle.std.specs.Prelude.{◌≡◌, ℕ, Bool, false, ◌&&◌, List, Option, Some, None, is_some, slice_get}
 use Rattle.std.specs.Option.{option_map, option_and_then}
 use Rattle.std.specs.HashMap.{HashMap, get_by_text, keys as keys_of_map}
 use Rattle.std.specs.Str.{bytes_eq}
@@ -27,6 +27,10 @@ is_named key (Some text) = bytes_eq key (string_bytes text)
 -- whether this key is at the place
 abbrev pub stands_at : {Y : Type 0} → List (String Y) → List ℕ → ℕ → Bool
 stands_at texts key place = is_named key (slice_get texts place)
+
+-- whether this key is at the place, and has a value
+abbrev pub has_value_at : {Y S : Type 0} → HashMap (String Y) Places S → List ℕ → ℕ → Bool
+has_value_at keys key place = stands_at (texts_in keys) key place && is_some (value_in keys key)
 
 -- what stood at a place still stands there
 abbrev pub KeepsTexts : {Y : Type 0} → List (String Y) → List (String Y) → Type 0

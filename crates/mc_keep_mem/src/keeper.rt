@@ -7,7 +7,7 @@ ghost use Rattle.mc_keep_mem.specs.Faults.{fails_never, schedule_of};
 
 use crate::plan::{FaultPlan, Faults, MemDesk};
 use crate::store::Store;
-use mc_base::{Bytes, Cid, Counted, Failed, List};
+use mc_base::{Bytes, Cid, Counted, Failed, List, Text};
 use mc_keep::{Changes, ElementRow, HeadRow, KeepError, Keeper, Summary, ValueRow};
 use std::alloc::{AllocError, Global};
 use std::hash::{BuildHasher, BuildHasherDefault, FoldHasher};
@@ -197,6 +197,19 @@ impl<S: BuildHasher + Drop> Keeper for MemKeeper<S> {
             return Err(KeepError::Failed);
         }
         Ok(self.store.values_from(alloc, bound, inclusive, most)?)
+    }
+
+    fn key_from(
+        &mut self,
+        alloc: Global,
+        bound: &str,
+        inclusive: bool,
+        place: u64,
+    ) -> Result<Option<Text>, KeepError> {
+        if self.faults.read_fails() {
+            return Err(KeepError::Failed);
+        }
+        Ok(self.store.key_from(alloc, bound, inclusive, place)?)
     }
 
     fn reserve(&mut self, rows: u64) -> Result<(), AllocError> {

@@ -1,8 +1,10 @@
-// The keys with a value in their order: those that wait are put there, and those that lose their value taken out.
-ghost use Rattle.std.specs.Prelude.{◌≡◌, ◌≤◌, ℕ, List, Option, [], true, false, cond, vec_len, vec_capacity, OnOk, OnErr};
+// The keys with a value in their order: those that wait and still have one are put there, and those that lose it taken
+// out.
+ghost use Rattle.std.specs.Prelude.{◌≡◌, ◌≤◌, ℕ, List, [], true, false, cond, vec_len, vec_capacity, OnOk, OnErr};
 ghost use Rattle.std.specs.Str.{bytes_eq};
 ghost use Rattle.std.specs.BTreeSet.{contains_text};
-ghost use Rattle.mc_keep_mem.specs.Places.{texts_in, stands_at};
+ghost use Rattle.std.specs.Option.{option_copied};
+ghost use Rattle.mc_keep_mem.specs.Places.{texts_in, value_in, is_named, has_value_at};
 ghost use Rattle.mc_keep_mem.specs.Values.{waits_in, IsCovered};
 
 use crate::elements::Elements;
@@ -14,16 +16,17 @@ use std::cmp::Ordering;
 use std::collections::BTreeSet;
 use std::hash::BuildHasher;
 
-/// Puts copies of the keys that wait into order, the least first. After want of memory some have been, and the others
-/// still wait.
+/// Puts copies of the keys that wait into order, the least first, but for those that lost their value meanwhile. After
+/// want of memory some have been, and the others still wait.
 pub(crate) fn settle<S: BuildHasher + Drop>(
     alloc: Global,
     values: &mut Values,
     elements: &Elements<S>,
 ) -> Result<(), AllocError>
-    ensures covered { (places : List ℕ → Option ℕ) →
-        IsCovered (texts_in elements.now.keys) places values.old.ordered values.old.pending.items →
-        IsCovered (texts_in elements.now.keys) places values.new.ordered values.new.pending.items }
+    ensures covered { IsCovered (texts_in elements.now.keys) (value_in elements.now.keys)
+        values.old.ordered values.old.pending.items →
+        IsCovered (texts_in elements.now.keys) (value_in elements.now.keys)
+        values.new.ordered values.new.pending.items }
     ensures settled { OnOk result (values.new.pending.items ≡ []) }
     ensures len { vec_len values.new.pending ≤ vec_len values.old.pending }
     ensures capacity { vec_capacity values.old.pending ≤ vec_capacity values.new.pending }
@@ -60,7 +63,7 @@ fn key_order<S: BuildHasher + Drop>(
     }
 }
 
-// Puts a copy of the key at a place into order.
+// Puts a copy of the key at a place into order, where it has a value.
 fn put_in_order<S: BuildHasher + Drop>(
     alloc: Global,
     ordered: &mut BTreeSet<String>,
@@ -68,15 +71,31 @@ fn put_in_order<S: BuildHasher + Drop>(
     number: usize,
 ) -> Result<(), AllocError>
     ensures ok { OnOk result ((other : List ℕ) → contains_text ordered.new other
-        ≡ cond (stands_at (texts_in keys.now) other number) true (contains_text ordered.old other)) }
+        ≡ cond (has_value_at keys.now other number) true (contains_text ordered.old other)) }
     ensures err { OnErr result ((other : List ℕ) → contains_text ordered.new other ≡ contains_text ordered.old other) }
 {
-    let Some((key, _)) = keys.get_index(number) else {
+    let Some(key) = key_with_value(keys, number) else {
         return Ok(());
     };
     let copy = String::from_str(alloc, key.as_str())?;
     ordered.insert(copy)?;
     Ok(())
+}
+
+// The key at a place, where it has a value.
+fn key_with_value<S: BuildHasher>(
+    keys: &IndexMap<String, Places, S>,
+    number: usize,
+) -> Option<&String>
+    ensures { (other : List ℕ) → has_value_at keys.now other number ≡ is_named other (option_copied result) }
+{
+    let Some((key, places)) = keys.get_index(number) else {
+        return None;
+    };
+    if places.value.place().is_none() {
+        return None;
+    }
+    Some(key)
 }
 
 /// Takes a key out, where it is there.

@@ -7,7 +7,7 @@ ghost use Rattle.mc_model.specs.Live.{has_tomb, value_row};
 ghost use Rattle.mc_model.specs.Kept.{processed, bytes_at, is_stored, nothing_kept};
 ghost use Rattle.mc_keep.specs.Changes.{row_count, changed, heads_in_rows};
 ghost use Rattle.mc_keep.specs.LiveRows.{IsHolder, live_element_rows};
-ghost use Rattle.mc_keep.specs.Next.{AreNext};
+ghost use Rattle.mc_keep.specs.Next.{AreNext, IsKeyAt};
 ghost use Rattle.mc_keep.specs.ElementOrder.{element_cmp};
 ghost use Rattle.mc_keep.specs.Tables.{ChangesFit, IsSummary, IsSmall, IsValueRow};
 ghost use Rattle.mc_keep_mem.specs.Fits.{Fits, RoomFor, kept_in};
@@ -19,12 +19,12 @@ use crate::heads::{has_head, head_rows};
 use crate::holder::holder_of;
 use crate::live::{is_hidden, live_elements_of};
 use crate::order::settle;
-use crate::range::rows_from;
+use crate::range::{key_at, rows_from};
 use crate::tables::{Tables, commit_tables, reserve_tables};
 use crate::tombs::{Tombs, has_tomb as has_tomb_row};
 use crate::values::{Values, has_value, node_of, value_of};
 use indexmap::{IndexMap, IndexSet};
-use mc_base::{Bytes, Cid, List};
+use mc_base::{Bytes, Cid, List, Text};
 use mc_keep::{Changes, ElementRow, HeadRow, Summary, ValueRow, changes_fit, commits_are_events};
 use mc_model::gaps_are_counted;
 use std::alloc::{AllocError, Global};
@@ -208,6 +208,23 @@ impl<S: BuildHasher + Drop> Store<S> {
             inclusive,
             most,
         )
+    }
+
+    // Puts the keys that wait into order, so the tables change, and nothing that they tell.
+    pub(crate) fn key_from(
+        &mut self,
+        alloc: Global,
+        bound: &str,
+        inclusive: bool,
+        place: u64,
+    ) -> Result<Option<Text>, AllocError>
+        ensures key { IfOk result (λ key.
+            IsKeyAt (processed (kept_in self.old.tables)) bound.now inclusive place key) }
+        ensures kept { kept_in self.new.tables ≡ kept_in self.old.tables }
+        ensures room { self.new.room ≡ self.old.room }
+    {
+        settle(alloc, &mut self.tables.values, &self.tables.elements)?;
+        key_at(alloc, &self.tables.values.ordered, bound, inclusive, place)
     }
 
     // Makes room for so many rows.

@@ -1,13 +1,13 @@
-use Rattle.std.proofs.Common.{◌≤◌, ℕ, List, Option}
+use Rattle.std.proofs.Common.{◌≤◌}
 use Rattle.std.specs.Prelude.{vec_len, vec_capacity}
-use Rattle.mc_keep_mem.specs.Places.{texts_in}
+use Rattle.mc_keep_mem.specs.Places.{texts_in, value_in}
 use Rattle.mc_keep_mem.specs.Values.{IsCovered}
 use Rattle.mc_keep_mem.proofs.order.settle.Given as goal
 
 abbrev pub invariant-loop-number : goal.invariant-loop-number
 invariant-loop-number g l = record {
-  covered : (places : List ℕ → Option ℕ) → IsCovered (texts_in l.elements.keys) places l.fn.values.ordered l.fn.values.pending.items
-      → IsCovered (texts_in l.elements.keys) places l.values.ordered l.values.pending.items;
+  covered : IsCovered (texts_in l.elements.keys) (value_in l.elements.keys) l.fn.values.ordered l.fn.values.pending.items
+      → IsCovered (texts_in l.elements.keys) (value_in l.elements.keys) l.values.ordered l.values.pending.items;
   len : vec_len l.values.pending ≤ vec_len l.fn.values.pending;
   capacity : vec_capacity l.fn.values.pending ≤ vec_capacity l.values.pending;
 }
