@@ -1,5 +1,6 @@
 -- What the table of element rows says: the rows of a key are a chain from its last row to its first.
-use Rattle.std.specs.Prelude.{◌≡◌, ⊤, ℕ, zero, suc, ◌+◌, Bool, true, false, not, ◌&&◌, ◌||◌, nat_eq, nat_lt, List, [], ◌∷◌, length, map, filter, slice_get, Option, Some, None}
+use Rattle.std.specs.Prelude.{◌≡◌, ⊤, ℕ, zero, suc, ◌+◌, Bool, true, false, not, ◌&&◌, ◌||◌, nat_eq, nat_lt, List, []}
+use Rattle.std.specs.Prelude.{◌∷◌, length, map, filter, slice_get, Option, Some, None}
 use Rattle.std.specs.Prelude.{cond}
 use Rattle.std.specs.Str.{bytes_eq}
 use Rattle.std.specs.Option.{option_map}
@@ -21,13 +22,19 @@ lead_back place (node ∷ nodes) = is_before place node.before && lead_back (pla
 abbrev pub chain : List Node → ℕ → Option ℕ → List Node
 chain nodes zero at = []
 chain nodes (suc most) None = []
-chain nodes (suc most) (Some at) = elim (slice_get nodes at) [ None ↦ [] | Some node ↦ node ∷ chain nodes most node.before ]
+chain nodes (suc most) (Some at) = elim (slice_get nodes at) [
+  | None ↦ []
+  | Some node ↦ node ∷ chain nodes most node.before
+]
 
 -- whether a node stands on the way from a place, at most so many steps from it
 abbrev pub is_on : List Node → ℕ → Option ℕ → ℕ → Bool
 is_on nodes zero at place = false
 is_on nodes (suc most) None place = false
-is_on nodes (suc most) (Some at) place = elim (slice_get nodes at) [ None ↦ false | Some node ↦ nat_eq at place || is_on nodes most node.before place ]
+is_on nodes (suc most) (Some at) place = elim (slice_get nodes at) [
+  | None ↦ false
+  | Some node ↦ nat_eq at place || is_on nodes most node.before place
+]
 
 -- the place to which the node at a place leads
 abbrev pub before_at : List Node → ℕ → Option ℕ
@@ -49,7 +56,8 @@ row_at nodes key place = option_map (row_of_node key) (slice_get nodes place)
 
 -- what stood at a place still stands there
 abbrev pub KeepsRows : List Node → List Node → Type 0
-KeepsRows old new = (key : List ℕ) (place : ℕ) (row : ElementRow) → row_at old key place ≡ Some row → row_at new key place ≡ Some row
+KeepsRows old new =
+    (key : List ℕ) (place : ℕ) (row : ElementRow) → row_at old key place ≡ Some row → row_at new key place ≡ Some row
 
 -- the rows of a key, where these are the places of the last ones
 abbrev pub rows_in : List Node → (List ℕ → Option ℕ) → List ℕ → List ElementRow
@@ -70,7 +78,8 @@ live_from hidden nodes key at = filter (is_live hidden) (rows_from nodes key at)
 pub record AreChains (nodes : List Node) (lasts : List ℕ → Option ℕ) : Type 0 where
   pub back : lead_back 0 nodes ≡ true
   pub there : (key : List ℕ) → is_before (length nodes) (lasts key) ≡ true
-  pub apart : (key other : List ℕ) (place : ℕ) → is_on nodes (length nodes) (lasts key) place ≡ true → is_on nodes (length nodes) (lasts other) place ≡ true → key ≡ other
+  pub apart : (key other : List ℕ) (place : ℕ) → is_on nodes (length nodes) (lasts key) place ≡ true →
+      is_on nodes (length nodes) (lasts other) place ≡ true → key ≡ other
 
 -- the node at the place is on the way of the key
 abbrev pub IsOf : List Node → (List ℕ → Option ℕ) → List ℕ → ℕ → Type 0
@@ -80,13 +89,15 @@ IsOf nodes lasts key place = is_on nodes (length nodes) (lasts key) place ≡ tr
 abbrev pub IsLiveAt : (List ℕ → Bool) → List Node → (List ℕ → Option ℕ) → List ℕ → Option ℕ → Type 0
 IsLiveAt hidden nodes lasts key None = ⊤
 IsLiveAt hidden nodes lasts key (Some place) =
-    IsOf nodes lasts key place × (elim (slice_get nodes place) [ None ↦ false | Some node ↦ is_live hidden (row_of_node key node) ] ≡ true)
+    IsOf nodes lasts key place
+    × (elim (slice_get nodes place) [ None ↦ false | Some node ↦ is_live hidden (row_of_node key node) ] ≡ true)
 
 -- nodes whose rows are hidden may have been passed over, and nothing else
 pub record Pruned (hidden : List ℕ → List ℕ → Bool) (old new : List Node) (lasts : List ℕ → Option ℕ) : Type 0 where
   pub len : length new ≡ length old
   pub same : (key : List ℕ) (place : ℕ) → row_at new key place ≡ row_at old key place
-  pub live : (key : List ℕ) → filter (is_live (hidden key)) (rows_in new lasts key) ≡ filter (is_live (hidden key)) (rows_in old lasts key)
+  pub live : (key : List ℕ) →
+      filter (is_live (hidden key)) (rows_in new lasts key) ≡ filter (is_live (hidden key)) (rows_in old lasts key)
 
 -- the rows of a key with one more row
 abbrev pub with_element : List ℕ → List ElementRow → ElementRow → List ElementRow

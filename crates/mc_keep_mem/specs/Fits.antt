@@ -1,5 +1,6 @@
 -- The tables are those of the processed blocks; room in them; and what a commit makes of them.
-use Rattle.std.specs.Prelude.{◌≡◌, ◌≤◌, ◌+◌, ℕ, Bool, true, false, List, ◌++◌, filter, fold, unwrap_or, vec_len, vec_capacity}
+use Rattle.std.specs.Prelude.{◌≡◌, ◌≤◌, ◌+◌, ℕ, Bool, true, false, List, ◌++◌, filter, fold, unwrap_or, vec_len}
+use Rattle.std.specs.Prelude.{vec_capacity}
 use Rattle.std.specs.List.{list_any, list_all}
 use Rattle.std.specs.HashMap.{spare as map_spare, get}
 use Rattle.std.specs.HashSet.{spare as set_spare}
@@ -38,16 +39,24 @@ tomb_in tables key id = has_tomb_in tables.tombs.keys.keys tables.tombs.ids.keys
 -- the tables are exactly those of what they stand for
 pub record Fits {S X : Type 0} {g : build.Ghosts S X} {h : hash.Ghosts X} (tables : Tables S X g h) : Type 0 where
   pub kept : IsKept (kept_in tables)
-  pub elements : (key : List ℕ) → SameMembers (filter (is_live (tomb_in tables key)) (rows_in tables.elements.nodes.items (last_in tables.elements.keys) key)) (live_element_rows (processed (kept_in tables)) key)
+  pub elements : (key : List ℕ) →
+      SameMembers
+      (filter (is_live (tomb_in tables key)) (rows_in tables.elements.nodes.items (last_in tables.elements.keys) key))
+      (live_element_rows (processed (kept_in tables)) key)
   pub tombs : (key id : List ℕ) → tomb_in tables key id ≡ has_tomb (processed (kept_in tables)) key id
-  pub values : (key : List ℕ) → row_in tables.elements.nodes.items (value_in tables.elements.keys) key ≡ value_row (processed (kept_in tables)) key
-  pub covered : IsCovered (texts_in tables.elements.keys) (value_in tables.elements.keys) tables.values.ordered tables.values.pending.items
-  pub backed : AreBacked (tomb_in tables) tables.elements.nodes.items (last_in tables.elements.keys) (value_in tables.elements.keys)
+  pub values : (key : List ℕ) →
+      row_in tables.elements.nodes.items (value_in tables.elements.keys) key
+      ≡ value_row (processed (kept_in tables)) key
+  pub covered : IsCovered (texts_in tables.elements.keys)
+      (value_in tables.elements.keys) tables.values.ordered tables.values.pending.items
+  pub backed : AreBacked (tomb_in tables) tables.elements.nodes.items (last_in tables.elements.keys)
+      (value_in tables.elements.keys)
   pub gaps : (cid : Cid) → is_among tables.gaps.keys cid ≡ is_gap (processed (kept_in tables)) cid
   pub heads : (cid : Cid) → get same_cid tables.heads cid ≡ head_at (processed (kept_in tables)) cid
 
 -- each table has room for so many rows more
-pub record RoomFor {S X : Type 0} {g : build.Ghosts S X} {h : hash.Ghosts X} (tables : Tables S X g h) (rows : ℕ) : Type 0 where
+pub record RoomFor {S X : Type 0} {g : build.Ghosts S X} {h : hash.Ghosts X} (tables : Tables S X g h) (rows : ℕ)
+    : Type 0 where
   pub blocks : rows ≤ map_spare tables.graph.blocks
   pub order : vec_len tables.graph.order + rows ≤ vec_capacity tables.graph.order
   pub gaps : rows ≤ set_spare tables.gaps
@@ -60,26 +69,43 @@ pub record RoomFor {S X : Type 0} {g : build.Ghosts S X} {h : hash.Ghosts X} (ta
   pub pending : vec_len tables.values.pending + rows ≤ vec_capacity tables.values.pending
 
 -- the blocks to store and to process are new, those to process are stored, and the changed values are those of rows
-pub record ChangesMeet {S X : Type 0} {g : build.Ghosts S X} {h : hash.Ghosts X} (tables : Tables S X g h) (changes : Changes) : Type 0 where
+pub record ChangesMeet {S X : Type 0} {g : build.Ghosts S X} {h : hash.Ghosts X} (tables : Tables S X g h)
+    (changes : Changes) : Type 0 where
   pub new : list_any (λ (stored : Stored). is_stored (graph_of tables.graph.blocks) stored.cid) changes.store ≡ false
   pub once : is_once same_cid (cids_of changes.store) ≡ true
   pub stored : list_all (is_stored (graph_of tables.graph.blocks ++ changes.store)) changes.marks ≡ true
   pub fresh : are_fresh (order_in tables) changes.marks ≡ true
-  pub covered : IsCovered (texts_in tables.elements.keys) (value_in tables.elements.keys) tables.values.ordered tables.values.pending.items
-  pub brought : list_all (is_brought (λ key. fold (with_element key) (rows_in tables.elements.nodes.items (last_in tables.elements.keys) key) changes.elements)) changes.values ≡ true
+  pub covered : IsCovered (texts_in tables.elements.keys)
+      (value_in tables.elements.keys) tables.values.ordered tables.values.pending.items
+  pub brought : list_all
+      (is_brought
+      (λ key. fold (with_element key)
+      (rows_in tables.elements.nodes.items (last_in tables.elements.keys) key) changes.elements)) changes.values ≡ true
 
-pub record Applied {S X : Type 0} {g : build.Ghosts S X} {h : hash.Ghosts X} (old new : Tables S X g h) (changes : Changes) : Type 0 where
+pub record Applied {S X : Type 0} {g : build.Ghosts S X} {h : hash.Ghosts X} (old new : Tables S X g h)
+    (changes : Changes) : Type 0 where
   pub graph : graph_of new.graph.blocks ≡ graph_of old.graph.blocks ++ changes.store
   pub order : order_in new ≡ order_in old ++ changes.marks
   pub mark : new.mark ≡ unwrap_or changes.mark old.mark
-  pub gaps : (cid : Cid) → is_among new.gaps.keys cid ≡ fold (opened_by (order_in new) cid) (fold (closed_by cid) (is_among old.gaps.keys cid) changes.marks) changes.links
-  pub heads : (cid : Cid) → get same_cid new.heads cid ≡ head_after cid (get same_cid old.heads cid) changes.heads_out changes.heads_in
-  pub elements : (key : List ℕ) → rows_in new.elements.nodes.items (last_in new.elements.keys) key ≡ fold (with_element key) (rows_in old.elements.nodes.items (last_in old.elements.keys) key) changes.elements
+  pub gaps : (cid : Cid) →
+      is_among new.gaps.keys cid
+      ≡ fold (opened_by (order_in new) cid)
+      (fold (closed_by cid) (is_among old.gaps.keys cid) changes.marks) changes.links
+  pub heads : (cid : Cid) →
+      get same_cid new.heads cid ≡ head_after cid (get same_cid old.heads cid) changes.heads_out changes.heads_in
+  pub elements : (key : List ℕ) →
+      rows_in new.elements.nodes.items (last_in new.elements.keys) key
+      ≡ fold (with_element key) (rows_in old.elements.nodes.items (last_in old.elements.keys) key) changes.elements
   pub tombs : (key id : List ℕ) → tomb_in new key id ≡ fold (with_tomb key id) (tomb_in old key id) changes.tombs
   pub stays : KeepsRows old.elements.nodes.items new.elements.nodes.items
-  pub values : (key : List ℕ) → row_in new.elements.nodes.items (value_in new.elements.keys) key ≡ values_after key (row_in new.elements.nodes.items (value_in old.elements.keys) key) changes.values
-  pub covered : IsCovered (texts_in new.elements.keys) (value_in new.elements.keys) new.values.ordered new.values.pending.items
-  pub backed : (hidden : List ℕ → List ℕ → Bool) → AreBacked hidden new.elements.nodes.items (last_in new.elements.keys) (value_in old.elements.keys) → AreBacked hidden new.elements.nodes.items (last_in new.elements.keys) (value_in new.elements.keys)
+  pub values : (key : List ℕ) →
+      row_in new.elements.nodes.items (value_in new.elements.keys) key
+      ≡ values_after key (row_in new.elements.nodes.items (value_in old.elements.keys) key) changes.values
+  pub covered : IsCovered (texts_in new.elements.keys)
+      (value_in new.elements.keys) new.values.ordered new.values.pending.items
+  pub backed : (hidden : List ℕ → List ℕ → Bool) →
+      AreBacked hidden new.elements.nodes.items (last_in new.elements.keys) (value_in old.elements.keys) →
+      AreBacked hidden new.elements.nodes.items (last_in new.elements.keys) (value_in new.elements.keys)
 
 -- the rows are the same, and there is no less room
 pub record Reserved {S X : Type 0} {g : build.Ghosts S X} {h : hash.Ghosts X} (old new : Tables S X g h) : Type 0 where
@@ -88,7 +114,9 @@ pub record Reserved {S X : Type 0} {g : build.Ghosts S X} {h : hash.Ghosts X} (o
   pub mark : new.mark ≡ old.mark
   pub gaps : new.gaps.keys ≡ old.gaps.keys
   pub heads : new.heads.entries ≡ old.heads.entries
-  pub elements : (key : List ℕ) → rows_in new.elements.nodes.items (last_in new.elements.keys) key ≡ rows_in old.elements.nodes.items (last_in old.elements.keys) key
+  pub elements : (key : List ℕ) →
+      rows_in new.elements.nodes.items (last_in new.elements.keys) key
+      ≡ rows_in old.elements.nodes.items (last_in old.elements.keys) key
   pub tombs : (key id : List ℕ) → tomb_in new key id ≡ tomb_in old key id
   pub nodes : new.elements.nodes.items ≡ old.elements.nodes.items
   pub values : (key : List ℕ) → value_in new.elements.keys key ≡ value_in old.elements.keys key

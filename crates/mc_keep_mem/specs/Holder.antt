@@ -25,7 +25,10 @@ row_with ranked rows = find (λ (row : ElementRow). same_ranked ranked (ranked_o
 
 -- whether the value that a change brings is that of a row of its key
 abbrev pub is_brought : (List ℕ → List ElementRow) → ValueChange → Bool
-is_brought rows change = elim change.row [ None ↦ true | Some row ↦ is_some (row_with (row.priority, row.value) (rows change.key)) ]
+is_brought rows change = elim change.row [
+  | None ↦ true
+  | Some row ↦ is_some (row_with (row.priority, row.value) (rows change.key))
+]
 
 -- whether there is a row, which is hidden or one of these
 abbrev pub stands_in : (List ℕ → Bool) → List ElementRow → Option ElementRow → Bool
@@ -38,5 +41,6 @@ is_backed hidden rows at None = true
 is_backed hidden rows at (Some place) = stands_in hidden rows (at place)
 
 -- the row of each value is one of its key, unless it is hidden
-pub record AreBacked (hidden : List ℕ → List ℕ → Bool) (nodes : List Node) (lasts values : List ℕ → Option ℕ) : Type 0 where
+pub record AreBacked (hidden : List ℕ → List ℕ → Bool) (nodes : List Node) (lasts values : List ℕ → Option ℕ)
+    : Type 0 where
   pub each : (key : List ℕ) → is_backed (hidden key) (rows_in nodes lasts key) (row_at nodes key) (values key) ≡ true

@@ -15,8 +15,10 @@ row_listed key (Some ranked) = record { key = key; priority = ranked.0; value = 
 
 -- the rows of those of the keys that have a value
 abbrev pub rows_listed : {Y : Type 0} → (List ℕ → Option Ranked) → List (String Y) → List ValueRow
-rows_listed {Y} value keys = flat_map (λ (key : String Y). row_listed (string_bytes key) (value (string_bytes key))) keys
+rows_listed {Y} value keys =
+    flat_map (λ (key : String Y). row_listed (string_bytes key) (value (string_bytes key))) keys
 
 -- the keys in order that are past a bound, or at it where that counts
 abbrev pub keys_past : {Y : Type 0} → List ℕ → Bool → BTreeSet (String Y) → List (String Y)
-keys_past {Y} bound inclusive ordered = filter (λ (key : String Y). is_past bound inclusive (string_bytes key)) ordered.keys
+keys_past {Y} bound inclusive ordered =
+    filter (λ (key : String Y). is_past bound inclusive (string_bytes key)) ordered.keys

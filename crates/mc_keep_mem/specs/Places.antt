@@ -34,4 +34,5 @@ has_value_at keys key place = stands_at (texts_in keys) key place && is_some (va
 
 -- what stood at a place still stands there
 abbrev pub KeepsTexts : {Y : Type 0} → List (String Y) → List (String Y) → Type 0
-KeepsTexts {Y} old new = (place : ℕ) (text : String Y) → slice_get old place ≡ Some text → slice_get new place ≡ Some text
+KeepsTexts {Y} old new =
+    (place : ℕ) (text : String Y) → slice_get old place ≡ Some text → slice_get new place ≡ Some text

@@ -11,11 +11,21 @@ is_nothing (x ∷ xs) = false
 
 -- whether no call of a keeper and of its desks is planned to fail
 abbrev pub plans_nothing : FaultPlan → Bool
-plans_nothing plan = is_nothing plan.commits_before && (is_nothing plan.commits_after && (is_nothing plan.reads && list_all is_nothing plan.desks))
+plans_nothing plan =
+    is_nothing plan.commits_before
+    && (is_nothing plan.commits_after && (is_nothing plan.reads && list_all is_nothing plan.desks))
 
 -- the plan before the first call
 abbrev pub planned : FaultPlan → Schedule
-planned plan = record { reads = plan.reads; before = plan.commits_before; after = plan.commits_after; reads_made = 0; commits_made = 0; desks = plan.desks }
+planned plan =
+    record {
+      reads = plan.reads;
+      before = plan.commits_before;
+      after = plan.commits_after;
+      reads_made = 0;
+      commits_made = 0;
+      desks = plan.desks;
+    }
 
 abbrev pub nothing_planned : FaultPlan
 nothing_planned = record { commits_before = []; commits_after = []; reads = []; desks = [] }

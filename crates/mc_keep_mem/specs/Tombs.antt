@@ -1,5 +1,5 @@
--- What the table of tombstones says: the keys and the ids are numbered by the places where they stand, and a tombstone is a
--- pair of numbers.
+-- What the table of tombstones says: the keys and the ids are numbered by the places where they stand, and a tombstone
+-- is a pair of numbers.
 use Rattle.std.specs.Prelude.{◌≡◌, ℕ, ◌<◌, Bool, true, ◌&&◌, nat_eq, List, length}
 use Rattle.std.specs.List.{list_any, position_or_len}
 use Rattle.std.specs.Prelude.{◌||◌}

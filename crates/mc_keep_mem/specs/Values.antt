@@ -22,7 +22,10 @@ pub record AreThere (nodes : List Node) (values : List ℕ → Option ℕ) : Typ
 abbrev pub waits_in : {Y : Type 0} → List (String Y) → List ℕ → List ℕ → Bool
 waits_in texts pending key = list_any (stands_at texts key) pending
 
--- each key with a value is among the keys in order, or its place waits for the key to be put there; and no other key is in order
-pub record IsCovered {Y : Type 0} (texts : List (String Y)) (values : List ℕ → Option ℕ) (ordered : BTreeSet (String Y)) (pending : List ℕ) : Type 0 where
-  pub each : (key : List ℕ) → is_some (values key) ≡ true → (contains_text ordered key || waits_in texts pending key) ≡ true
+-- each key with a value is among the keys in order, or its place waits for the key to be put there; and no other key is
+-- in order
+pub record IsCovered {Y : Type 0} (texts : List (String Y)) (values : List ℕ → Option ℕ)
+    (ordered : BTreeSet (String Y)) (pending : List ℕ) : Type 0 where
+  pub each : (key : List ℕ) → is_some (values key) ≡ true →
+      (contains_text ordered key || waits_in texts pending key) ≡ true
   pub exact : (key : List ℕ) → contains_text ordered key ≡ true → is_some (values key) ≡ true

@@ -1,5 +1,6 @@
 -- The keys that a query has still before it.
-use Rattle.std.specs.Prelude.{◌≡◌, ℕ, Bool, false, ◌&&◌, if◌then◌else◌, List, [], ◌∷◌, ◌++◌, filter, drop, fold, Option, Some, None}
+use Rattle.std.specs.Prelude.{◌≡◌, ℕ, Bool, false, ◌&&◌, if◌then◌else◌, List, [], ◌∷◌, ◌++◌, filter, drop, fold, Option}
+use Rattle.std.specs.Prelude.{Some, None}
 use Rattle.mc_key.specs.Prefix.{is_under, without_slashes}
 use Rattle.mc_model.specs.declared.block.Block.{Block}
 use Rattle.mc_model.specs.Answers.{valued_keys}
