@@ -18,6 +18,7 @@ use Rattle.mc_model.specs.Wanted.{Queue, give_back, to_missing, to_bad, wanted}
 use Rattle.mc_model.proofs.Counts.{times_has}
 use Rattle.mc_model.proofs.Held.{in_parts}
 use Rattle.mc_keep.specs.declared.rows.Summary.{Summary}
+use Rattle.mc_keep.specs.Causes.{IfTold}
 use Rattle.mc_keep.specs.Changes.{no_changes}
 use Rattle.mc_keep.specs.Tables.{IsSummary}
 use Rattle.mc_keep.specs.declared.fuse.Fuse.{Fuse}
@@ -25,7 +26,6 @@ use Rattle.mc_fetch.specs.declared.job.Delivered.{Delivered}
 use Rattle.mc_fetch.specs.declared.job.Delivered.TheVariants.{Processed, Missing, Bad, Known}
 use Rattle.mc_core.specs.declared.deliveries.Arrival.{Arrival}
 use Rattle.mc_core.specs.declared.deliveries.Taken.{Taken}
-use Rattle.mc_core.specs.declared.uptake.Uptake.{Uptake}
 use Rattle.mc_core.specs.declared.error.CoreError.{CoreError}
 use Rattle.mc_core.specs.declared.error.CoreError.TheVariants.{KeeperFault, Memory}
 use Rattle.mc_core.specs.Calls.{Call, Faults}
@@ -160,17 +160,33 @@ arrival_call law told mid fuse fuse_mid stop run new cid bytes block arrival own
 
 -- a block is planned to be taken up
 
-pub some_told : (told : Option Kept) (whole : Bool) (block : Block) (bytes : List ℕ) (uptake : Uptake) → IfSome told (λ kept. IsUptake kept whole block bytes uptake) → IfSome told (λ kept. IsSomeUptake kept whole uptake)
-some_told None whole block bytes uptake is = tt
-some_told (Some kept) whole block bytes uptake is = record { block = block; bytes = bytes; plans = is }
+pub some_told : {E : Type 0} (told : Option Kept) (whole : Bool) (block : Block) (bytes : List ℕ)
+    (result : Result Arrival E) → IfTold told result (λ kept arrival. IsUptake kept whole block bytes arrival.uptake)
+    → IfTold told result (λ kept arrival. IsSomeUptake kept whole arrival.uptake)
+some_told None whole block bytes result is = tt
+some_told (Some kept) whole block bytes (Err error) is = tt
+some_told (Some kept) whole block bytes (Ok arrival) is = record { block = block; bytes = bytes; plans = is }
 
-pub new_told : (told : Option Kept) (cid : Cid) (taken : Taken) (known : Bool) (links : List Cid) → IsTaken cid taken → IfSome told (λ kept. is_among kept.order cid ≡ false) → IfSome told (λ kept. known ≡ is_stored kept.graph cid)
-    → IfSome told (λ kept. known ≡ is_stored kept.graph cid → IsNoOther (bytes_at kept.graph cid) taken.bytes) → IfSome told (λ kept. links ≡ open_links kept taken.block) → IfSome told (λ kept. IsNew kept taken.block taken.bytes links)
-new_told None cid taken known links good new stored other linked = tt
-new_told (Some kept) cid taken known links good new stored other linked = record {
+pub new_told : (told : Option Kept) (cid : Cid) (taken : Taken) (known : Bool) → IsTaken cid taken
+    → IfSome told (λ kept. is_among kept.order cid ≡ false) → IfSome told (λ kept. known ≡ is_stored kept.graph cid)
+    → IfSome told (λ kept. known ≡ is_stored kept.graph cid → IsNoOther (bytes_at kept.graph cid) taken.bytes)
+    → IfSome told (λ kept. IsNew kept taken.block taken.bytes (open_links kept taken.block))
+new_told None cid taken known good new stored other = tt
+new_told (Some kept) cid taken known good new stored other = record {
   good = ap (λ c. offer c taken.bytes) good.1 ∙ good.0;
   new = ap (is_among kept.order) good.1 ∙ new;
   known = subst (λ c. IsNoOther (bytes_at kept.graph c) taken.bytes) (sym good.1) (other stored);
+  linked = refl;
+}
+
+pub with_links : (told : Option Kept) (block : Block) (bytes : List ℕ) (links : List Cid)
+    → IfSome told (λ kept. IsNew kept block bytes (open_links kept block))
+    → IfSome told (λ kept. links ≡ open_links kept block) → IfSome told (λ kept. IsNew kept block bytes links)
+with_links None block bytes links new linked = tt
+with_links (Some kept) block bytes links new linked = record {
+  good = new.good;
+  new = new.new;
+  known = new.known;
   linked = linked;
 }
 
@@ -184,11 +200,16 @@ same_store graph cid bytes other true known found =
     ∙ ap (λ t. cond t None (Some (record no_changes { store = record { cid = cid; bytes = bytes } ∷ [] }))) known
 same_store graph cid bytes other false known found = ap (store_change graph cid) (found refl)
 
-pub events_told : (told : Option Kept) (whole : Bool) (cid : Cid) (bytes : List ℕ) (taken : Taken) (known : Bool) (uptake : Uptake) → IsTaken cid taken → IfSome told (λ kept. known ≡ is_stored kept.graph cid) → (known ≡ false → taken.bytes ≡ bytes)
-    → IfSome told (λ kept. IsUptake kept whole taken.block taken.bytes uptake) → IfSome told (λ kept. uptake_events uptake ≡ with_store (store_change kept.graph cid bytes) (Process (cid ∷ []) ∷ []))
-events_told None whole cid bytes taken known uptake good stored found is = tt
-events_told (Some kept) whole cid bytes taken known uptake good stored found is =
-    ap (λ store. with_store store (Process uptake.process.marks ∷ [])) is.store
+pub events_told : {E : Type 0} (told : Option Kept) (whole : Bool) (cid : Cid) (bytes : List ℕ) (taken : Taken)
+    (known : Bool) (result : Result Arrival E) → IsTaken cid taken
+    → IfSome told (λ kept. known ≡ is_stored kept.graph cid) → (known ≡ false → taken.bytes ≡ bytes)
+    → IfTold told result (λ kept arrival. IsUptake kept whole taken.block taken.bytes arrival.uptake)
+    → IfTold told result (λ kept arrival. uptake_events arrival.uptake
+    ≡ with_store (store_change kept.graph cid bytes) (Process (cid ∷ []) ∷ []))
+events_told None whole cid bytes taken known result good stored found is = tt
+events_told (Some kept) whole cid bytes taken known (Err error) good stored found is = tt
+events_told (Some kept) whole cid bytes taken known (Ok arrival) good stored found is =
+    ap (λ store. with_store store (Process arrival.uptake.process.marks ∷ [])) is.store
     ∙ ap (λ (marks : List Cid). with_store (store_change kept.graph taken.block.cid taken.bytes) (Process marks ∷ [])) is.process.marks
     ∙ ap (λ (c : Cid). with_store (store_change kept.graph c taken.bytes) (Process (c ∷ []) ∷ [])) good.1
     ∙ ap (λ store. with_store store (Process (cid ∷ []) ∷ [])) (same_store kept.graph cid bytes taken.bytes known stored found)

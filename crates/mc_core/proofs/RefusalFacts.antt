@@ -1,6 +1,6 @@
 -- Refusals, one after another.
 use Rattle.std.proofs.Common.{◌≡◌, ℕ, Bool, true, false, cond, List, Option, Some, None, Result, Ok, Err, refl, sym, ◌∙◌, ap, subst}
-use Rattle.std.specs.Prelude.{IfSome, IfErr, IfOk, IsErrAnd, is_some}
+use Rattle.std.specs.Prelude.{IfSome, IfErr, is_some}
 use Rattle.std.specs.Option.{option_or}
 use Rattle.mc_base.specs.declared.cid.Cid.{Cid}
 use Rattle.mc_model.specs.Front.{is_among}
@@ -106,9 +106,3 @@ result_made told now links priority delta make result same left next is due =
     over (Some kept) next due =
         subst (λ d. IfErr result (IsDue (Is (made_refusal kept (next_links kept) d)))) (is ∙ ap make next.1)
         (subst (λ l. IfErr result (IsDue (Is (made_refusal kept l delta)))) next.0 due)
-
--- an error says nothing of what is told
-pub told_err : {T E : Type 0} (told : Option Kept) (result : Result T E) (P : Kept → T → Type 0) (Q : E → Type 0) → IsErrAnd result Q → IfSome told (λ kept. IfOk result (P kept))
-told_err None result P Q err = tt
-told_err (Some kept) (Ok value) P Q err = absurd err
-told_err (Some kept) (Err error) P Q err = tt

@@ -2,6 +2,7 @@
 use Rattle.std.proofs.Common.{◌≡◌, ◌≤◌, ◌<◌, ◌+◌, ℕ, Bool, true, false, not, cond, filter, ◌&&◌, List, [], ◌∷◌, ◌++◌, length, map, take, suc, zero, Option, Some, None, Ok, Err, refl, sym, ◌∙◌, ap, subst, arith}
 use Rattle.std.specs.Prelude.{IfSome, ◌-◌, ◌^◌, is_some, min, nat_lt}
 use Rattle.std.specs.List.{list_all}
+use Rattle.std.specs.Option.{option_or}
 use Rattle.std.specs.Str.{bytes_eq}
 use Rattle.std.proofs.lemmas.List.{append-nil, append_assoc, length-append, map-append, take_at}
 use Rattle.std.proofs.lemmas.Bool.Decides.{nat_tests}
@@ -32,6 +33,7 @@ use Rattle.mc_core.specs.declared.error.CoreError.TheVariants.{BlockTooLarge, Cl
 use Rattle.mc_core.specs.Deletes.{with_made, with_block, with_all, chain_events, IsMade, AreMade, AreNext, block_events, all_events, OutsideIs, EndsOne, Takes}
 use Rattle.mc_core.specs.Events.{ReplicaState, state_of, all_happen, Goes, Breaks}
 use Rattle.mc_core.specs.Uptakes.{IsNew, IsNoOther, IsUptake, uptake_events, store_change, with_store}
+use Rattle.mc_core.specs.Puts.{IsPlanned, made_block}
 use Rattle.mc_core.specs.Refusals.{kind_of, clash_refusal, other_refusal, size_refusal}
 use Rattle.mc_core.specs.Counted.{run_of}
 use Rattle.mc_core.proofs.DeleteFacts.{is_cid, among_here}
@@ -347,3 +349,26 @@ first_told (Some kept) P Q p = p.0
 pub second_told : (told : Option Kept) (P Q : Kept → Type 0) → IfSome told (λ kept. P kept × Q kept) → IfSome told Q
 second_told None P Q p = tt
 second_told (Some kept) P Q p = p.1
+
+-- the plan of a made block
+pub plan_is : (told : Option Kept) (whole : Bool) (links : List Cid) (delta : Delta) (cid : Cid) (bytes : List ℕ)
+    (position : ℕ) (uptake : Uptake) → bytes ≡ made_bytes links delta → cid ≡ made_cid links delta
+    → size_refusal bytes ≡ None → IfSome told (λ kept. clash_refusal kept cid bytes ≡ None)
+    → IfSome told (λ kept. position ≡ length kept.order)
+    → IfSome told (λ kept. IsUptake kept whole (record { cid = cid; links = links; delta = delta }) bytes uptake)
+    → uptake.after.links ≡ []
+    → IfSome told (λ kept. IsPlanned kept whole links delta (record {
+      uptake = uptake;
+      written = record { cid = cid; priority = delta.priority; position = position };
+    }))
+plan_is None whole links delta cid bytes position uptake e f fits allowed at is none = tt
+plan_is (Some kept) whole links delta cid bytes position uptake e f fits allowed at is none = record {
+  allowed = ap (λ size. option_or size (clash_refusal kept (made_cid links delta) (made_bytes links delta)))
+      (ap size_refusal (sym e) ∙ fits)
+      ∙ (ap (λ b. clash_refusal kept (made_cid links delta) b) (sym e)
+      ∙ (ap (λ (c : Cid). clash_refusal kept c bytes) (sym f) ∙ allowed));
+  uptake = subst (λ b. IsUptake kept whole (made_block links delta) b uptake) e
+      (subst (λ (c : Cid). IsUptake kept whole (record { cid = c; links = links; delta = delta }) bytes uptake) f is);
+  written = λ i. record { cid = f i; priority = delta.priority; position = at i };
+  no_links = none;
+}

@@ -17,8 +17,9 @@ ghost use Rattle.mc_core.specs.Deletes.{IsOutside};
 ghost use Rattle.mc_core.specs.Jobs.{DeliverEvents, DeliverShort, DeliverWants, IsTaken, TakesArrival, found_in};
 ghost use Rattle.mc_core.specs.Jobs.{is_known};
 ghost use Rattle.mc_model.specs.Events.{Process};
-ghost use Rattle.mc_core.specs.Uptakes.{IsNoOther, IsShaped, IsSomeUptake, uptake_events, uptake_rows, store_change};
-ghost use Rattle.mc_core.specs.Uptakes.{with_store};
+ghost use Rattle.mc_core.specs.Uptakes as uptakes;
+ghost use Rattle.mc_core.specs.Uptakes.{IsNew, IsNoOther, IsShaped, IsSomeUptake, IsUptake};
+ghost use Rattle.mc_core.specs.Uptakes.{uptake_events, uptake_rows, store_change, with_store};
 ghost use Rattle.mc_core.specs.Reads.{read_refusal};
 ghost use Rattle.mc_core.specs.Refusals.{Is, is_fault};
 ghost use Rattle.mc_core.specs.Words.{Acts, Becomes, Continues};
@@ -212,10 +213,32 @@ fn plan_arrival<K: Keeper>(
 {
     let known = keeper.stored(cid)?;
     let taken = block_to_process(keeper, alloc, cid, known, Taken { block, bytes })?;
-    let links = open_links(keeper, alloc, &taken.block)?;
-    let position = keeper.summary()?.processed;
     let Taken { block, bytes } = taken;
-    let uptake = uptake_of(keeper, alloc, &block, bytes, known, links, whole)?;
+    plan_block(keeper, alloc, &block, bytes, known, whole)
+}
+
+// The same of the block that is processed where one was found.
+fn plan_block<K: Keeper>(
+    keeper: &mut K,
+    alloc: Global,
+    block: &Block,
+    bytes: Bytes,
+    known: bool,
+    whole: bool,
+) -> Result<Arrival, KeepError>
+    requires new { IfSome (K.told keeper.old) (λ kept. IsNew kept block.now bytes (uptakes.open_links kept block.now)) }
+    requires stored { IfSome (K.told keeper.old) (λ kept. known ≡ is_stored kept.graph block.now.cid) }
+    ensures uptake { IfTold (K.told keeper.old) result (λ kept arrival.
+        IsUptake kept whole block.now bytes arrival.uptake) }
+    ensures position { IfTold (K.told keeper.old) result (λ kept arrival. arrival.position ≡ length kept.order) }
+    ensures shape { IfOk result (λ arrival. IsShaped arrival.uptake) }
+    ensures same { IfOk result (λ arrival. arrival.uptake.after.cid ≡ block.now.cid) }
+    ensures room { IfOk result (λ arrival. uptake_rows arrival.uptake ≤ K.spare keeper.new) }
+    ensures reads { Reads K.Keeper (keeper_failed result) keeper.old keeper.new }
+{
+    let links = open_links(keeper, alloc, block)?;
+    let position = keeper.summary()?.processed;
+    let uptake = uptake_of(keeper, alloc, block, bytes, known, links, whole)?;
     Ok(Arrival { uptake, position })
 }
 

@@ -106,7 +106,6 @@ fn read_message(alloc: Global, message: &[u8]) -> Result<List<Cid>, CastError>
 }
 
 // The blocks that a message names and that are not processed.
-#[tactic(auto, using(mc_keep::proofs::Frames::reads_none))]
 fn read_new<K: Keeper>(
     keeper: &mut K,
     alloc: Global,

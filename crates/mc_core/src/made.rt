@@ -1,11 +1,12 @@
 // Blocks that a replica makes.
 ghost use Rattle.mc_keep.specs.Calls.{Reads};
-ghost use Rattle.std.specs.Prelude.{◌≡◌, ◌≤◌, [], None, Some, true, false, IfOk, IfSome, IfErr, OnOk};
+ghost use Rattle.std.specs.Prelude.{◌≡◌, ◌≤◌, [], None, Some, Ok, true, false, IfOk, IfSome, IfErr, OnOk, length};
 ghost use Rattle.std.specs.List.{list_all};
 ghost use Rattle.std.specs.Result.{is_err};
 ghost use Rattle.mc_model.specs.Front.{is_among};
 ghost use Rattle.mc_model.specs.Kept.{processed, is_stored};
-ghost use Rattle.mc_model.specs.Made.{next_priority};
+ghost use Rattle.mc_model.specs.Made.{made_bytes, made_cid, next_priority};
+ghost use Rattle.mc_model.specs.Offer.{block_max, offer};
 ghost use Rattle.mc_keep.specs.Causes.{IfTold};
 ghost use Rattle.mc_write.specs.Pairs.{row_cids};
 ghost use Rattle.mc_core.specs.Exact.{front_of};
@@ -16,7 +17,7 @@ ghost use Rattle.mc_core.specs.Refusals.{priority_refusal, size_refusal};
 
 use crate::CoreError;
 use crate::uptake::{Uptake, uptake_of};
-use mc_base::{Cid, Failed, List};
+use mc_base::{Bytes, Cid, Failed, List};
 use mc_block::write_block;
 use mc_keep::{HeadRow, Keeper};
 use mc_model::{Block, Delta};
@@ -155,30 +156,48 @@ pub(crate) fn plan_made<K: Keeper>(
     ensures reads { Reads K.Keeper (is_fault result) keeper.old keeper.new }
 {
     let made = write_block(alloc, links.as_slice(), &delta)?;
-    check_size(made.bytes.as_slice())?;
-    let known = match check_clash(keeper, alloc, &made.cid, made.bytes.as_slice()) {
-        Ok(known) => known,
-        Err(error) => return Err(error),
-    };
-    let position = keeper.summary()?.processed;
-    let written = Written {
-        cid: made.cid,
-        priority: delta.priority,
-        position,
-    };
     let block = Block {
         cid: made.cid,
         links,
         delta,
     };
-    let uptake = uptake_of(
-        keeper,
-        alloc,
-        &block,
-        made.bytes,
-        known,
-        List::new(alloc),
-        whole,
-    )?;
+    plan_written(keeper, alloc, &block, made.bytes, whole)
+}
+
+// The same of a block whose bytes are written.
+fn plan_written<K: Keeper>(
+    keeper: &mut K,
+    alloc: Global,
+    block: &Block,
+    bytes: Bytes,
+    whole: bool,
+) -> Result<Planned, CoreError>
+    requires linked { IfSome (K.told keeper.old) (λ kept. list_all (is_among kept.order) block.now.links ≡ true) }
+    requires bytes { bytes ≡ made_bytes block.now.links block.now.delta }
+    requires cid { block.now.cid ≡ made_cid block.now.links block.now.delta }
+    requires good { length bytes ≤ block_max → offer block.now.cid bytes ≡ Ok block.now }
+    ensures planned { IfTold (K.told keeper.old) result (λ kept planned.
+        IsPlanned kept whole block.now.links block.now.delta planned) }
+    ensures front { front_of result ≡ None }
+    ensures refused { IfSome (K.told keeper.old) (λ kept.
+        IfErr result (IsDue (Is (made_refusal kept block.now.links block.now.delta)))) }
+    ensures shape { IfOk result (λ planned. IsShaped planned.uptake) }
+    ensures links { IfOk result (λ planned. planned.uptake.after.links ≡ []) }
+    ensures same { IfOk result (λ planned. planned.uptake.after.cid ≡ planned.written.cid) }
+    ensures room { IfOk result (λ planned. uptake_rows planned.uptake ≤ K.spare keeper.new) }
+    ensures reads { Reads K.Keeper (is_fault result) keeper.old keeper.new }
+{
+    check_size(bytes.as_slice())?;
+    let known = match check_clash(keeper, alloc, &block.cid, bytes.as_slice()) {
+        Ok(known) => known,
+        Err(error) => return Err(error),
+    };
+    let position = keeper.summary()?.processed;
+    let uptake = uptake_of(keeper, alloc, block, bytes, known, List::new(alloc), whole)?;
+    let written = Written {
+        cid: block.cid,
+        priority: block.delta.priority,
+        position,
+    };
     Ok(Planned { uptake, written })
 }

@@ -1,12 +1,12 @@
 // The commits that take up a block, with all their memory taken.
-ghost use Rattle.mc_keep.specs.Calls.{Reads};
-ghost use Rattle.std.specs.Prelude.{◌≡◌, ◌≤◌, ◌++◌, ◌∷◌, [], true, false, map, length, IfSome, IfOk};
+ghost use Rattle.mc_keep.specs.Calls.{Reads, Reserves};
+ghost use Rattle.std.specs.Prelude.{◌≡◌, ◌≤◌, ◌+◌, ◌++◌, ◌∷◌, [], true, false, map, length, IfSome, IfOk, OnOk};
 ghost use Rattle.mc_model.specs.declared.block.Block.{Block};
 ghost use Rattle.mc_model.specs.Front.{gaps};
 ghost use Rattle.mc_model.specs.Kept.{processed, is_stored};
 ghost use Rattle.mc_keep.specs.Causes.{IfTold};
 ghost use Rattle.mc_keep.specs.Plan.{is_fault};
-ghost use Rattle.mc_keep.specs.Changes.{no_changes};
+ghost use Rattle.mc_keep.specs.Changes.{no_changes, row_count};
 ghost use Rattle.mc_keep.specs.New.{AreNew};
 ghost use Rattle.mc_core.specs.Uptakes.{IsNew, IsUptake, IsShaped, Processes, uptake_rows};
 
@@ -35,34 +35,44 @@ pub(crate) struct Uptake {
     pub(crate) after: After,
 }
 
-// Changes that process blocks, and how many gaps they leave.
-#[derive(Drop)]
-pub(crate) struct Processing {
-    pub(crate) changes: Changes,
-    pub(crate) gaps: u64,
-}
-
-// The changes that process these blocks, of which none is processed. Where `whole`, every gap is wanted.
-pub(crate) fn process_changes<K: Keeper>(
+// The changes that process these blocks, of which none is processed, and how many gaps they leave, with room in the
+// keeper for their rows and one more. Where `whole`, every gap is wanted.
+fn process_changes<K: Keeper>(
     keeper: &mut K,
     alloc: Global,
     blocks: &[Block],
     whole: bool,
-) -> Result<Processing, KeepError>
-    requires { IfSome (K.told keeper.old) (λ kept. AreNew kept blocks.now) }
-    ensures process { IfTold (K.told keeper.old) result (λ kept process.
-        Processes kept whole blocks.now (map (λ (block : Block). block.cid) blocks.now) process.changes) }
-    ensures gaps { IfTold (K.told keeper.old) result (λ kept process.
-        process.gaps ≡ length (gaps (processed kept ++ blocks.now))) }
-    ensures only { IfOk result (λ process. process.changes.store ≡ []) }
-    ensures marks { IfOk result (λ process.
-        process.changes.marks ≡ map (λ (block : Block). block.cid) blocks.now) }
+    changes: &mut Changes,
+) -> Result<u64, KeepError>
+    requires none { changes.old ≡ no_changes }
+    requires new { IfSome (K.told keeper.old) (λ kept. AreNew kept blocks.now) }
+    ensures process { IfTold (K.told keeper.old) result (λ kept count.
+        Processes kept whole blocks.now (map (λ (block : Block). block.cid) blocks.now) changes.new) }
+    ensures gaps { IfTold (K.told keeper.old) result (λ kept count.
+        count ≡ length (gaps (processed kept ++ blocks.now))) }
+    ensures only { IfOk result (λ count. changes.new.store ≡ []) }
+    ensures marks { IfOk result (λ count. changes.new.marks ≡ map (λ (block : Block). block.cid) blocks.now) }
+    ensures room { IfOk result (λ count. row_count changes.new + 1 ≤ K.spare keeper.new) }
     ensures reads { Reads K.Keeper (is_fault result) keeper.old keeper.new }
 {
-    let mut changes = Changes::new(alloc);
-    merge(keeper, alloc, blocks, &mut changes)?;
-    let gaps = front_changes(keeper, alloc, blocks, whole, &mut changes)?;
-    Ok(Processing { changes, gaps })
+    merge(keeper, alloc, blocks, changes)?;
+    let gaps = front_changes(keeper, alloc, blocks, whole, changes)?;
+    match reserve_rows(keeper, changes) {
+        Ok(()) => Ok(gaps),
+        Err(AllocError) => Err(KeepError::Memory),
+    }
+}
+
+// Takes the keeper's memory for the rows of these changes and for one more.
+fn reserve_rows<K: Keeper>(keeper: &mut K, changes: &Changes) -> Result<(), AllocError>
+    ensures room { OnOk result (row_count changes.now + 1 ≤ K.spare keeper.new) }
+    ensures reserves { Reserves K.Keeper keeper.old keeper.new }
+{
+    let rows = changes.rows().saturating_add(1);
+    if rows == u64::MAX {
+        return Err(AllocError);
+    }
+    keeper.reserve(rows)
 }
 
 // The changes that store these bytes, unless they are stored.
@@ -110,27 +120,52 @@ pub(crate) fn uptake_of<K: Keeper>(
     ensures room { IfOk result (λ uptake. uptake_rows uptake ≤ K.spare keeper.new) }
     ensures reads { Reads K.Keeper (is_fault result) keeper.old keeper.new }
 {
-    let process = process_changes(keeper, alloc, one(block), whole)?;
-    let store = store_changes(alloc, block.cid, bytes, known)?;
-    let Processing {
-        changes: process,
-        gaps,
-    } = process;
-    let rows = process.rows().saturating_add(1);
-    if rows == u64::MAX {
-        return Err(KeepError::Memory);
+    let mut process = Changes::new(alloc);
+    match plan_changes(keeper, alloc, block, bytes, known, whole, &mut process) {
+        Ok((store, gaps)) => {
+            let after = After {
+                cid: block.cid,
+                links,
+                gaps,
+            };
+            Ok(Uptake {
+                store,
+                process,
+                after,
+            })
+        }
+        Err(error) => Err(error),
     }
-    keeper.reserve(rows)?;
-    let after = After {
-        cid: block.cid,
-        links,
-        gaps,
-    };
-    Ok(Uptake {
-        store,
-        process,
-        after,
-    })
+}
+
+// Plans the changes that process a block, with the room for its uptake: what is given are the changes that store it,
+// unless it is stored, and how many gaps are left.
+fn plan_changes<K: Keeper>(
+    keeper: &mut K,
+    alloc: Global,
+    block: &Block,
+    bytes: Bytes,
+    known: bool,
+    whole: bool,
+    process: &mut Changes,
+) -> Result<(Option<Changes>, u64), KeepError>
+    requires none { process.old ≡ no_changes }
+    requires new { IfSome (K.told keeper.old) (λ kept. AreNew kept (block.now ∷ [])) }
+    ensures stored { known ≡ true → IfOk result (λ plan. plan.0 ≡ Rattle.std.specs.Prelude.None) }
+    ensures new { known ≡ false → IfOk result (λ plan. plan.0 ≡ Rattle.std.specs.Prelude.Some
+        (record no_changes { store = record { cid = block.now.cid; bytes = bytes } ∷ [] })) }
+    ensures process { IfTold (K.told keeper.old) result (λ kept plan.
+        Processes kept whole (block.now ∷ []) (block.now.cid ∷ []) process.new) }
+    ensures gaps { IfTold (K.told keeper.old) result (λ kept plan.
+        plan.1 ≡ length (gaps (processed kept ++ block.now ∷ []))) }
+    ensures only { IfOk result (λ plan. process.new.store ≡ []) }
+    ensures marks { IfOk result (λ plan. process.new.marks ≡ block.now.cid ∷ []) }
+    ensures room { IfOk result (λ plan. row_count process.new + 1 ≤ K.spare keeper.new) }
+    ensures reads { Reads K.Keeper (is_fault result) keeper.old keeper.new }
+{
+    let gaps = process_changes(keeper, alloc, one(block), whole, process)?;
+    let store = store_changes(alloc, block.cid, bytes, known)?;
+    Ok((store, gaps))
 }
 
 fn one(block: &Block) -> &[Block]

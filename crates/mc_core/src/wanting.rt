@@ -67,7 +67,6 @@ fn is_open<K: Keeper>(keeper: &mut K, cid: &Cid, link: &Cid) -> Result<bool, Fai
 }
 
 // Of these blocks those that are not processed.
-#[tactic(auto, using(mc_keep::proofs::Frames::reads_none))]
 pub(crate) fn unprocessed<K: Keeper>(
     keeper: &mut K,
     alloc: Global,
@@ -79,11 +78,18 @@ pub(crate) fn unprocessed<K: Keeper>(
 {
     let mut left = List::new(alloc);
     for cid in cids {
-        if !is_processed(keeper, cid)? {
+        if is_unprocessed(keeper, cid)? {
             add(&mut left, *cid)?;
         }
     }
     Ok(left)
+}
+
+fn is_unprocessed<K: Keeper>(keeper: &mut K, cid: &Cid) -> Result<bool, Failed>
+    ensures left { IfTold (K.told keeper.old) result (λ kept left. left ≡ not (has cid.now kept.order)) }
+    ensures reads { Reads K.Keeper (is_err result) keeper.old keeper.new }
+{
+    Ok(!is_processed(keeper, cid)?)
 }
 
 fn add(cids: &mut List<Cid>, cid: Cid) -> Result<(), AllocError>

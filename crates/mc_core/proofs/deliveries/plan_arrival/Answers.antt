@@ -1,39 +1,28 @@
 use Rattle.std.proofs.Common.{ap}
-use Rattle.std.proofs.lemmas.Result.{err_from_is_err_and}
 use Rattle.mc_keep.proofs.Frames.{read_more}
 use Rattle.mc_core.specs.declared.deliveries.Taken.{Taken}
-use Rattle.mc_core.proofs.DeliverFacts.{events_told, known_told, new_told, place_told, some_told}
+use Rattle.mc_core.proofs.DeliverFacts.{events_told, known_told, new_told, some_told}
 use Rattle.mc_core.proofs.deliveries.plan_arrival.Goals as goal
 
-pub uptake_of-requires-clause-new : goal.uptake_of-requires-clause-new
-uptake_of-requires-clause-new g c =
-    rw (c.in_ok-position.ensures.reads.told_same, c.in_ok-links.ensures.reads.told_same, c.in_ok-taken.ensures.reads.told_same, c.in_ok-known.ensures.reads.told_same)
-    (new_told _ c.args.cid.now c.in_ok-taken.taken c.in_ok-known.known _ c.in_ok-taken.ensures.good c.requires.new c.in_ok-known.ensures.row
-    (rw (c.in_ok-known.ensures.reads.told_same) at c.in_ok-taken.ensures.stored) (rw (c.in_ok-taken.ensures.reads.told_same, c.in_ok-known.ensures.reads.told_same) at c.in_ok-links.ensures.links))
+pub plan_block-requires-clause-new : goal.plan_block-requires-clause-new
+plan_block-requires-clause-new g c =
+    rw (c.in_ok-taken.ensures.reads.told_same, c.in_ok-known.ensures.reads.told_same)
+    (new_told _ c.args.cid.now c.in_ok-taken.taken c.in_ok-known.known c.in_ok-taken.ensures.good c.requires.new c.in_ok-known.ensures.row
+    (rw (c.in_ok-known.ensures.reads.told_same) at c.in_ok-taken.ensures.stored))
 
-pub uptake_of-requires-clause-stored : goal.uptake_of-requires-clause-stored
-uptake_of-requires-clause-stored g c =
-    rw (c.in_ok-position.ensures.reads.told_same, c.in_ok-links.ensures.reads.told_same, c.in_ok-taken.ensures.reads.told_same, c.in_ok-known.ensures.reads.told_same)
+pub plan_block-requires-clause-stored : goal.plan_block-requires-clause-stored
+plan_block-requires-clause-stored g c =
+    rw (c.in_ok-taken.ensures.reads.told_same, c.in_ok-known.ensures.reads.told_same)
     (known_told _ c.args.cid.now c.in_ok-taken.taken c.in_ok-known.known c.in_ok-taken.ensures.good c.in_ok-known.ensures.row)
 
 pub returns-clause-uptake : goal.returns-clause-uptake
 returns-clause-uptake g c =
-    some_told _ _ _ _ _ (rw (c.in_ok-position.ensures.reads.told_same, c.in_ok-links.ensures.reads.told_same, c.in_ok-taken.ensures.reads.told_same, c.in_ok-known.ensures.reads.told_same) at c.in_ok-uptake.ensures.uptake)
+    some_told _ _ _ _ _ (rw (c.in_ok-taken.ensures.reads.told_same, c.in_ok-known.ensures.reads.told_same) at c.plan_block.ensures.uptake)
 
 pub returns-clause-events : goal.returns-clause-events
 returns-clause-events g c =
     events_told _ _ c.args.cid.now c.args.bytes c.in_ok-taken.taken c.in_ok-known.known _ c.in_ok-taken.ensures.good c.in_ok-known.ensures.row (λ e. ap (λ (t : Taken). t.bytes) (c.in_ok-taken.ensures.found e))
-    (rw (c.in_ok-position.ensures.reads.told_same, c.in_ok-links.ensures.reads.told_same, c.in_ok-taken.ensures.reads.told_same, c.in_ok-known.ensures.reads.told_same) at c.in_ok-uptake.ensures.uptake)
-
-pub returns-clause-position : goal.returns-clause-position
-returns-clause-position g c =
-    place_told _ _ (rw (c.in_ok-links.ensures.reads.told_same, c.in_ok-taken.ensures.reads.told_same, c.in_ok-known.ensures.reads.told_same) at c.in_ok-position.ensures.row)
+    (rw (c.in_ok-taken.ensures.reads.told_same, c.in_ok-known.ensures.reads.told_same) at c.plan_block.ensures.uptake)
 
 pub returns-clause-reads : goal.returns-clause-reads
-returns-clause-reads g c =
-    read_more (read_more (read_more (read_more c.in_ok-known.ensures.reads c.in_ok-taken.ensures.reads) c.in_ok-links.ensures.reads) c.in_ok-position.ensures.reads) c.in_ok-uptake.ensures.reads
-
-pub returns-in_err-uptake-clause-reads : goal.returns-in_err-uptake-clause-reads
-returns-in_err-uptake-clause-reads g c =
-    let p = err_from_is_err_and c.from_residual-in_err-uptake.result c.from_residual-in_err-uptake.ensures.1 in
-    rw (p.1, p.2) (read_more (read_more (read_more (read_more c.in_ok-known.ensures.reads c.in_ok-taken.ensures.reads) c.in_ok-links.ensures.reads) c.in_ok-position.ensures.reads) c.in_err-uptake.ensures.reads)
+returns-clause-reads g c = read_more (read_more c.in_ok-known.ensures.reads c.in_ok-taken.ensures.reads) c.plan_block.ensures.reads

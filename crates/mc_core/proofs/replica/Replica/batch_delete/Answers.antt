@@ -1,10 +1,11 @@
 use Rattle.mc_core.specs.Batches.{batch_delete_refusal, BatchDeleteEvents}
 use Rattle.mc_core.specs.Refusals.{Is}
 use Rattle.std.proofs.Common.{Some, refl, sym, ap, ◌∙◌}
-use Rattle.std.specs.Prelude.{⊤}
+use Rattle.std.specs.Prelude.{⊤, is_some}
+use Rattle.mc_keep.proofs.Frames.{read_well}
 use Rattle.mc_core.proofs.BatchFacts.{batch_call, early_batch, delete_into, delete_due, keeper_rose}
 use Rattle.std.proofs.lemmas.Result.{err_from_is_err_and}
-use Rattle.mc_core.proofs.Keeps.{still_on}
+use Rattle.mc_core.proofs.Keeps.{looks_on, same_fault, still_on, stops_once}
 use Rattle.mc_core.specs.Replica.{running_of}
 use Rattle.mc_core.proofs.replica.Replica.batch_delete.Goals as goal
 
@@ -29,3 +30,16 @@ pub returns-in_err-key-clause-keeps : goal.returns-in_err-key-clause-keeps
 returns-in_err-key-clause-keeps g c =
     let p = err_from_is_err_and c.from_residual.result c.from_residual.ensures.1 in
     rw (p.1, p.2) (still_on refl refl c.in_err-key.ensures.no_fault)
+
+pub returns-in-Ok-clause-keeps : goal.returns-in-Ok-clause-keeps
+returns-in-Ok-clause-keeps g c = looks_on c.in-Ok.ensures.reads refl
+
+pub returns-in-Ok-clause-still_open : goal.returns-in-Ok-clause-still_open
+returns-in-Ok-clause-still_open g c = sym (ap is_some c.in-Some.is)
+
+pub returns-in-Err-clause-keeps : goal.returns-in-Err-clause-keeps
+returns-in-Err-clause-keeps g c =
+    looks_on (read_well c.in-Err.ensures.reads (same_fault _ _ c.from-error.ensures)) (stops_once _ _ _ c.if-self.false c.stops-self.ensures)
+
+pub returns-in-Err-clause-still_open : goal.returns-in-Err-clause-still_open
+returns-in-Err-clause-still_open g c = sym (ap is_some c.in-Some.is)

@@ -3,7 +3,7 @@ use Rattle.std.specs.Prelude.{⊤}
 use Rattle.mc_model.specs.Graph.{has}
 use Rattle.mc_model.specs.Wanted.{Queue, give_back}
 use Rattle.mc_core.proofs.JobFacts.{begin_call, begin_short, begin_sound, call_sound, next_short_sound, short_wants}
-use Rattle.mc_core.proofs.Keeps.{still_on}
+use Rattle.mc_core.proofs.Keeps.{looks_on, still_on}
 use Rattle.mc_core.specs.declared.error.CoreError.TheVariants.{Memory}
 use Rattle.mc_core.specs.Jobs.{NextEvents, NextShort}
 use Rattle.mc_core.specs.Reads.{read_refusal}
@@ -38,3 +38,12 @@ invariant_of-self-in-Err-Memory-clause-sound g c =
     (begin_short _ _ (g.K.Keeper.fuse c.args.self.now.keeper) _ _ (running_of c.args.self.now) _ c.in-Some.cid ⊤ c.if-self.false c.in-Err-Memory.ensures.reads.told_same c.in-Err-Memory.ensures.reads.fuse_same
     (sym (rw c.in-Some.is at c.next.ensures.first)) (c.back.ensures.queue ∙ ap (λ (q : Queue). cond (has c.in-Some.cid q.flight) (give_back q c.in-Some.cid) q) c.next.ensures.queue))
     c.args.self.now.sound
+
+pub returns-clause-keeps : goal.returns-clause-keeps
+returns-clause-keeps g c = looks_on c.in-Ok.ensures.reads refl
+
+pub returns-in-Err-Failed-clause-keeps : goal.returns-in-Err-Failed-clause-keeps
+returns-in-Err-Failed-clause-keeps g c = looks_on (rw c.in-Err-Failed.field-0-is at c.in-Err-Failed.ensures.reads) refl
+
+pub returns-in-Err-Memory-clause-keeps : goal.returns-in-Err-Memory-clause-keeps
+returns-in-Err-Memory-clause-keeps g c = looks_on (rw c.in-Err-Memory.field-0-is at c.in-Err-Memory.ensures.reads) refl

@@ -1,6 +1,11 @@
-use Rattle.std.proofs.Common.{refl}
+use Rattle.mc_keep.specs.Causes.{is_fault_kind}
+use Rattle.mc_keep.proofs.Frames.{read_well}
+use Rattle.mc_core.specs.Refusals.{kind_of}
+use Rattle.std.proofs.Common.{refl, ap, sym}
 use Rattle.mc_front.proofs.Places.{found_told}
-use Rattle.mc_core.proofs.Keeps.{still_on}
+use Rattle.mc_core.proofs.Keeps.{looks_on, still_on, stops_once}
+use Rattle.mc_core.specs.Replica.{running_of}
+use Rattle.mc_core.proofs.SoundFacts.{looks_down}
 use Rattle.mc_core.proofs.replica.Replica.position.Goals as goal
 
 pub returns-in-Ok-clause-found : goal.returns-in-Ok-clause-found
@@ -8,3 +13,13 @@ returns-in-Ok-clause-found g c = found_told _ _ c.in-Ok.place _ refl c.in-Ok.ens
 
 pub returns-then-self-clause-keeps : goal.returns-then-self-clause-keeps
 returns-then-self-clause-keeps g c = still_on refl refl refl
+
+pub returns-in-Ok-clause-keeps : goal.returns-in-Ok-clause-keeps
+returns-in-Ok-clause-keeps g c = looks_on c.in-Ok.ensures.reads refl
+
+pub returns-in-Err-clause-keeps : goal.returns-in-Err-clause-keeps
+returns-in-Err-clause-keeps g c =
+    looks_on (read_well c.in-Err.ensures.reads (sym (ap (λ e. is_fault_kind (kind_of e)) c.from-error.ensures))) (stops_once _ _ _ c.if-self.false c.stops-self.ensures)
+
+pub invariant_of-self-in-Err-clause-sound : goal.invariant_of-self-in-Err-clause-sound
+invariant_of-self-in-Err-clause-sound g c = looks_down _ _ _ _ (running_of c.args.self.now) c.if-self.false c.in-Err.ensures.reads.told_same c.args.self.now.sound
