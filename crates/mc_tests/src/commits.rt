@@ -7,11 +7,11 @@ ghost use Rattle.mc_model.specs.Front.{same_cid, is_among};
 ghost use Rattle.mc_model.specs.Kept.{block_in, blocks_in, is_stored};
 ghost use Rattle.mc_keep.specs.Causes.{IfTold};
 
-use crate::given::{empty, process_changes, store_of};
+use crate::given::{Trial, passes, passes_over, process_changes, store_of};
 use mc_base::{Bytes, Cid, Counted, List, Text};
 use mc_block::{read_block, write_block};
 use mc_keep::{ElementRow, HeadRow, KeepError, Keeper, changes_fit};
-use mc_keep_mem::{FaultPlan, MemKeeper};
+use mc_keep_mem::FaultPlan;
 use mc_model::{Block, Delta, Element, Tomb, id_of};
 use std::alloc::{AllocError, Global};
 use std::sync::Wait;
@@ -441,39 +441,70 @@ fn fails_as_planned<K: Keeper + Drop>(keeper: K, alloc: Global) -> Result<bool, 
     Ok(first && not_stored && third && processed && keeper.faults() == 2)
 }
 
-fn failing(alloc: Global) -> Result<MemKeeper, AllocError> {
+// By this plan they do so.
+fn failing(alloc: Global) -> Result<FaultPlan, AllocError> {
     let mut plan = FaultPlan::nothing(alloc);
     plan.commits_before.push(1)?;
     plan.commits_after.push(3)?;
-    MemKeeper::new(alloc, plan)
+    Ok(plan)
+}
+
+// What is tried here.
+#[derive(Clone, Copy)]
+enum Commits {
+    HideLater,
+    HideBefore,
+    CloseGap,
+    CloseChain { group: usize },
+    FailAsPlanned,
+}
+
+impl Trial for Commits {
+    fn passes<K: Keeper + Drop, W: Wait>(
+        self,
+        alloc: Global,
+        keeper: K,
+        wait: &W,
+    ) -> Result<bool, Fail>
+    where
+        K::Desk: Drop,
+    {
+        let answer = match self {
+            Commits::HideLater => hides_later(keeper, alloc),
+            Commits::HideBefore => hides_before(keeper, alloc),
+            Commits::CloseGap => closes_a_gap(wait, keeper, alloc),
+            Commits::CloseChain { group } => closes_a_chain(keeper, alloc, group),
+            Commits::FailAsPlanned => fails_as_planned(keeper, alloc),
+        };
+        Ok(answer?)
+    }
 }
 
 #[test]
 fn a_tombstone_hides_its_block_alone(rt: HostRuntime) -> Result<(), Fail> {
-    let alloc = rt.alloc();
-    assert!(rt; hides_later(empty(alloc)?, alloc)?);
+    assert!(rt; passes(Commits::HideLater, rt.alloc(), &rt)?);
     Ok(())
 }
 
 #[test]
 fn a_tombstone_hides_what_comes_later(rt: HostRuntime) -> Result<(), Fail> {
-    let alloc = rt.alloc();
-    assert!(rt; hides_before(empty(alloc)?, alloc)?);
+    assert!(rt; passes(Commits::HideBefore, rt.alloc(), &rt)?);
     Ok(())
 }
 
 #[test]
 fn a_gap_is_closed(rt: HostRuntime) -> Result<(), Fail> {
-    let alloc = rt.alloc();
-    assert!(rt; closes_a_gap(&rt, empty(alloc)?, alloc)?);
+    assert!(rt; passes(Commits::CloseGap, rt.alloc(), &rt)?);
     Ok(())
 }
 
 #[test]
 fn a_chain_backwards(rt: HostRuntime) -> Result<(), Fail> {
-    let alloc = rt.alloc();
     for group in [1, 7] {
-        assert!(rt; closes_a_chain(empty(alloc)?, alloc, group)?, "{group}");
+        assert!(rt;
+            passes(Commits::CloseChain { group }, rt.alloc(), &rt)?,
+            "{group}"
+        );
     }
     Ok(())
 }
@@ -481,6 +512,6 @@ fn a_chain_backwards(rt: HostRuntime) -> Result<(), Fail> {
 #[test]
 fn planned_commits_fail(rt: HostRuntime) -> Result<(), Fail> {
     let alloc = rt.alloc();
-    assert!(rt; fails_as_planned(failing(alloc)?, alloc)?);
+    assert!(rt; passes_over(Commits::FailAsPlanned, alloc, failing(alloc)?, &rt)?);
     Ok(())
 }

@@ -4,9 +4,9 @@ ghost use Rattle.mc_model.specs.State.{HasSoundMark};
 
 use crate::commits::element;
 use crate::given::empty;
-use crate::replicas::{hears, opened};
+use crate::replicas::{has_processed, hears, opened};
 use mc_base::{Bytes, Cid, Counted};
-use mc_core::CoreError;
+use mc_core::{CoreError, Replica};
 use mc_crew::work;
 use mc_drain::Worked;
 use mc_fetch::{Fetch, FetchError};
@@ -103,7 +103,16 @@ fn shelf<'a>(
     })
 }
 
-// Two workers take two blocks, and each asks its shelf before the other has its answer.
+// A replica hears of the two blocks.
+fn hears_both<K: Keeper>(replica: &mut Replica<K>, alloc: Global) -> Result<(), CoreError> {
+    for number in 1..=2 {
+        let _queued = hears(replica, alloc, Cid::of(element(alloc, number)?.as_slice()))?;
+    }
+    Ok(())
+}
+
+// Two workers take two blocks, and each asks its shelf before the other has its answer. Whoever owns the replica has
+// one way out with it, since each proves the dropping of all that it holds.
 fn works_beside<K: Keeper + Drop + Send + Sync, R: Threads + Wait + Sync>(
     keeper: K,
     alloc: Global,
@@ -115,24 +124,18 @@ where
     K::Desk: Send,
     requires { IfSome (K.told keeper) HasSoundMark }
 {
-    let mut replica = opened(alloc, keeper)?;
-    for number in 1..=2 {
-        let _queued = hears(
-            &mut replica,
-            alloc,
-            Cid::of(element(alloc, number)?.as_slice()),
-        )?;
-    }
     let mut shelves = Vec::with_capacity(alloc, 2)?;
     shelves.push_reserved(shelf(alloc, asked, alone)?);
     shelves.push_reserved(shelf(alloc, asked, alone)?);
+    let mut replica = opened(alloc, keeper)?;
+    let heard = hears_both(&mut replica, alloc);
     let (left, _shelves, answer) = work(alloc, replica, shelves, 8, &Open, rt, rt);
     let done = Worked::Done {
         processed: 2,
         missing: 0,
         bad: 0,
     };
-    Ok(answer == Ok(done) && left.report()?.processed == 2)
+    Ok(heard.is_ok() && answer == Ok(done) && has_processed(&left, 2))
 }
 
 #[test]

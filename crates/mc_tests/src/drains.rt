@@ -3,7 +3,7 @@ ghost use Rattle.std.specs.Prelude.{IfSome};
 ghost use Rattle.mc_model.specs.State.{HasSoundMark};
 
 use crate::commits::element;
-use crate::given::empty;
+use crate::given::{Trial, passes};
 use crate::replicas::{Chain, hears, last_alone, link, make_chain, opened};
 use mc_base::{Bytes, Cid, Counted};
 use mc_core::{CoreError, Replica};
@@ -73,24 +73,35 @@ fn shelf_of(alloc: Global, chain: Chain, whole: bool) -> Result<Shelf, AllocErro
 }
 
 // A chain of three blocks comes, two of them for a budget, and a missing block is found once it is offered.
+fn is_worked<K: Keeper, F: Fetch, W: Wait>(
+    replica: &mut Replica<K>,
+    alloc: Global,
+    part: &mut F,
+    whole: &mut F,
+    wait: &W,
+) -> bool {
+    let missing = work(alloc, replica, part, 8, wait);
+    let again = work(alloc, replica, whole, 1, wait);
+    let done = work(alloc, replica, whole, 8, wait);
+    let none = work(alloc, replica, whole, 8, wait);
+    missing == Ok(done_with(1, 1))
+        && again == Ok(Worked::Again { processed: 1 })
+        && done == Ok(done_with(1, 0))
+        && none == Ok(done_with(0, 0))
+}
+
+// The same from a keeper on. Whoever owns the replica has one way out with it, since each proves the dropping of all
+// that it holds.
 fn works<K: Keeper + Drop, W: Wait>(keeper: K, alloc: Global, wait: &W) -> Result<bool, CoreError>
     requires { IfSome (K.told keeper) HasSoundMark }
 {
     let chain = make_chain(alloc)?;
-    let mut replica = opened(alloc, keeper)?;
-    hears(&mut replica, alloc, chain.third)?;
     let mut part = shelf_of(alloc, chain, false)?;
     let mut whole = shelf_of(alloc, chain, true)?;
-    let missing = work(alloc, &mut replica, &mut part, 8, wait);
-    let again = work(alloc, &mut replica, &mut whole, 1, wait);
-    let done = work(alloc, &mut replica, &mut whole, 8, wait);
-    let none = work(alloc, &mut replica, &mut whole, 8, wait);
-    Ok(
-        missing == Ok(done_with(1, 1))
-            && again == Ok(Worked::Again { processed: 1 })
-            && done == Ok(done_with(1, 0))
-            && none == Ok(done_with(0, 0)),
-    )
+    let mut replica = opened(alloc, keeper)?;
+    let heard = hears(&mut replica, alloc, chain.third);
+    let is_worked = is_worked(&mut replica, alloc, &mut part, &mut whole, wait);
+    Ok(heard? == 1 && is_worked)
 }
 
 fn done_with(processed: u64, missing: u64) -> Worked {
@@ -102,37 +113,80 @@ fn done_with(processed: u64, missing: u64) -> Worked {
 }
 
 // A gap that a stop has left is open while nobody offers the block, and then the repair is clean.
+fn is_repaired<K: Keeper, F: Fetch, W: Wait>(
+    replica: &mut Replica<K>,
+    alloc: Global,
+    part: &mut F,
+    whole: &mut F,
+    wait: &W,
+) -> bool {
+    let open = repair(alloc, replica, part, 8, wait);
+    let again = repair(alloc, replica, whole, 1, wait);
+    let clean = repair(alloc, replica, whole, 8, wait);
+    open == Ok(Repaired::Open { gaps: 1 })
+        && again == Ok(Repaired::Again { processed: 1 })
+        && clean == Ok(Repaired::Clean)
+}
+
+// The same from a keeper on.
+fn opens_and_repairs<K: Keeper + Drop, W: Wait>(
+    keeper: K,
+    alloc: Global,
+    chain: Chain,
+    wait: &W,
+) -> Result<bool, CoreError>
+    requires { IfSome (K.told keeper) HasSoundMark }
+{
+    let mut part = shelf_of(alloc, chain, false)?;
+    let mut whole = shelf_of(alloc, chain, true)?;
+    let mut replica = opened(alloc, keeper)?;
+    Ok(is_repaired(&mut replica, alloc, &mut part, &mut whole, wait))
+}
+
+// The same from a keeper on that has nothing yet.
 fn repairs<K: Keeper + Drop, W: Wait>(keeper: K, alloc: Global, wait: &W) -> Result<bool, CoreError>
     requires { IfSome (K.told keeper) HasSoundMark }
 {
     let chain = make_chain(alloc)?;
     let mut replica = opened(alloc, keeper)?;
-    if !last_alone(&mut replica, alloc, chain)? {
-        return Ok(false);
+    let alone = last_alone(&mut replica, alloc, chain);
+    let repaired = opens_and_repairs(replica.stop(), alloc, chain, wait);
+    Ok(alone? && repaired?)
+}
+
+// What is tried here.
+#[derive(Clone, Copy)]
+enum Drains {
+    Work,
+    Repair,
+}
+
+impl Trial for Drains {
+    fn passes<K: Keeper + Drop, W: Wait>(
+        self,
+        alloc: Global,
+        keeper: K,
+        wait: &W,
+    ) -> Result<bool, Fail>
+    where
+        K::Desk: Drop,
+    {
+        let answer = match self {
+            Drains::Work => works(keeper, alloc, wait),
+            Drains::Repair => repairs(keeper, alloc, wait),
+        };
+        Ok(answer?)
     }
-    let mut replica = opened(alloc, replica.stop())?;
-    let mut part = shelf_of(alloc, chain, false)?;
-    let mut whole = shelf_of(alloc, chain, true)?;
-    let open = repair(alloc, &mut replica, &mut part, 8, wait);
-    let again = repair(alloc, &mut replica, &mut whole, 1, wait);
-    let clean = repair(alloc, &mut replica, &mut whole, 8, wait);
-    Ok(
-        open == Ok(Repaired::Open { gaps: 1 })
-            && again == Ok(Repaired::Again { processed: 1 })
-            && clean == Ok(Repaired::Clean),
-    )
 }
 
 #[test]
 fn a_chain_is_worked_through(rt: HostRuntime) -> Result<(), Fail> {
-    let alloc = rt.alloc();
-    assert!(rt; works(empty(alloc)?, alloc, &rt)?);
+    assert!(rt; passes(Drains::Work, rt.alloc(), &rt)?);
     Ok(())
 }
 
 #[test]
 fn a_gap_is_repaired(rt: HostRuntime) -> Result<(), Fail> {
-    let alloc = rt.alloc();
-    assert!(rt; repairs(empty(alloc)?, alloc, &rt)?);
+    assert!(rt; passes(Drains::Repair, rt.alloc(), &rt)?);
     Ok(())
 }

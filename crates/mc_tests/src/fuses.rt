@@ -2,13 +2,14 @@
 ghost use Rattle.std.specs.Prelude.{◌≡◌, ◌∷◌, [], IfOk};
 
 use crate::commits::{element, has_front, has_head, has_value, no_delta, process, store_bytes};
-use crate::given::empty;
+use crate::given::{Trial, passes, passes_over};
 use mc_base::{Bytes, Cid, Counted, Text};
 use mc_block::write_block;
 use mc_keep::{Fused, KeepError, Keeper};
-use mc_keep_mem::{FaultPlan, MemKeeper};
+use mc_keep_mem::FaultPlan;
 use mc_model::Element;
 use std::alloc::{AllocError, Global};
+use std::sync::Wait;
 use std::test::Fail;
 
 // What the keeper inside has planned for the commit of the fuse.
@@ -76,14 +77,15 @@ const CASES: [Case; 6] = [
     },
 ];
 
-fn keeper_of(alloc: Global, commit: u64, planned: Planned) -> Result<MemKeeper, AllocError> {
+// A plan by which the keeper inside does so at this commit.
+fn plan_of(alloc: Global, commit: u64, planned: Planned) -> Result<FaultPlan, AllocError> {
     let mut plan = FaultPlan::nothing(alloc);
     match planned {
         Planned::Nothing => {}
         Planned::Before => plan.commits_before.push(commit)?,
         Planned::After => plan.commits_after.push(commit)?,
     }
-    MemKeeper::new(alloc, plan)
+    Ok(plan)
 }
 
 // The bytes of a block of priority 2 that sets the key of the first one to 2 and links to it.
@@ -155,6 +157,36 @@ fn counts<K: Keeper>(keeper: &Fused<K>, own: u64) -> bool {
 }
 
 // One commit fails by the fuse, and where that left the plan of the keeper inside, one by the plan. Then all are made.
+fn goes_on<K: Keeper>(
+    keeper: &mut Fused<K>,
+    alloc: Global,
+    commit: u64,
+    case: Case,
+) -> Result<bool, KeepError> {
+    if commit == 0 {
+        return Ok(false);
+    }
+    keeper.arm(commit, case.after);
+    let happened = if case.happens { commit } else { commit - 1 };
+    if !stops(keeper, alloc)
+        || !stands_at(keeper, alloc, happened)?
+        || !counts(keeper, u64::from(case.fails_inside))
+    {
+        return Ok(false);
+    }
+    if case.fails_next && !stops(keeper, alloc) {
+        return Ok(false);
+    }
+    go_on(keeper, alloc)?;
+    Ok(counts(keeper, own_faults(case)) && stands_at(keeper, alloc, 4)?)
+}
+
+// How often the keeper inside fails.
+fn own_faults(case: Case) -> u64 {
+    u64::from(case.fails_inside || case.fails_next)
+}
+
+// The same from the keeper on that is inside.
 fn fails_once<K: Keeper + Drop>(
     keeper: K,
     alloc: Global,
@@ -162,23 +194,9 @@ fn fails_once<K: Keeper + Drop>(
     case: Case,
 ) -> Result<bool, KeepError> {
     let mut keeper = Fused::wrap(keeper);
-    if commit == 0 {
-        return Ok(false);
-    }
-    keeper.arm(commit, case.after);
-    let happened = if case.happens { commit } else { commit - 1 };
-    if !stops(&mut keeper, alloc)
-        || !stands_at(&mut keeper, alloc, happened)?
-        || !counts(&keeper, u64::from(case.fails_inside))
-    {
-        return Ok(false);
-    }
-    if case.fails_next && !stops(&mut keeper, alloc) {
-        return Ok(false);
-    }
-    go_on(&mut keeper, alloc)?;
-    let own = u64::from(case.fails_inside || case.fails_next);
-    Ok(counts(&keeper, own) && stands_at(&mut keeper, alloc, 4)? && ends(keeper, alloc, own)?)
+    let goes_on = goes_on(&mut keeper, alloc, commit, case);
+    let ends = ends(keeper, alloc, own_faults(case));
+    Ok(goes_on? && ends?)
 }
 
 // Whether the keeper that was inside has it all.
@@ -189,36 +207,82 @@ fn ends<K: Keeper + Drop>(keeper: Fused<K>, alloc: Global, own: u64) -> Result<b
 
 // A fuse for the first commit, replaced at once by one for the third, which after one commit is replaced by one for the
 // second from there on.
-fn takes_its_place<K: Keeper + Drop>(keeper: K, alloc: Global) -> Result<bool, KeepError> {
-    let mut keeper = Fused::wrap(keeper);
+fn is_replaced<K: Keeper>(keeper: &mut Fused<K>, alloc: Global) -> Result<bool, KeepError> {
     keeper.arm(1, false);
     keeper.arm(3, false);
-    store_bytes(&mut keeper, alloc, element(alloc, 1)?)?;
+    store_bytes(keeper, alloc, element(alloc, 1)?)?;
     keeper.arm(2, true);
     Ok(
-        stops(&mut keeper, alloc)
-            && counts(&keeper, 0)
-            && stands_at(&mut keeper, alloc, 3)?
-            && go_on(&mut keeper, alloc).is_ok()
-            && counts(&keeper, 0)
-            && ends(keeper, alloc, 0)?,
+        stops(keeper, alloc)
+            && counts(keeper, 0)
+            && stands_at(keeper, alloc, 3)?
+            && go_on(keeper, alloc).is_ok()
+            && counts(keeper, 0),
     )
 }
 
-// A fuse round a keeper with a fuse: the inner one fires at the second commit, which the outer one counts too.
-fn fires_inside<K: Keeper + Drop>(keeper: K, alloc: Global) -> Result<bool, KeepError> {
-    let mut inner = Fused::wrap(keeper);
-    inner.arm(2, false);
-    let mut keeper = Fused::wrap(inner);
+// The same from the keeper on that is inside.
+fn takes_its_place<K: Keeper + Drop>(keeper: K, alloc: Global) -> Result<bool, KeepError> {
+    let mut keeper = Fused::wrap(keeper);
+    let is_replaced = is_replaced(&mut keeper, alloc);
+    let ends = ends(keeper, alloc, 0);
+    Ok(is_replaced? && ends?)
+}
+
+// A fuse round a keeper whose own fuse fires at the second commit, which the outer one counts too.
+fn fires_after<K: Keeper>(keeper: &mut Fused<K>, alloc: Global) -> Result<bool, KeepError> {
     keeper.arm(4, true);
-    let first = stops(&mut keeper, alloc)
-        && stands_at(&mut keeper, alloc, 1)?
+    let first = stops(keeper, alloc)
+        && stands_at(keeper, alloc, 1)?
         && keeper.own_faults() == 1
         && keeper.faults() == 1
         && keeper.inside().own_faults() == 0;
-    let next = stops(&mut keeper, alloc) && stands_at(&mut keeper, alloc, 3)?;
-    go_on(&mut keeper, alloc)?;
-    Ok(first && next && counts(&keeper, 1) && ends(keeper, alloc, 1)?)
+    let next = stops(keeper, alloc) && stands_at(keeper, alloc, 3)?;
+    go_on(keeper, alloc)?;
+    Ok(first && next && counts(keeper, 1))
+}
+
+// The same from that keeper on, whichever it is: each call over a keeper of two given forms costs its check what both
+// promise.
+fn fires_round<K: Keeper + Drop>(inner: K, alloc: Global) -> Result<bool, KeepError> {
+    let mut keeper = Fused::wrap(inner);
+    let fires = fires_after(&mut keeper, alloc);
+    let ends = ends(keeper, alloc, 1);
+    Ok(fires? && ends?)
+}
+
+// A fuse round a keeper with a fuse.
+fn fires_inside<K: Keeper + Drop>(keeper: K, alloc: Global) -> Result<bool, KeepError> {
+    let mut inner = Fused::wrap(keeper);
+    inner.arm(2, false);
+    fires_round(inner, alloc)
+}
+
+// What is tried here.
+#[derive(Clone, Copy)]
+enum Fuses {
+    FailOnce { commit: u64, case: Case },
+    TakeItsPlace,
+    FireInside,
+}
+
+impl Trial for Fuses {
+    fn passes<K: Keeper + Drop, W: Wait>(
+        self,
+        alloc: Global,
+        keeper: K,
+        _wait: &W,
+    ) -> Result<bool, Fail>
+    where
+        K::Desk: Drop,
+    {
+        let answer = match self {
+            Fuses::FailOnce { commit, case } => fails_once(keeper, alloc, commit, case),
+            Fuses::TakeItsPlace => takes_its_place(keeper, alloc),
+            Fuses::FireInside => fires_inside(keeper, alloc),
+        };
+        Ok(answer?)
+    }
 }
 
 #[test]
@@ -226,9 +290,9 @@ fn a_fuse_fails_one_commit(rt: HostRuntime) -> Result<(), Fail> {
     let alloc = rt.alloc();
     for case in CASES {
         for commit in 1..=4 {
-            let keeper = keeper_of(alloc, commit, case.planned)?;
+            let plan = plan_of(alloc, commit, case.planned)?;
             assert!(rt;
-                fails_once(keeper, alloc, commit, case)?,
+                passes_over(Fuses::FailOnce { commit, case }, alloc, plan, &rt)?,
                 "{commit} {case:?}"
             );
         }
@@ -238,14 +302,12 @@ fn a_fuse_fails_one_commit(rt: HostRuntime) -> Result<(), Fail> {
 
 #[test]
 fn a_new_fuse_takes_the_place_of_the_old_one(rt: HostRuntime) -> Result<(), Fail> {
-    let alloc = rt.alloc();
-    assert!(rt; takes_its_place(empty(alloc)?, alloc)?);
+    assert!(rt; passes(Fuses::TakeItsPlace, rt.alloc(), &rt)?);
     Ok(())
 }
 
 #[test]
 fn a_fuse_round_a_fuse(rt: HostRuntime) -> Result<(), Fail> {
-    let alloc = rt.alloc();
-    assert!(rt; fires_inside(empty(alloc)?, alloc)?);
+    assert!(rt; passes(Fuses::FireInside, rt.alloc(), &rt)?);
     Ok(())
 }

@@ -4,6 +4,7 @@ ghost use Rattle.mc_model.specs.declared.block.Block.{Block};
 ghost use Rattle.mc_model.specs.Ascending.{is_once};
 ghost use Rattle.mc_model.specs.Front.{same_cid, is_processed};
 ghost use Rattle.mc_model.specs.Kept.{nothing_kept};
+ghost use Rattle.mc_model.specs.State.{HasSoundMark};
 ghost use Rattle.mc_keep.specs.Calls.{Reads};
 ghost use Rattle.mc_keep.specs.Causes.{IfTold};
 ghost use Rattle.mc_keep.specs.Changes.{no_changes};
@@ -19,6 +20,45 @@ use mc_keep_mem::{FaultPlan, MemKeeper};
 use mc_model::Block;
 use mc_rows::merge;
 use std::alloc::{AllocError, Global};
+use std::sync::Wait;
+use std::test::Fail;
+
+/// What is tried on a keeper, whichever it is. A call over a keeper of a given type costs its check all that the type
+/// promises, so that one function alone makes the keepers of all trials.
+pub trait Trial {
+    /// Whether all goes as it should over this keeper, which is empty.
+    fn passes<K: Keeper + Drop, W: Wait>(
+        self,
+        alloc: Global,
+        keeper: K,
+        wait: &W,
+    ) -> Result<bool, Fail>
+    where
+        K::Desk: Drop,
+        requires { IfSome (K.told keeper) HasSoundMark };
+}
+
+/// Whether all goes as it should over a keeper in memory that fails as planned.
+pub fn passes_over<T: Trial + Copy, W: Wait>(
+    trial: T,
+    alloc: Global,
+    plan: FaultPlan,
+    wait: &W,
+) -> Result<bool, Fail> {
+    trial.passes(alloc, made(alloc, plan)?, wait)
+}
+
+/// The same over one that never fails.
+pub fn passes<T: Trial + Copy, W: Wait>(trial: T, alloc: Global, wait: &W) -> Result<bool, Fail> {
+    passes_over(trial, alloc, FaultPlan::nothing(alloc), wait)
+}
+
+// A keeper without blocks.
+fn made(alloc: Global, plan: FaultPlan) -> Result<MemKeeper, AllocError>
+    ensures { IfOk result (λ keeper. kept_in keeper.store.tables ≡ nothing_kept) }
+{
+    MemKeeper::new(alloc, plan)
+}
 
 /// A keeper without blocks that never fails.
 pub fn empty(alloc: Global) -> Result<MemKeeper, AllocError>

@@ -1,16 +1,57 @@
 // The keeper in memory: without blocks, with faults that are planned, and with rows of a key that are hidden.
 use crate::commits::{no_delta, take_up};
-use crate::given::empty;
+use crate::given::{Trial, passes, passes_over};
 use mc_base::{Bytes, Cid, Counted, List, Text};
 use mc_block::write_block;
 use mc_keep::{ElementRow, KeepError, Keeper, KeeperPlan, Keepers};
-use mc_keep_mem::{FaultPlan, MemKeeper, MemKeepers};
+use mc_keep_mem::{FaultPlan, MemKeepers};
 use mc_model::{Element, Tomb, id_of};
 use std::alloc::{AllocError, Global};
 use std::sync::Wait;
 use std::test::Fail;
 
 const CID: Cid = Cid([7; 32]);
+
+// What is tried here on one keeper.
+#[derive(Clone, Copy)]
+enum Memory<'a> {
+    LeaveOut {
+        later: bool,
+        hidden: &'a [u8],
+        live: &'a [u8],
+    },
+    HidePair,
+    HaveNothing,
+    FailAt {
+        number: usize,
+    },
+    FailAtDesks,
+}
+
+impl<'a> Trial for Memory<'a> {
+    fn passes<K: Keeper + Drop, W: Wait>(
+        self,
+        alloc: Global,
+        keeper: K,
+        wait: &W,
+    ) -> Result<bool, Fail>
+    where
+        K::Desk: Drop,
+    {
+        let answer = match self {
+            Memory::LeaveOut {
+                later,
+                hidden,
+                live,
+            } => hidden_are_left_out(keeper, alloc, later, hidden, live),
+            Memory::HidePair => hides_its_pair(keeper, alloc),
+            Memory::HaveNothing => is_empty(keeper, alloc),
+            Memory::FailAt { number } => Ok(fails_at(keeper, alloc, number)),
+            Memory::FailAtDesks => desks_fail_as_planned(wait, keeper, alloc),
+        };
+        Ok(answer?)
+    }
+}
 
 // The bytes of a block of priority 1 that sets a key to one byte.
 fn element(alloc: Global, key: &str, value: u8) -> Result<Bytes, AllocError> {
@@ -146,7 +187,12 @@ fn live_rows_of_a_key(rt: HostRuntime) -> Result<(), Fail> {
     ];
     for (hidden, live) in cases {
         for later in [false, true] {
-            assert!(rt; hidden_are_left_out(empty(alloc)?, alloc, later, hidden, live)?);
+            let trial = Memory::LeaveOut {
+                later,
+                hidden,
+                live,
+            };
+            assert!(rt; passes(trial, alloc, &rt)?);
         }
     }
     Ok(())
@@ -161,8 +207,7 @@ fn hides_its_pair<K: Keeper + Drop>(keeper: K, alloc: Global) -> Result<bool, Ke
 
 #[test]
 fn tombstones(rt: HostRuntime) -> Result<(), Fail> {
-    let alloc = rt.alloc();
-    assert!(rt; hides_its_pair(empty(alloc)?, alloc)?);
+    assert!(rt; passes(Memory::HidePair, rt.alloc(), &rt)?);
     Ok(())
 }
 
@@ -179,10 +224,6 @@ fn read_plan(alloc: Global, read: u64) -> Result<FaultPlan, AllocError> {
     plan.desks.push(List::new(alloc))?;
     plan.desks.push(numbers(alloc, 2)?)?;
     Ok(plan)
-}
-
-fn failing(alloc: Global, read: u64) -> Result<MemKeeper, AllocError> {
-    MemKeeper::new(alloc, read_plan(alloc, read)?)
 }
 
 // Whether the keeper has no block, and then no row, and then no value.
@@ -239,8 +280,7 @@ fn is_empty<K: Keeper + Drop>(keeper: K, alloc: Global) -> Result<bool, KeepErro
 
 #[test]
 fn an_empty_keeper_has_nothing(rt: HostRuntime) -> Result<(), Fail> {
-    let alloc = rt.alloc();
-    assert!(rt; is_empty(empty(alloc)?, alloc)?);
+    assert!(rt; passes(Memory::HaveNothing, rt.alloc(), &rt)?);
     Ok(())
 }
 
@@ -289,14 +329,17 @@ fn fails_at<K: Keeper + Drop>(keeper: K, alloc: Global, number: usize) -> bool {
 fn a_planned_read_fails_alone(rt: HostRuntime) -> Result<(), Fail> {
     let alloc = rt.alloc();
     for number in 1..16u8 {
-        let keeper = failing(alloc, u64::from(number))?;
-        assert!(rt; fails_at(keeper, alloc, usize::from(number)));
+        let plan = read_plan(alloc, u64::from(number))?;
+        let trial = Memory::FailAt {
+            number: usize::from(number),
+        };
+        assert!(rt; passes_over(trial, alloc, plan, &rt)?);
     }
     Ok(())
 }
 
 // The number of the one read of three through a new desk that fails and is counted at the desk.
-fn failing_desk_read<W: Wait + Sync, K: Keeper>(
+fn failing_desk_read<W: Wait, K: Keeper>(
     rt: &W,
     keeper: &mut K,
     alloc: Global,
@@ -318,7 +361,7 @@ where
 }
 
 // Whether just the second read of the second desk fails, and its failure isn't one of the keeper.
-fn desks_fail_as_planned<W: Wait + Sync, K: Keeper + Drop>(
+fn desks_fail_as_planned<W: Wait, K: Keeper + Drop>(
     rt: &W,
     keeper: K,
     alloc: Global,
@@ -338,8 +381,8 @@ where
 #[test]
 fn a_planned_read_of_a_desk_fails_alone(rt: HostRuntime) -> Result<(), Fail> {
     let alloc = rt.alloc();
-    let keeper = failing(alloc, 100)?;
-    assert!(rt; desks_fail_as_planned(&rt, keeper, alloc)?);
+    let plan = read_plan(alloc, 100)?;
+    assert!(rt; passes_over(Memory::FailAtDesks, alloc, plan, &rt)?);
     Ok(())
 }
 

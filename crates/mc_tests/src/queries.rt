@@ -1,19 +1,46 @@
 // Reads over an empty keeper, over one whose reads fail, and over rows made by hand.
+use crate::given::{Trial, passes_over};
 use crate::hand_made::HandMade;
 use mc_base::{Bytes, Counted, List, Text};
 use mc_keep::{KeepError, Keeper};
-use mc_keep_mem::{FaultPlan, MemKeeper};
+use mc_keep_mem::FaultPlan;
 use mc_query::{Pair, get, has, query};
 use std::alloc::{AllocError, Global};
+use std::sync::Wait;
 use std::test::Fail;
 
-// A keeper without keys, whose reads with these numbers fail.
-fn empty(alloc: Global, failing: &[u64]) -> Result<MemKeeper, AllocError> {
+// A plan by which the reads with these numbers fail.
+fn plan_of(alloc: Global, failing: &[u64]) -> Result<FaultPlan, AllocError> {
     let mut plan = FaultPlan::nothing(alloc);
     for number in failing {
         plan.reads.push(*number)?;
     }
-    MemKeeper::new(alloc, plan)
+    Ok(plan)
+}
+
+// What is tried here on a keeper without keys.
+#[derive(Clone, Copy)]
+enum Queries {
+    HaveNoKeys,
+    FailThrice,
+}
+
+impl Trial for Queries {
+    fn passes<K: Keeper + Drop, W: Wait>(
+        self,
+        alloc: Global,
+        keeper: K,
+        _wait: &W,
+    ) -> Result<bool, Fail>
+    where
+        K::Desk: Drop,
+    {
+        let answer = match self {
+            Queries::HaveNoKeys => has_no_keys(keeper, alloc),
+            Queries::FailThrice => fails_thrice(keeper, alloc),
+        };
+        Ok(answer?)
+    }
 }
 
 fn has_no_keys<K: Keeper + Drop>(keeper: K, alloc: Global) -> Result<bool, KeepError> {
@@ -31,7 +58,7 @@ fn has_no_keys<K: Keeper + Drop>(keeper: K, alloc: Global) -> Result<bool, KeepE
 #[test]
 fn an_empty_keeper_has_no_keys(rt: HostRuntime) -> Result<(), Fail> {
     let alloc = rt.alloc();
-    assert!(rt; has_no_keys(empty(alloc, &[])?, alloc)?);
+    assert!(rt; passes_over(Queries::HaveNoKeys, alloc, plan_of(alloc, &[])?, &rt)?);
     Ok(())
 }
 
@@ -52,7 +79,8 @@ fn fails_thrice<K: Keeper + Drop>(keeper: K, alloc: Global) -> Result<bool, Keep
 #[test]
 fn a_failing_read_fails_the_call(rt: HostRuntime) -> Result<(), Fail> {
     let alloc = rt.alloc();
-    assert!(rt; fails_thrice(empty(alloc, &[1, 2, 3])?, alloc)?);
+    let plan = plan_of(alloc, &[1, 2, 3])?;
+    assert!(rt; passes_over(Queries::FailThrice, alloc, plan, &rt)?);
     Ok(())
 }
 

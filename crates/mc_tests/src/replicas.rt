@@ -4,7 +4,7 @@ ghost use Rattle.mc_fetch.specs.Fits.{FoundHas};
 ghost use Rattle.mc_model.specs.State.{HasSoundMark};
 
 use crate::commits::{element, no_delta};
-use crate::given::empty;
+use crate::given::{Trial, passes};
 use mc_base::{Bytes, Cid};
 use mc_block::write_block;
 use mc_cast::write_cast;
@@ -12,6 +12,7 @@ use mc_core::{CoreError, Replica, Settled, WalkStep};
 use mc_fetch::{Delivered, Found};
 use mc_keep::Keeper;
 use std::alloc::{AllocError, Global};
+use std::sync::Wait;
 use std::test::Fail;
 
 // The bytes of a block that links to this one.
@@ -46,6 +47,14 @@ pub(crate) fn opened<K: Keeper + Drop>(alloc: Global, keeper: K) -> Result<Repli
     match Replica::open(alloc, keeper) {
         Ok(replica) => Ok(replica),
         Err(_) => Err(CoreError::KeeperFault),
+    }
+}
+
+/// Whether the replica runs and has processed so many blocks.
+pub(crate) fn has_processed<K: Keeper>(replica: &Replica<K>, count: u64) -> bool {
+    match replica.report() {
+        Ok(report) => report.processed == count,
+        Err(_) => false,
     }
 }
 
@@ -131,34 +140,51 @@ fn rest_comes<K: Keeper>(
     )
 }
 
+// Whether a replica that was stopped with the gap finds it, and is clean after the rest of the chain.
+fn comes_clean<K: Keeper>(
+    replica: &mut Replica<K>,
+    alloc: Global,
+    chain: Chain,
+) -> Result<bool, CoreError> {
+    Ok(
+        walks(replica, alloc)?
+            && settles(replica, Settled::Open { gaps: 1 })?
+            && rest_comes(replica, alloc, chain)?
+            && settles(replica, Settled::Clean)?,
+    )
+}
+
+// The same from its keeper on. Whoever owns a replica has one way out with it, since each proves the dropping of all
+// that it holds.
+fn opens_and_comes_clean<K: Keeper + Drop>(
+    keeper: K,
+    alloc: Global,
+    chain: Chain,
+) -> Result<bool, CoreError>
+    requires { IfSome (K.told keeper) HasSoundMark }
+{
+    let mut replica = opened(alloc, keeper)?;
+    comes_clean(&mut replica, alloc, chain)
+}
+
 // A chain whose last block is processed alone before a stop is repaired.
 fn repairs<K: Keeper + Drop>(keeper: K, alloc: Global) -> Result<bool, CoreError>
     requires { IfSome (K.told keeper) HasSoundMark }
 {
     let chain = make_chain(alloc)?;
     let mut replica = opened(alloc, keeper)?;
-    if !last_alone(&mut replica, alloc, chain)? {
-        return Ok(false);
-    }
-    let mut replica = opened(alloc, replica.stop())?;
-    Ok(
-        walks(&mut replica, alloc)?
-            && settles(&replica, Settled::Open { gaps: 1 })?
-            && rest_comes(&mut replica, alloc, chain)?
-            && settles(&replica, Settled::Clean)?,
-    )
+    let alone = last_alone(&mut replica, alloc, chain);
+    let clean = opens_and_comes_clean(replica.stop(), alloc, chain);
+    Ok(alone? && clean?)
 }
 
 // What no offer has and what is damaged is wanted again when it is heard again, and after a requeue.
-fn wants_again<K: Keeper + Drop>(keeper: K, alloc: Global) -> Result<bool, CoreError>
-    requires { IfSome (K.told keeper) HasSoundMark }
-{
+fn is_wanted_again<K: Keeper>(replica: &mut Replica<K>, alloc: Global) -> Result<bool, CoreError> {
     let damaged = Cid::of(b"no block");
-    let mut replica = opened(alloc, keeper)?;
-    let queued = hears(&mut replica, alloc, damaged)?;
-    let missing = fetches(&mut replica, alloc, element(alloc, 1)?)?;
-    let again = hears(&mut replica, alloc, damaged)?;
-    let bad = fetches(&mut replica, alloc, Bytes::from_slice(alloc, b"no block")?)?;
+    let queued = hears(replica, alloc, damaged)?;
+    let missing = fetches(replica, alloc, element(alloc, 1)?)?;
+    let again = hears(replica, alloc, damaged)?;
+    let bad = fetches(replica, alloc, Bytes::from_slice(alloc, b"no block")?)?;
     replica.requeue();
     let counts = replica.report()?.counts;
     Ok(
@@ -171,49 +197,93 @@ fn wants_again<K: Keeper + Drop>(keeper: K, alloc: Global) -> Result<bool, CoreE
     )
 }
 
-// A job that is given back is the next one again, one that is recalled, too, and what comes late is known.
-fn gives_back<K: Keeper + Drop>(keeper: K, alloc: Global) -> Result<bool, CoreError>
+// The same from its keeper on.
+fn wants_again<K: Keeper + Drop>(keeper: K, alloc: Global) -> Result<bool, CoreError>
     requires { IfSome (K.told keeper) HasSoundMark }
 {
-    let cid = Cid::of(element(alloc, 1)?.as_slice());
     let mut replica = opened(alloc, keeper)?;
-    hears(&mut replica, alloc, cid)?;
+    is_wanted_again(&mut replica, alloc)
+}
+
+// Whether there is a job, which is given back.
+fn gives_one_back<K: Keeper>(replica: &mut Replica<K>, alloc: Global) -> Result<bool, CoreError> {
     let Some(first) = replica.next_job(alloc)? else {
         return Ok(false);
     };
     replica.give_back(first);
+    Ok(true)
+}
+
+// Whether the block is known that comes after its job was recalled, and one waits then.
+fn comes_late<K: Keeper>(replica: &mut Replica<K>, alloc: Global) -> Result<bool, CoreError> {
     let Some(late) = replica.next_job(alloc)? else {
         return Ok(false);
     };
     replica.recall();
     let found = found_for(&late.cid, element(alloc, 1)?);
     let known = replica.deliver(alloc, late, found)? == Delivered::Known;
-    let waits = replica.report()?.counts.waiting == 1;
+    Ok(known && replica.report()?.counts.waiting == 1)
+}
+
+// A job that is given back is the next one again, one that is recalled, too, and what comes late is known.
+fn job_comes_back<K: Keeper>(replica: &mut Replica<K>, alloc: Global) -> Result<bool, CoreError> {
+    hears(replica, alloc, Cid::of(element(alloc, 1)?.as_slice()))?;
     Ok(
-        known
-            && waits
-            && fetches(&mut replica, alloc, element(alloc, 1)?)?
-                == Delivered::Processed { position: 0 },
+        gives_one_back(replica, alloc)?
+            && comes_late(replica, alloc)?
+            && fetches(replica, alloc, element(alloc, 1)?)? == Delivered::Processed { position: 0 },
     )
+}
+
+// The same from its keeper on.
+fn gives_back<K: Keeper + Drop>(keeper: K, alloc: Global) -> Result<bool, CoreError>
+    requires { IfSome (K.told keeper) HasSoundMark }
+{
+    let mut replica = opened(alloc, keeper)?;
+    job_comes_back(&mut replica, alloc)
+}
+
+// What is tried here.
+#[derive(Clone, Copy)]
+enum Replicas {
+    Repair,
+    WantAgain,
+    GiveBack,
+}
+
+impl Trial for Replicas {
+    fn passes<K: Keeper + Drop, W: Wait>(
+        self,
+        alloc: Global,
+        keeper: K,
+        _wait: &W,
+    ) -> Result<bool, Fail>
+    where
+        K::Desk: Drop,
+    {
+        let answer = match self {
+            Replicas::Repair => repairs(keeper, alloc),
+            Replicas::WantAgain => wants_again(keeper, alloc),
+            Replicas::GiveBack => gives_back(keeper, alloc),
+        };
+        Ok(answer?)
+    }
 }
 
 #[test]
 fn a_chain_is_repaired(rt: HostRuntime) -> Result<(), Fail> {
-    let alloc = rt.alloc();
-    assert!(rt; repairs(empty(alloc)?, alloc)?);
+    assert!(rt; passes(Replicas::Repair, rt.alloc(), &rt)?);
     Ok(())
 }
 
 #[test]
 fn a_wanted_block_comes_again(rt: HostRuntime) -> Result<(), Fail> {
-    let alloc = rt.alloc();
-    assert!(rt; wants_again(empty(alloc)?, alloc)?);
+    assert!(rt; passes(Replicas::WantAgain, rt.alloc(), &rt)?);
     Ok(())
 }
 
 #[test]
 fn a_job_comes_back(rt: HostRuntime) -> Result<(), Fail> {
-    let alloc = rt.alloc();
-    assert!(rt; gives_back(empty(alloc)?, alloc)?);
+    assert!(rt; passes(Replicas::GiveBack, rt.alloc(), &rt)?);
     Ok(())
 }

@@ -3,7 +3,7 @@ ghost use Rattle.std.specs.Prelude.{IfSome};
 ghost use Rattle.mc_model.specs.State.{HasSoundMark};
 
 use crate::given::empty;
-use crate::replicas::opened;
+use crate::replicas::{has_processed, opened};
 use mc_core::{CoreError, Report};
 use mc_keep::{Fused, Keeper};
 use mc_node::{StormError, Stormed, storm};
@@ -35,7 +35,7 @@ where
         made: 16_000,
         same: 16_000,
     };
-    Ok(answer == Ok(all) && left.report()?.processed == 16_000)
+    Ok(answer == Ok(all) && has_processed(&left, 16_000))
 }
 
 // The fifth commit fails: the storm ends, the replica has stopped, and a second storm is refused.
