@@ -1,8 +1,9 @@
 // Commits that a fuse lets fail, over keepers that fail by themselves too.
 ghost use Rattle.std.specs.Prelude.{◌≡◌, ◌∷◌, [], IfOk};
 
-use crate::commits::{element, has_front, has_head, has_value, no_delta, process, store_bytes};
+use crate::commits::{element, no_delta, process, store_bytes};
 use crate::given::{Trial, passes, passes_over};
+use crate::shown::{has_front, has_head, has_value};
 use mc_base::{Bytes, Cid, Counted, Text};
 use mc_block::write_block;
 use mc_keep::{Fused, KeepError, Keeper};

@@ -22,6 +22,8 @@ mod given;
 #[cfg(test)]
 mod hand_made;
 #[cfg(test)]
+mod makers;
+#[cfg(test)]
 mod memory;
 #[cfg(test)]
 mod nodes;
@@ -31,5 +33,7 @@ mod queries;
 mod replicas;
 #[cfg(test)]
 mod rows;
+#[cfg(test)]
+mod shown;
 #[cfg(test)]
 mod storms;

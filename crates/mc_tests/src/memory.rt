@@ -3,8 +3,8 @@ use crate::commits::{no_delta, take_up};
 use crate::given::{Trial, passes, passes_over};
 use mc_base::{Bytes, Cid, Counted, List, Text};
 use mc_block::write_block;
-use mc_keep::{ElementRow, KeepError, Keeper, KeeperPlan, Keepers};
-use mc_keep_mem::{FaultPlan, MemKeepers};
+use mc_keep::{ElementRow, KeepError, Keeper};
+use mc_keep_mem::FaultPlan;
 use mc_model::{Element, Tomb, id_of};
 use std::alloc::{AllocError, Global};
 use std::sync::Wait;
@@ -211,14 +211,15 @@ fn tombstones(rt: HostRuntime) -> Result<(), Fail> {
     Ok(())
 }
 
-fn numbers(alloc: Global, number: u64) -> Result<List<u64>, AllocError> {
+/// A list of this number.
+pub fn numbers(alloc: Global, number: u64) -> Result<List<u64>, AllocError> {
     let mut numbers = List::new(alloc);
     numbers.push(number)?;
     Ok(numbers)
 }
 
-// A plan by which this read fails, and the second read of the second desk.
-fn read_plan(alloc: Global, read: u64) -> Result<FaultPlan, AllocError> {
+/// A plan by which this read fails, and the second read of the second desk.
+pub fn read_plan(alloc: Global, read: u64) -> Result<FaultPlan, AllocError> {
     let mut plan = FaultPlan::nothing(alloc);
     plan.reads = numbers(alloc, read)?;
     plan.desks.push(List::new(alloc))?;
@@ -383,42 +384,5 @@ fn a_planned_read_of_a_desk_fails_alone(rt: HostRuntime) -> Result<(), Fail> {
     let alloc = rt.alloc();
     let plan = read_plan(alloc, 100)?;
     assert!(rt; passes_over(Memory::FailAtDesks, alloc, plan, &rt)?);
-    Ok(())
-}
-
-// Whether the first read of the keeper with this index fails, and none where its making failed.
-fn first_read_fails<M: Keepers>(keepers: &mut M, alloc: Global, index: u64) -> Option<bool> {
-    let Ok(mut keeper) = keepers.make(alloc, &KeeperPlan::Memory, index) else {
-        return None;
-    };
-    let fails = keeper.has("/a").is_err();
-    keepers.end(keeper, List::new(alloc));
-    Some(fails)
-}
-
-// Whether just the first make fails, and then just the keeper with the index 1, whose failure is kept when it is taken
-// back.
-fn makes_as_planned<M: Keepers + Drop>(keepers: M, alloc: Global) -> bool {
-    let mut keepers = keepers;
-    first_read_fails(&mut keepers, alloc, 0).is_none()
-        && first_read_fails(&mut keepers, alloc, 0) == Some(false)
-        && keepers.lost() == 0
-        && first_read_fails(&mut keepers, alloc, 1) == Some(true)
-        && first_read_fails(&mut keepers, alloc, 2) == Some(false)
-        && keepers.faults() == 1
-        && keepers.lost() == 1
-}
-
-fn keepers(alloc: Global) -> Result<MemKeepers, AllocError> {
-    let mut plans = List::new(alloc);
-    plans.push(FaultPlan::nothing(alloc))?;
-    plans.push(read_plan(alloc, 1)?)?;
-    Ok(MemKeepers::new(plans, numbers(alloc, 1)?))
-}
-
-#[test]
-fn a_planned_make_fails_and_a_keeper_has_its_plan(rt: HostRuntime) -> Result<(), Fail> {
-    let alloc = rt.alloc();
-    assert!(rt; makes_as_planned(keepers(alloc)?, alloc));
     Ok(())
 }
