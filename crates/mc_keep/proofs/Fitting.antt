@@ -37,7 +37,6 @@ no_rows blocks stored mark = record {
   tombs_new = refl;
   tombs_once = refl;
   values = λ key. ap (λ b. value_row b key) (append-nil blocks);
-  values_named = refl;
   values_once = refl;
 }
 

@@ -10,7 +10,7 @@ use Rattle.mc_model.specs.Rank.{Ranked}
 use Rattle.mc_model.specs.Front.{Head, same_cid}
 use Rattle.mc_model.specs.Kept.{Kept, blocks_in}
 use Rattle.mc_keep.specs.declared.rows.TombRow.{TombRow}
-use Rattle.mc_keep.specs.declared.rows.ValueRow.{ValueRow}
+use Rattle.mc_keep.specs.declared.rows.RankedValue.{RankedValue}
 use Rattle.mc_keep.specs.declared.rows.HeadRow.{HeadRow}
 use Rattle.mc_keep.specs.declared.changes.ValueChange.{ValueChange}
 use Rattle.mc_keep.specs.declared.changes.Changes.{Changes}
@@ -48,8 +48,8 @@ changed kept changes =
 abbrev pub newly_processed : Kept → Changes → List Block
 newly_processed kept changes = blocks_in (kept.graph ++ changes.store) changes.marks
 
-abbrev pub ranked_row : Option ValueRow → Option Ranked
-ranked_row row = option_map (λ (r : ValueRow). (r.priority, r.value)) row
+abbrev pub ranked_value : Option RankedValue → Option Ranked
+ranked_value value = option_map (λ (v : RankedValue). (v.priority, v.value)) value
 
 -- whether this is the row of the key with the id
 abbrev pub is_tomb_row : List ℕ → List ℕ → TombRow → Bool
@@ -58,12 +58,12 @@ is_tomb_row key id row = bytes_eq row.key key && bytes_eq row.id id
 abbrev pub has_tomb_row : List TombRow → List ℕ → List ℕ → Bool
 has_tomb_row rows key id = list_any (is_tomb_row key id) rows
 
--- the row of a key after one change, and after changes in turn
+-- the value of a key after one change, and after changes in turn
 abbrev pub value_after : List ℕ → Option Ranked → ValueChange → Option Ranked
-value_after key row change = if bytes_eq change.key key then ranked_row change.row else row
+value_after key value change = if bytes_eq change.key key then ranked_value change.value else value
 
 abbrev pub values_after : List ℕ → Option Ranked → List ValueChange → Option Ranked
-values_after key row changes = fold (value_after key) row changes
+values_after key value changes = fold (value_after key) value changes
 
 abbrev pub head_in_row : HeadRow → Head
 head_in_row row = (row.cid, row.height)

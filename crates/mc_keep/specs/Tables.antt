@@ -15,7 +15,6 @@ use Rattle.mc_model.specs.Kept.{Kept, processed, is_stored, cids_of}
 use Rattle.mc_model.specs.Offer.{is_good}
 use Rattle.mc_keep.specs.declared.rows.ElementRow.{ElementRow}
 use Rattle.mc_keep.specs.declared.rows.TombRow.{TombRow}
-use Rattle.mc_keep.specs.declared.rows.ValueRow.{ValueRow}
 use Rattle.mc_keep.specs.declared.rows.Summary.{Summary}
 use Rattle.mc_keep.specs.declared.rows.HeadRow.{HeadRow}
 use Rattle.mc_keep.specs.declared.changes.ValueChange.{ValueChange}
@@ -40,10 +39,6 @@ same_element a b = bytes_eq a.key b.key && (same_cid a.cid b.cid && bytes_eq a.v
 abbrev pub same_tomb : TombRow → TombRow → Bool
 same_tomb a b = bytes_eq a.key b.key && bytes_eq a.id b.id
 
--- whether the new row of a key has that key
-abbrev pub is_named : ValueChange → Bool
-is_named change = elim change.row [ None ↦ true | Some row ↦ bytes_eq row.key change.key ]
-
 -- the rows of values, elements and tombstones turn those of `blocks` into those of `blocks` and `more`
 pub record RowsFit (blocks more : List Block) (changes : Changes) : Type 0 where
   pub elements : SameMembers changes.elements (element_rows more)
@@ -53,7 +48,6 @@ pub record RowsFit (blocks more : List Block) (changes : Changes) : Type 0 where
   pub tombs_new : list_any (λ (row : TombRow). has_tomb blocks row.key row.id) changes.tombs ≡ false
   pub tombs_once : is_once same_tomb changes.tombs ≡ true
   pub values : (key : List ℕ) → value_row (blocks ++ more) key ≡ values_after key (value_row blocks key) changes.values
-  pub values_named : list_all is_named changes.values ≡ true
   pub values_once : is_once (λ (a b : ValueChange). bytes_eq a.key b.key) changes.values ≡ true
 
 -- the rows of links and heads turn those of `blocks` into those of `blocks` and `more`
@@ -93,8 +87,3 @@ IsSummary kept summary =
 -- each number has room for as much again
 abbrev pub IsSmall : Summary → Type 0
 IsSmall summary = (summary.processed < 2 ^ 63) × (summary.stored < 2 ^ 63) × (summary.gaps < 2 ^ 63)
-
--- the row of a key with a value, or none
-abbrev pub IsValueRow : List Block → List ℕ → Option ValueRow → Type 0
-IsValueRow blocks key None = value_row blocks key ≡ None
-IsValueRow blocks key (Some row) = (row.key ≡ key) × (value_row blocks key ≡ Some (row.priority, row.value))

@@ -2,18 +2,18 @@
 ghost use Rattle.std.specs.Prelude.{◌≡◌, ◌-◌, ◌^◌, [], None, min};
 ghost use Rattle.mc_keep.specs.Changes.{row_count, no_changes};
 
-use crate::{ElementRow, HeadRow, TombRow, ValueRow};
+use crate::{ElementRow, HeadRow, RankedValue, TombRow};
 use mc_base::{Cid, List, Text};
 use mc_model::Stored;
 use std::alloc::Global;
 
-/// The new row of a key, or none where it has no value any more.
+/// The new value of a key, or none where it has no value any more.
 #[derive(Debug, Drop)]
 pub struct ValueChange {
     /// The key.
     pub key: Text,
-    /// Its row, with the same key.
-    pub row: Option<ValueRow>,
+    /// Its value.
+    pub value: Option<RankedValue>,
 }
 
 /// What one commit changes.
@@ -29,7 +29,7 @@ pub struct Changes {
     pub elements: List<ElementRow>,
     /// The new tombstone rows.
     pub tombs: List<TombRow>,
-    /// The keys whose value row changes.
+    /// The keys whose value changes.
     pub values: List<ValueChange>,
     /// The new heads.
     pub heads_in: List<HeadRow>,

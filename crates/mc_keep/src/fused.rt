@@ -4,7 +4,9 @@ ghost use Rattle.std.specs.Result.{is_err};
 ghost use Rattle.std.specs.Option.{option_map};
 ghost use Rattle.mc_keep.specs.Causes.{burnt, fires};
 
-use crate::{Changes, ElementRow, Fuse, HeadRow, KeepError, Keeper, Summary, ValueRow};
+use crate::{
+    Changes, ElementRow, Fuse, HeadRow, KeepError, Keeper, RankedValue, Summary, ValueRow,
+};
 use mc_base::{Bytes, Cid, Counted, Failed, List, Text};
 use std::alloc::{AllocError, Global};
 use std::sync::Wait;
@@ -179,7 +181,11 @@ impl<K: Keeper> Keeper for Fused<K> {
         self.keeper.hidden(key, id)
     }
 
-    fn value(&mut self, alloc: Global, key: &str) -> Result<Option<ValueRow>, KeepError> {
+    fn hides(&mut self, alloc: Global, key: &str, cid: &Cid) -> Result<bool, KeepError> {
+        self.keeper.hides(alloc, key, cid)
+    }
+
+    fn value(&mut self, alloc: Global, key: &str) -> Result<Option<RankedValue>, KeepError> {
         self.keeper.value(alloc, key)
     }
 

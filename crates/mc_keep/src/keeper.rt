@@ -7,12 +7,13 @@ ghost use Rattle.std.specs.List.{position};
 ghost use Rattle.mc_base.specs.Causes.{Rose};
 ghost use Rattle.mc_base.specs.Told.{Told};
 ghost use Rattle.mc_model.specs.Ascending.{Ascends};
+ghost use Rattle.mc_model.specs.Id.{id_text};
 ghost use Rattle.mc_model.specs.Live.{has_tomb, value_row};
 ghost use Rattle.mc_model.specs.Front.{same_cid, is_linked, heads};
 ghost use Rattle.mc_model.specs.Kept.{Kept, IsKept, processed, bytes_at, is_stored};
 ghost use Rattle.mc_keep.specs.Causes.{IfTold, CountGoes, fires, CommitFails};
 ghost use Rattle.mc_keep.specs.Frame.{ReadsAt, ReservesAt, CommitsAt};
-ghost use Rattle.mc_keep.specs.Changes.{row_count, changed, heads_in_rows};
+ghost use Rattle.mc_keep.specs.Changes.{row_count, changed, heads_in_rows, ranked_value};
 ghost use Rattle.mc_keep.specs.Next.{AreNext, IsKeyAt};
 ghost use Rattle.mc_keep.specs.ElementOrder.{element_cmp};
 ghost use Rattle.mc_keep.specs.LiveRows.{IsHolder, live_element_rows};
@@ -26,9 +27,9 @@ ghost use Rattle.mc_keep.specs.Plan.{
   is_fault,
   without_desks,
 };
-ghost use Rattle.mc_keep.specs.Tables.{ChangesFit, IsSummary, IsSmall, IsValueRow};
+ghost use Rattle.mc_keep.specs.Tables.{ChangesFit, IsSummary, IsSmall};
 
-use crate::{Changes, ElementRow, HeadRow, KeepError, Summary, ValueRow};
+use crate::{Changes, ElementRow, HeadRow, KeepError, RankedValue, Summary, ValueRow};
 use mc_base::{Bytes, Cid, Counted, Failed, List, Text};
 use std::alloc::{AllocError, Global};
 use std::sync::Wait;
@@ -153,9 +154,18 @@ pub trait Keeper: Counted {
         ensures reads { ReadsAt told fuse spare own Self.faults quiet schedule (is_err result) self.old self.new }
         ensures planned { ReadsAsPlanned (schedule self.old) (schedule self.new) (is_err result) };
 
-    /// The value row of a key, or none where it has no value.
-    fn value(&mut self, alloc: Global, key: &str) -> Result<Option<ValueRow>, KeepError>
-        ensures row { IfTold (told self.old) result (λ kept row. IsValueRow (processed kept) key.now row) }
+    /// Whether a processed block has a tombstone of the key that names the block. The block's id is for the keeper to
+    /// make, where it needs one.
+    fn hides(&mut self, alloc: Global, key: &str, cid: &Cid) -> Result<bool, KeepError>
+        ensures row { IfTold (told self.old) result (λ kept found.
+            found ≡ has_tomb (processed kept) key.now (id_text cid.now.0)) }
+        ensures reads { ReadsAt told fuse spare own Self.faults quiet schedule (is_fault result) self.old self.new }
+        ensures planned { ReadsAsPlanned (schedule self.old) (schedule self.new) (is_fault result) };
+
+    /// The value of a key, or none where it has none.
+    fn value(&mut self, alloc: Global, key: &str) -> Result<Option<RankedValue>, KeepError>
+        ensures row { IfTold (told self.old) result (λ kept value.
+            ranked_value value ≡ value_row (processed kept) key.now) }
         ensures reads { ReadsAt told fuse spare own Self.faults quiet schedule (is_fault result) self.old self.new }
         ensures planned { ReadsAsPlanned (schedule self.old) (schedule self.new) (is_fault result) };
 

@@ -19,4 +19,4 @@ pub use keeper::Keeper;
 pub use keepers::{KeeperPlan, Keepers};
 pub use laws::{changes_fit, commits_are_events, fuses_fire_once, ties_are_equal};
 pub use mc_model::Stored;
-pub use rows::{ElementRow, HeadRow, Summary, TombRow, ValueRow};
+pub use rows::{ElementRow, HeadRow, RankedValue, Summary, TombRow, ValueRow};

@@ -80,7 +80,16 @@ pub struct TombRow {
     pub id: Text,
 }
 
-/// The value of a key, with the priority of the block that set it.
+/// A value, with the priority of the block that set it.
+#[derive(Debug, Drop)]
+pub struct RankedValue {
+    /// The priority.
+    pub priority: u64,
+    /// The value.
+    pub value: Bytes,
+}
+
+/// A key with its value, and with the priority of the block that set it.
 #[derive(Debug, Drop)]
 pub struct ValueRow {
     /// The key.

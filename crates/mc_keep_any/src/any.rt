@@ -6,7 +6,7 @@ ghost use Rattle.mc_keep_any.specs.Sound.{either_sound};
 
 use crate::desk::{AnyDesk, Inside};
 use mc_base::{Bytes, Cid, Counted, Failed, List, Text};
-use mc_keep::{Changes, ElementRow, HeadRow, KeepError, Keeper, Summary, ValueRow};
+use mc_keep::{Changes, ElementRow, HeadRow, KeepError, Keeper, RankedValue, Summary, ValueRow};
 use std::alloc::{AllocError, Global};
 use std::sync::Wait;
 
@@ -154,7 +154,14 @@ impl<A: Keeper, B: Keeper> Keeper for AnyKeeper<A, B> {
         }
     }
 
-    fn value(&mut self, alloc: Global, key: &str) -> Result<Option<ValueRow>, KeepError> {
+    fn hides(&mut self, alloc: Global, key: &str, cid: &Cid) -> Result<bool, KeepError> {
+        match self {
+            AnyKeeper::Memory(keeper) => keeper.hides(alloc, key, cid),
+            AnyKeeper::File(keeper) => keeper.hides(alloc, key, cid),
+        }
+    }
+
+    fn value(&mut self, alloc: Global, key: &str) -> Result<Option<RankedValue>, KeepError> {
         match self {
             AnyKeeper::Memory(keeper) => keeper.value(alloc, key),
             AnyKeeper::File(keeper) => keeper.value(alloc, key),

@@ -18,8 +18,8 @@ use Rattle.mc_model.proofs.Members.{list_any-filter}
 use Rattle.mc_keep.specs.declared.changes.Changes.{Changes}
 use Rattle.mc_keep.specs.declared.changes.ValueChange.{ValueChange}
 use Rattle.mc_keep.specs.declared.rows.ElementRow.{ElementRow}
-use Rattle.mc_keep.specs.declared.rows.ValueRow.{ValueRow}
-use Rattle.mc_keep.specs.Changes.{has_tomb_row, newly_processed, ranked_row, value_after, values_after}
+use Rattle.mc_keep.specs.declared.rows.RankedValue.{RankedValue}
+use Rattle.mc_keep.specs.Changes.{has_tomb_row, newly_processed, ranked_value, value_after, values_after}
 use Rattle.mc_keep.specs.LiveRows.{is_shown, ranked_of}
 use Rattle.mc_keep.specs.Tables.{element_rows, element_rows_of, ChangesFit}
 use Rattle.mc_keep_mem.specs.Places.{last_in, value_in}
@@ -37,7 +37,7 @@ untouched : (key : List ℕ) (row : Option Ranked) (changes : List ValueChange) 
 untouched key row [] e = refl
 untouched key row (change ∷ changes) e =
     let parts = or_parts (bytes_eq key change.key) (list_any (λ (c : ValueChange). bytes_eq key c.key) changes) e in
-    ap (λ (b : Bool). values_after key (if b then ranked_row change.row else row) changes) (nat_list_eq_equiv.symm change.key key ∙ parts.0)
+    ap (λ (b : Bool). values_after key (if b then ranked_value change.value else row) changes) (nat_list_eq_equiv.symm change.key key ∙ parts.0)
     ∙ untouched key row changes parts.1
 
 -- where each value after the changes is that of a row, and no key is changed twice, the changes bring such values
@@ -47,16 +47,16 @@ all_brought rows old [] once are = refl
 all_brought rows old (change ∷ changes) once are =
     let parts = and_parts (not (list_any (λ (c : ValueChange). bytes_eq change.key c.key) changes)) (is_once (λ (a b : ValueChange). bytes_eq a.key b.key) changes) once in
     and_from (is_brought rows change) (list_all (is_brought rows) changes)
-    (by change.row refl (not-true (list_any (λ (c : ValueChange). bytes_eq change.key c.key) changes) parts.0))
+    (by change.value refl (not-true (list_any (λ (c : ValueChange). bytes_eq change.key c.key) changes) parts.0))
     (all_brought rows (λ key. value_after key (old key) change) changes parts.1 are)
   where
-    by : (row : Option ValueRow) → change.row ≡ row → list_any (λ (c : ValueChange). bytes_eq change.key c.key) changes ≡ false
-        → elim row as (λ _. Bool) [ None ↦ true | Some r ↦ is_some (row_with (r.priority, r.value) (rows change.key)) ] ≡ true
+    by : (value : Option RankedValue) → change.value ≡ value → list_any (λ (c : ValueChange). bytes_eq change.key c.key) changes ≡ false
+        → elim value as (λ _. Bool) [ None ↦ true | Some r ↦ is_some (row_with (r.priority, r.value) (rows change.key)) ] ≡ true
     by None is e = refl
     by (Some r) is e =
         are change.key (r.priority, r.value)
-        (ap (λ (b : Bool). values_after change.key (if b then ranked_row change.row else old change.key) changes) ((bytes_eq-Decides change.key change.key).1 refl)
-        ∙ untouched change.key (ranked_row change.row) changes e ∙ ap ranked_row is)
+        (ap (λ (b : Bool). values_after change.key (if b then ranked_value change.value else old change.key) changes) ((bytes_eq-Decides change.key change.key).1 refl)
+        ∙ untouched change.key (ranked_value change.value) changes e ∙ ap ranked_value is)
 
 -- a test that passes where another one does
 any_up : (a b : ElementRow → Bool) (rows : List ElementRow) → ((row : ElementRow) → a row ≡ true → b row ≡ true) → list_any a rows ≡ true → list_any b rows ≡ true

@@ -25,9 +25,9 @@ row_with ranked rows = find (λ (row : ElementRow). same_ranked ranked (ranked_o
 
 -- whether the value that a change brings is that of a row of its key
 abbrev pub is_brought : (List ℕ → List ElementRow) → ValueChange → Bool
-is_brought rows change = elim change.row [
+is_brought rows change = elim change.value [
   | None ↦ true
-  | Some row ↦ is_some (row_with (row.priority, row.value) (rows change.key))
+  | Some value ↦ is_some (row_with (value.priority, value.value) (rows change.key))
 ]
 
 -- whether there is a row, which is hidden or one of these

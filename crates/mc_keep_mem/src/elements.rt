@@ -1,6 +1,7 @@
 // The table of element rows, with room for the next commits: the rows of a key are a chain from its last row to its
 // first.
-ghost use Rattle.std.specs.Prelude.{◌≡◌, ℕ, ◌<◌, ◌≤◌, ◌+◌, ◌∷◌, length, fold, vec_len, vec_capacity, IfOk, OnOk, cond};
+ghost use Rattle.std.specs.Prelude.{◌≡◌, ℕ, ◌<◌, ◌≤◌, ◌+◌, ◌-◌, ◌^◌, ◌∷◌, length, fold, vec_len, vec_capacity};
+ghost use Rattle.std.specs.Prelude.{IfOk, IfSome, OnOk, cond};
 ghost use Rattle.std.specs.Prelude as prelude;
 ghost use Rattle.std.specs.HashMap.{spare};
 ghost use Rattle.std.specs.Str.{bytes_eq};
@@ -8,6 +9,8 @@ ghost use Rattle.mc_keep_mem.specs.Chains.{AreChains, KeepsRows, rows_in, row_of
 ghost use Rattle.mc_keep_mem.specs.Places.{last_in, value_in, texts_in, KeepsTexts};
 
 use crate::places::{Places, reserve_keys, set_last};
+use crate::short::ShortBytes;
+use crate::spot::Spot;
 use indexmap::IndexMap;
 use mc_base::{Bytes, Cid, Text};
 use mc_keep::ElementRow;
@@ -19,8 +22,8 @@ use std::hash::BuildHasher;
 pub(crate) struct Node {
     pub(crate) cid: Cid,
     pub(crate) priority: u64,
-    pub(crate) value: Bytes,
-    pub(crate) before: Option<usize>,
+    pub(crate) value: ShortBytes,
+    pub(crate) before: Spot,
 }
 
 /// The element rows, and where those of each key are.
@@ -53,12 +56,20 @@ pub(crate) fn put_element<S: BuildHasher + Drop>(elements: &mut Elements<S>, row
     } = row;
     let place = count_of(&elements.nodes);
     let before = set_last(&mut elements.keys, key, place);
-    elements.nodes.push_reserved(Node {
+    let node = node_with(cid, priority, value, before);
+    elements.nodes.push_reserved(node);
+}
+
+fn node_with(cid: Cid, priority: u64, value: Bytes, before: Option<usize>) -> Node
+    requires small { IfSome before (λ place. place < 2 ^ 64 - 1) }
+    ensures { result ≡ record { cid = cid; priority = priority; value = value; before = before } }
+{
+    Node {
         cid,
         priority,
-        value,
-        before,
-    });
+        value: ShortBytes::from_bytes(value),
+        before: Spot::of(before),
+    }
 }
 
 fn count_of(nodes: &Vec<Node>) -> usize
@@ -75,7 +86,7 @@ pub(crate) fn row_of(alloc: Global, key: &str, node: &Node) -> Result<ElementRow
         key: Text::from_text(alloc, key)?,
         cid: node.cid,
         priority: node.priority,
-        value: node.value.try_clone(alloc)?,
+        value: node.value.to_bytes(alloc)?,
     })
 }
 

@@ -37,7 +37,7 @@ pub(crate) fn holder_of<S: BuildHasher + Drop>(
         if holds(alloc, tombs, key, held, node)? {
             return Ok(Some(node.cid));
         }
-        at = node.before;
+        at = node.before.place();
     }
     Ok(None)
 }
@@ -66,7 +66,7 @@ pub(crate) fn place_with<S: BuildHasher + Drop>(
         if has_value(node, priority, value) {
             return Some((number, place));
         }
-        at = node.before;
+        at = node.before.place();
     }
     None
 }
@@ -84,7 +84,7 @@ fn holds<S: BuildHasher + Drop>(
     if !has_value(node, held.priority, held.value.as_slice()) {
         return Ok(false);
     }
-    Ok(!is_hidden(alloc, tombs, key, node)?)
+    Ok(!is_hidden(alloc, tombs, key, &node.cid)?)
 }
 
 fn has_value(node: &Node, priority: u64, value: &[u8]) -> bool

@@ -8,7 +8,7 @@ ghost use Rattle.mc_keep_mem.specs.Faults.{fails_never, schedule_of};
 use crate::plan::{FaultPlan, Faults, MemDesk};
 use crate::store::Store;
 use mc_base::{Bytes, Cid, Counted, Failed, List, Text};
-use mc_keep::{Changes, ElementRow, HeadRow, KeepError, Keeper, Summary, ValueRow};
+use mc_keep::{Changes, ElementRow, HeadRow, KeepError, Keeper, RankedValue, Summary, ValueRow};
 use std::alloc::{AllocError, Global};
 use std::hash::{BuildHasher, BuildHasherDefault, FoldHasher};
 use std::sync::Wait;
@@ -165,7 +165,14 @@ impl<S: BuildHasher + Drop> Keeper for MemKeeper<S> {
         Ok(self.store.hidden(key, id))
     }
 
-    fn value(&mut self, alloc: Global, key: &str) -> Result<Option<ValueRow>, KeepError> {
+    fn hides(&mut self, alloc: Global, key: &str, cid: &Cid) -> Result<bool, KeepError> {
+        if self.faults.read_fails() {
+            return Err(KeepError::Failed);
+        }
+        Ok(self.store.hides(alloc, key, cid)?)
+    }
+
+    fn value(&mut self, alloc: Global, key: &str) -> Result<Option<RankedValue>, KeepError> {
         if self.faults.read_fails() {
             return Err(KeepError::Failed);
         }

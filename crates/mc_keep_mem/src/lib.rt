@@ -15,6 +15,7 @@ mod order;
 mod places;
 mod plan;
 mod range;
+mod short;
 mod spot;
 mod store;
 mod tables;

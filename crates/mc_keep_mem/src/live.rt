@@ -9,8 +9,9 @@ ghost use Rattle.mc_keep_mem.specs.Tombs.{has_tomb_in};
 
 use crate::elements::{Elements, Node, row_of};
 use crate::places::last_of;
+use crate::spot::Spot;
 use crate::tombs::{Tombs, has_key, has_tomb};
-use mc_base::List;
+use mc_base::{Cid, List};
 use mc_keep::{ElementRow, ties_are_equal};
 use mc_model::id_of;
 use std::alloc::{AllocError, Global};
@@ -94,7 +95,7 @@ fn first_live<S: BuildHasher + Drop>(
     let Some(node) = elements.nodes.get(last) else {
         return Ok(None);
     };
-    if !is_hidden(alloc, tombs, key, node)? {
+    if !is_hidden(alloc, tombs, key, &node.cid)? {
         return Ok(Some(last));
     }
     next_live(alloc, elements, tombs, key, last)
@@ -128,7 +129,7 @@ fn next_live<S: BuildHasher + Drop>(
         let Some(node) = elements.nodes.get(next) else {
             return Ok(None);
         };
-        if !is_hidden(alloc, tombs, key, node)? {
+        if !is_hidden(alloc, tombs, key, &node.cid)? {
             return Ok(Some(next));
         }
         pass_over(elements, place, next);
@@ -136,20 +137,20 @@ fn next_live<S: BuildHasher + Drop>(
     Ok(None)
 }
 
-/// Whether a tombstone hides the row of a key. No id is made where the key has no tombstone.
+/// Whether a tombstone of a key names the block. No id is made where the key has no tombstone.
 pub(crate) fn is_hidden<S: BuildHasher + Drop>(
     alloc: Global,
     tombs: &Tombs<S>,
     key: &str,
-    node: &Node,
+    cid: &Cid,
 ) -> Result<bool, AllocError>
     ensures { IfOk result (λ hidden. hidden ≡
-        has_tomb_in tombs.now.keys.keys tombs.now.ids.keys tombs.now.pairs.keys key.now (id_text node.now.cid.0)) }
+        has_tomb_in tombs.now.keys.keys tombs.now.ids.keys tombs.now.pairs.keys key.now (id_text cid.now.0)) }
 {
     if !has_key(tombs, key) {
         return Ok(false);
     }
-    let id = id_of(alloc, &node.cid)?;
+    let id = id_of(alloc, cid)?;
     Ok(has_tomb(tombs, key, id.as_str()))
 }
 
@@ -162,7 +163,7 @@ fn pass_over<S: BuildHasher + Drop>(elements: &mut Elements<S>, place: usize, ne
     ensures len { vec_len elements.new.nodes ≡ vec_len elements.old.nodes }
     ensures capacity { vec_capacity elements.new.nodes ≡ vec_capacity elements.old.nodes }
 {
-    let before = before_of(&elements.nodes, next);
+    let before = spot_of(&elements.nodes, next);
     lead(&mut elements.nodes, place, before);
 }
 
@@ -170,14 +171,20 @@ fn pass_over<S: BuildHasher + Drop>(elements: &mut Elements<S>, place: usize, ne
 fn before_of(nodes: &Vec<Node>, place: usize) -> Option<usize>
     ensures { result ≡ before_at nodes.now.items place }
 {
+    spot_of(nodes, place).place()
+}
+
+fn spot_of(nodes: &Vec<Node>, place: usize) -> Spot
+    ensures { result ≡ before_at nodes.now.items place }
+{
     match nodes.get(place) {
-        Some(node) => node.before,
-        None => None,
+        Some(node) => node.before.copy(),
+        None => Spot::none(),
     }
 }
 
 // Lets the node at a place lead to another one.
-fn lead(nodes: &mut Vec<Node>, place: usize, before: Option<usize>)
+fn lead(nodes: &mut Vec<Node>, place: usize, before: Spot)
     ensures items { nodes.new.items ≡ led_to nodes.old.items place before }
     ensures len { vec_len nodes.new ≡ vec_len nodes.old }
     ensures capacity { vec_capacity nodes.new ≡ vec_capacity nodes.old }

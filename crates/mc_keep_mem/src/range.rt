@@ -11,7 +11,7 @@ ghost use Rattle.mc_keep_mem.specs.Places.{value_in};
 ghost use Rattle.mc_keep_mem.specs.Values.{row_in};
 
 use crate::elements::Elements;
-use crate::values::value_of;
+use crate::values::row_of_key;
 use mc_base::{List as Rows, Text};
 use mc_keep::ValueRow;
 use std::alloc::{AllocError, Global};
@@ -64,7 +64,7 @@ fn add_row<S: BuildHasher + Drop>(
     ensures { OnOk result (rows.new ≡ rows.old ++ row_listed key.now
         (row_in elements.now.nodes.items (value_in elements.now.keys) key.now)) }
 {
-    if let Some(row) = value_of(alloc, elements, key)? {
+    if let Some(row) = row_of_key(alloc, elements, key)? {
         rows.push(row)?;
     }
     Ok(())

@@ -1,5 +1,5 @@
 // A place in a table, or none, in one word, where an `Option` takes two.
-ghost use Rattle.std.specs.Prelude.{◌≡◌, ◌<◌, ◌-◌, ◌^◌, None, Some};
+ghost use Rattle.std.specs.Prelude.{◌≡◌, ◌<◌, ◌-◌, ◌^◌, None, Some, IfSome};
 
 use std::marker::Model;
 
@@ -30,6 +30,22 @@ impl Spot {
         ensures { result ≡ Some place }
     {
         Spot { after: place + 1 }
+    }
+
+    pub(crate) fn of(place: Option<usize>) -> Spot
+        requires small { IfSome place (λ place. place < 2 ^ 64 - 1) }
+        ensures { result ≡ place }
+    {
+        match place {
+            Some(place) => Spot::at(place),
+            None => Spot::none(),
+        }
+    }
+
+    pub(crate) fn copy(&self) -> Spot
+        ensures { result ≡ self.now }
+    {
+        Spot { after: self.after }
     }
 
     pub(crate) fn place(&self) -> Option<usize>

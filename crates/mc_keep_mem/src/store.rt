@@ -3,13 +3,14 @@ ghost use Rattle.std.specs.Prelude.{◌≡◌, ◌≤◌, ◌-◌, IfOk, OnOk, i
 ghost use Rattle.std.specs.List.{position};
 ghost use Rattle.mc_model.specs.Ascending.{Ascends};
 ghost use Rattle.mc_model.specs.Front.{same_cid, is_linked, heads};
+ghost use Rattle.mc_model.specs.Id.{id_text};
 ghost use Rattle.mc_model.specs.Live.{has_tomb, value_row};
 ghost use Rattle.mc_model.specs.Kept.{processed, bytes_at, is_stored, nothing_kept};
-ghost use Rattle.mc_keep.specs.Changes.{row_count, changed, heads_in_rows};
+ghost use Rattle.mc_keep.specs.Changes.{row_count, changed, heads_in_rows, ranked_value};
 ghost use Rattle.mc_keep.specs.LiveRows.{IsHolder, live_element_rows};
 ghost use Rattle.mc_keep.specs.Next.{AreNext, IsKeyAt};
 ghost use Rattle.mc_keep.specs.ElementOrder.{element_cmp};
-ghost use Rattle.mc_keep.specs.Tables.{ChangesFit, IsSummary, IsSmall, IsValueRow};
+ghost use Rattle.mc_keep.specs.Tables.{ChangesFit, IsSummary, IsSmall};
 ghost use Rattle.mc_keep_mem.specs.Fits.{Fits, RoomFor, kept_in};
 
 use crate::cids::has_cid;
@@ -25,7 +26,9 @@ use crate::tombs::{Tombs, has_tomb as has_tomb_row};
 use crate::values::{Values, has_value, node_of, value_of};
 use indexmap::{IndexMap, IndexSet};
 use mc_base::{Bytes, Cid, List, Text};
-use mc_keep::{Changes, ElementRow, HeadRow, Summary, ValueRow, changes_fit, commits_are_events};
+use mc_keep::{
+    Changes, ElementRow, HeadRow, RankedValue, Summary, ValueRow, changes_fit, commits_are_events,
+};
 use mc_model::gaps_are_counted;
 use std::alloc::{AllocError, Global};
 use std::collections::{BTreeSet, HashSet};
@@ -162,8 +165,15 @@ impl<S: BuildHasher + Drop> Store<S> {
         }
     }
 
-    pub(crate) fn value(&self, alloc: Global, key: &str) -> Result<Option<ValueRow>, AllocError>
-        ensures { IfOk result (λ row. IsValueRow (processed (kept_in self.now.tables)) key.now row) }
+    pub(crate) fn hides(&self, alloc: Global, key: &str, cid: &Cid) -> Result<bool, AllocError>
+        ensures { IfOk result (λ found.
+            found ≡ has_tomb (processed (kept_in self.now.tables)) key.now (id_text cid.now.0)) }
+    {
+        is_hidden(alloc, &self.tables.tombs, key, cid)
+    }
+
+    pub(crate) fn value(&self, alloc: Global, key: &str) -> Result<Option<RankedValue>, AllocError>
+        ensures { IfOk result (λ value. ranked_value value ≡ value_row (processed (kept_in self.now.tables)) key.now) }
     {
         value_of(alloc, &self.tables.elements, key)
     }
@@ -174,7 +184,7 @@ impl<S: BuildHasher + Drop> Store<S> {
         let Some(node) = node_of(&self.tables.elements, key) else {
             return Ok(None);
         };
-        if !is_hidden(alloc, &self.tables.tombs, key, node)? {
+        if !is_hidden(alloc, &self.tables.tombs, key, &node.cid)? {
             return Ok(Some(node.cid));
         }
         holder_of(alloc, &self.tables.elements, &self.tables.tombs, key, node)

@@ -5,7 +5,7 @@ ghost use Rattle.std.specs.Str.{bytes_eq};
 ghost use Rattle.std.specs.List.{list_all};
 ghost use Rattle.std.specs.HashMap.{spare};
 ghost use Rattle.std.specs.Option.{option_and_then, option_copied, option_map};
-ghost use Rattle.mc_keep.specs.Changes.{value_after, values_after};
+ghost use Rattle.mc_keep.specs.Changes.{ranked_value, value_after, values_after};
 ghost use Rattle.mc_keep_mem.specs.Chains.{row_at, row_of_node, rows_in};
 ghost use Rattle.mc_keep_mem.specs.Holder.{AreBacked, is_brought, row_with};
 ghost use Rattle.mc_keep_mem.specs.Places.{last_in, value_in, texts_in, stands_at};
@@ -17,7 +17,7 @@ use crate::order::drop_key;
 use crate::places::{find_key, set_value, value_place};
 use crate::spot::Spot;
 use mc_base::Text;
-use mc_keep::{ValueChange, ValueRow};
+use mc_keep::{RankedValue, ValueChange, ValueRow};
 use std::alloc::{AllocError, Global};
 use std::collections::BTreeSet;
 use std::hash::BuildHasher;
@@ -52,9 +52,9 @@ pub(crate) fn put_value<S: BuildHasher + Drop>(
     ensures pending_spare { vec_len values.new.pending ≤ vec_len values.old.pending + 1 }
     ensures pending_capacity { vec_capacity values.old.pending ≤ vec_capacity values.new.pending }
 {
-    let ValueChange { key, row } = change;
-    match row {
-        Some(row) => set_row(values, elements, key.as_str(), row),
+    let ValueChange { key, value } = change;
+    match value {
+        Some(value) => set_row(values, elements, key.as_str(), value),
         None => remove_row(values, elements, key.as_str()),
     }
 }
@@ -64,15 +64,15 @@ fn set_row<S: BuildHasher + Drop>(
     values: &mut Values,
     elements: &mut Elements<S>,
     key: &str,
-    row: ValueRow,
+    value: RankedValue,
 )
     requires pending_room { vec_len values.old.pending < vec_capacity values.old.pending }
-    requires brought { is_some (row_with (row.priority, row.value)
+    requires brought { is_some (row_with (value.priority, value.value)
         (rows_in elements.old.nodes.items (last_in elements.old.keys) key.now)) ≡ true }
     requires covered { IsCovered (texts_in elements.old.keys) (value_in elements.old.keys)
         values.old.ordered values.old.pending.items }
     ensures rows { (other : List ℕ) → row_in elements.new.nodes.items (value_in elements.new.keys) other
-        ≡ cond (bytes_eq key.now other) (Some (row.priority, row.value))
+        ≡ cond (bytes_eq key.now other) (Some (value.priority, value.value))
         (row_in elements.old.nodes.items (value_in elements.old.keys) other) }
     ensures nodes { elements.new.nodes ≡ elements.old.nodes }
     ensures lasts { (other : List ℕ) → last_in elements.new.keys other ≡ last_in elements.old.keys other }
@@ -85,26 +85,26 @@ fn set_row<S: BuildHasher + Drop>(
     ensures pending_spare { vec_len values.new.pending ≤ vec_len values.old.pending + 1 }
     ensures pending_capacity { vec_capacity values.old.pending ≤ vec_capacity values.new.pending }
 {
-    let (number, had) = place_row(elements, key, row);
+    let (number, had) = place_row(elements, key, value);
     if had {
         return;
     }
     values.pending.push_reserved(number);
 }
 
-// Gives a key the value of a row, by its place, and tells the place of the key, and whether it had a value.
+// Gives a key the place of the row with a value, and tells the place of the key, and whether it had a value.
 fn place_row<S: BuildHasher + Drop>(
     elements: &mut Elements<S>,
     key: &str,
-    row: ValueRow,
+    value: RankedValue,
 ) -> (usize, bool)
-    requires brought { is_some (row_with (row.priority, row.value)
+    requires brought { is_some (row_with (value.priority, value.value)
         (rows_in elements.old.nodes.items (last_in elements.old.keys) key.now)) ≡ true }
     ensures before { result.1 ≡ is_some (value_in elements.old.keys key.now) }
     ensures place { stands_at (texts_in elements.new.keys) key.now result.0 ≡ true }
     ensures texts { texts_in elements.new.keys ≡ texts_in elements.old.keys }
     ensures rows { (other : List ℕ) → row_in elements.new.nodes.items (value_in elements.new.keys) other
-        ≡ cond (bytes_eq key.now other) (Some (row.priority, row.value))
+        ≡ cond (bytes_eq key.now other) (Some (value.priority, value.value))
         (row_in elements.old.nodes.items (value_in elements.old.keys) other) }
     ensures has { (other : List ℕ) → is_some (value_in elements.new.keys other)
         ≡ cond (bytes_eq key.now other) true (is_some (value_in elements.old.keys other)) }
@@ -115,7 +115,8 @@ fn place_row<S: BuildHasher + Drop>(
         AreBacked hidden elements.new.nodes.items (last_in elements.new.keys) (value_in elements.new.keys) }
     ensures keys_spare { spare elements.old.keys ≤ spare elements.new.keys }
 {
-    let Some((number, place)) = place_with(elements, key, row.priority, row.value.as_slice()) else {
+    let bytes = value.value.as_slice();
+    let Some((number, place)) = place_with(elements, key, value.priority, bytes) else {
         unreachable!();
     };
     let had = set_value(&mut elements.keys, number, Spot::at(place));
@@ -202,26 +203,51 @@ pub(crate) fn value_of<S: BuildHasher + Drop>(
     alloc: Global,
     elements: &Elements<S>,
     key: &str,
+) -> Result<Option<RankedValue>, AllocError>
+    ensures { IfOk result (λ value. ranked_value value
+        ≡ row_in elements.now.nodes.items (value_in elements.now.keys) key.now) }
+{
+    match node_of(elements, key) {
+        Some(node) => Ok(Some(value_with(alloc, node)?)),
+        None => Ok(None),
+    }
+}
+
+fn value_with(alloc: Global, node: &Node) -> Result<RankedValue, AllocError>
+    ensures { IfOk result (λ value. (value.priority ≡ node.now.priority) × (value.value ≡ node.now.value)) }
+{
+    Ok(RankedValue {
+        priority: node.priority,
+        value: node.value.to_bytes(alloc)?,
+    })
+}
+
+/// The row of a key with its value, or none.
+pub(crate) fn row_of_key<S: BuildHasher + Drop>(
+    alloc: Global,
+    elements: &Elements<S>,
+    key: &str,
 ) -> Result<Option<ValueRow>, AllocError>
     ensures none { IfOk result (λ row. IfNone row
         (row_in elements.now.nodes.items (value_in elements.now.keys) key.now ≡ None)) }
     ensures row { IfOk result (λ row. IfSome row (λ r. (r.key ≡ key.now)
         × (row_in elements.now.nodes.items (value_in elements.now.keys) key.now ≡ Some (r.priority, r.value)))) }
 {
-    match node_of(elements, key) {
-        Some(node) => Ok(Some(row_of_key(alloc, Text::from_text(alloc, key)?, node)?)),
+    match value_of(alloc, elements, key)? {
+        Some(found) => Ok(Some(row_with(alloc, key, found)?)),
         None => Ok(None),
     }
 }
 
-// The row of a key, which is moved into it, with the value of a node.
-pub(crate) fn row_of_key(alloc: Global, key: Text, node: &Node) -> Result<ValueRow, AllocError>
-    ensures { IfOk result (λ row. (row.key ≡ key) × (row.priority ≡ node.now.priority) × (row.value ≡ node.now.value)) }
+fn row_with(alloc: Global, key: &str, found: RankedValue) -> Result<ValueRow, AllocError>
+    ensures { IfOk result (λ row.
+        (row.key ≡ key.now) × (row.priority ≡ found.priority) × (row.value ≡ found.value)) }
 {
+    let RankedValue { priority, value } = found;
     Ok(ValueRow {
-        key,
-        priority: node.priority,
-        value: node.value.try_clone(alloc)?,
+        key: Text::from_text(alloc, key)?,
+        priority,
+        value,
     })
 }
 

@@ -5,7 +5,7 @@ use crate::database::FileDatabase;
 use crate::desk::SqlDesk;
 use crate::keeper::DatabaseKeeper;
 use mc_base::{Bytes, Cid, Counted, Failed, List, Text};
-use mc_keep::{Changes, ElementRow, HeadRow, KeepError, Keeper, Summary, ValueRow};
+use mc_keep::{Changes, ElementRow, HeadRow, KeepError, Keeper, RankedValue, Summary, ValueRow};
 use std::alloc::{AllocError, Global};
 use std::rt::HostRuntime;
 use std::sync::Wait;
@@ -121,7 +121,11 @@ impl Keeper for FileKeeper {
         self.inner.hidden(key, id)
     }
 
-    fn value(&mut self, alloc: Global, key: &str) -> Result<Option<ValueRow>, KeepError> {
+    fn hides(&mut self, alloc: Global, key: &str, cid: &Cid) -> Result<bool, KeepError> {
+        self.inner.hides(alloc, key, cid)
+    }
+
+    fn value(&mut self, alloc: Global, key: &str) -> Result<Option<RankedValue>, KeepError> {
         self.inner.value(alloc, key)
     }
 

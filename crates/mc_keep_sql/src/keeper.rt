@@ -11,7 +11,7 @@ use crate::desk::SqlDesk;
 use crate::opening::opened;
 use crate::reading;
 use mc_base::{Bytes, Cid, Counted, Failed, List, Text};
-use mc_keep::{Changes, ElementRow, HeadRow, KeepError, Keeper, Summary, ValueRow};
+use mc_keep::{Changes, ElementRow, HeadRow, KeepError, Keeper, RankedValue, Summary, ValueRow};
 use sqlite::{Alter, Connection, File, FileStore};
 use std::alloc::{AllocError, Global};
 use std::rt::HostRuntime;
@@ -265,7 +265,12 @@ impl<D: Database> Keeper for DatabaseKeeper<D> {
         self.count_failed(answer)
     }
 
-    fn value(&mut self, alloc: Global, key: &str) -> Result<Option<ValueRow>, KeepError> {
+    fn hides(&mut self, alloc: Global, key: &str, cid: &Cid) -> Result<bool, KeepError> {
+        let answer = reading::hides(self.database.get_mut(), alloc, key, cid);
+        self.count(answer)
+    }
+
+    fn value(&mut self, alloc: Global, key: &str) -> Result<Option<RankedValue>, KeepError> {
         let answer = reading::value(self.database.get_mut(), alloc, key);
         self.count(answer)
     }

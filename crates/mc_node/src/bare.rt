@@ -1,6 +1,6 @@
 //! A keeper for tests, which holds nothing, tells nothing, and commits nothing.
 use mc_base::{Bytes, Cid, Counted, Failed, List, Text};
-use mc_keep::{Changes, ElementRow, HeadRow, KeepError, Keeper, Summary, ValueRow};
+use mc_keep::{Changes, ElementRow, HeadRow, KeepError, Keeper, RankedValue, Summary, ValueRow};
 use std::alloc::{AllocError, Global};
 use std::sync::Wait;
 
@@ -99,7 +99,11 @@ impl Keeper for Bare {
         Ok(false)
     }
 
-    fn value(&mut self, _alloc: Global, _key: &str) -> Result<Option<ValueRow>, KeepError> {
+    fn hides(&mut self, _alloc: Global, _key: &str, _cid: &Cid) -> Result<bool, KeepError> {
+        Ok(false)
+    }
+
+    fn value(&mut self, _alloc: Global, _key: &str) -> Result<Option<RankedValue>, KeepError> {
         Ok(None)
     }
 

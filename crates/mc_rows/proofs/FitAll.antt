@@ -111,7 +111,6 @@ rows_fit blocks more elements tombs keys changes once sorted same sorted' same' 
   tombs_new = ap (list_any (λ (row : TombRow). has_tomb blocks row.key row.id)) t ∙ tombs_unknown blocks more (tombs_of tombs) same';
   tombs_once = ap (is_once same_tomb) t ∙ tombs_stand_once tombs sorted';
   values = each_key blocks more (rows_of elements) (tombs_of tombs) keys changes.values same same' spoken fit;
-  values_named = fit.named;
   values_once = fit.once;
 }
 

@@ -4,19 +4,19 @@ use Rattle.std.specs.Prelude.{IfSome, is_some}
 use Rattle.mc_base.specs.declared.cid.Cid.{Cid}
 use Rattle.mc_model.specs.Id.{id_text}
 use Rattle.mc_model.specs.Kept.{Kept, processed}
+use Rattle.mc_model.specs.Live.{value_row}
 use Rattle.mc_keep.specs.declared.rows.TombRow.{TombRow}
-use Rattle.mc_keep.specs.declared.rows.ValueRow.{ValueRow}
-use Rattle.mc_keep.specs.Changes.{has_tomb_row}
+use Rattle.mc_keep.specs.declared.rows.RankedValue.{RankedValue}
+use Rattle.mc_keep.specs.Changes.{has_tomb_row, ranked_value}
 use Rattle.mc_keep.specs.LiveRows.{IsHolder}
-use Rattle.mc_keep.specs.Tables.{IsValueRow}
 use Rattle.mc_rows.specs.Hiding.{has_tomb_of, HidesValue, Stands}
 use Rattle.mc_rows.proofs.Lives.{untouched_row_stands, no_row_stands, held_row_stands}
 
 -- the key has no value
-pub no_value_told : (told : Option Kept) (tombs : List TombRow) (key : List ℕ) (old : Option ValueRow) → IfSome told (λ kept. IsValueRow (processed kept) key old) → is_some old ≡ false
+pub no_value_told : (told : Option Kept) (tombs : List TombRow) (key : List ℕ) (old : Option RankedValue) → IfSome told (λ kept. ranked_value old ≡ value_row (processed kept) key) → is_some old ≡ false
     → IfSome told (λ kept. false ≡ false → Stands (processed kept) tombs key)
 no_value_told None tombs key old is none = tt
-no_value_told (Some kept) tombs key None is none = λ e. no_row_stands (processed kept) tombs key is
+no_value_told (Some kept) tombs key None is none = λ e. no_row_stands (processed kept) tombs key (sym is)
 no_value_told (Some kept) tombs key (Some row) is none = absurd (cc)
 
 -- no new tombstone has the key

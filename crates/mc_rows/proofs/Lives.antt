@@ -66,7 +66,7 @@ new_row_is blocks more elements tombs key same alike =
     ∙ ap greatest (live_rows-element_rows_of (blocks ++ more) (blocks ++ more) key)
 
 -- rows without the key have no row of the key with an id
-no_tomb_row : (rows : List TombRow) (key id : List ℕ) → has_tomb_of rows key ≡ false → has_tomb_row rows key id ≡ false
+pub no_tomb_row : (rows : List TombRow) (key id : List ℕ) → has_tomb_of rows key ≡ false → has_tomb_row rows key id ≡ false
 no_tomb_row [] key id e = refl
 no_tomb_row (r ∷ rows) key id e =
     let parts = or_parts (bytes_eq r.key key) (has_tomb_of rows key) e in

@@ -11,19 +11,14 @@ use Rattle.mc_model.specs.Live.{value_row}
 use Rattle.mc_model.specs.Rank.{Ranked, greatest, greater}
 use Rattle.mc_keep.specs.declared.rows.ElementRow.{ElementRow}
 use Rattle.mc_keep.specs.declared.rows.TombRow.{TombRow}
-use Rattle.mc_keep.specs.declared.rows.ValueRow.{ValueRow}
+use Rattle.mc_keep.specs.declared.rows.RankedValue.{RankedValue}
 use Rattle.mc_keep.specs.declared.changes.ValueChange.{ValueChange}
-use Rattle.mc_keep.specs.Changes.{has_tomb_row, ranked_row}
+use Rattle.mc_keep.specs.Changes.{has_tomb_row, ranked_value}
 use Rattle.mc_keep.specs.ElementOrder.{element_cmp}
-use Rattle.mc_keep.specs.Tables.{IsValueRow}
 use Rattle.mc_keep.specs.LiveRows.{live_element_rows, live_row, live_rows}
 use Rattle.mc_rows.specs.Hiding.{hides, row_from, Stands}
 use Rattle.mc_rows.specs.Values.{IsChange}
 use Rattle.mc_rows.proofs.Lives.{row_anew, row_on}
-
-row_read : (blocks : List Block) (key : List ℕ) (old : Option ValueRow) → IsValueRow blocks key old → ranked_row old ≡ value_row blocks key
-row_read blocks key None is = sym is
-row_read blocks key (Some row) is = sym is.1
 
 changed_so : (key : List ℕ) (old old' new new' : Option Ranked) (change : Option ValueChange) → old ≡ old' → new ≡ new' → IsChange key old new change → IsChange key old' new' change
 changed_so key old old' new new' change e f is = subst (λ z. IsChange key old' z change) f (subst (λ z. IsChange key z new change) e is)
@@ -48,33 +43,33 @@ row_more None hidden start now new before rows row more first next = tt
 row_more (Some kept) hidden start now new before rows row more first next = one_more (hidden kept) start now new before rows row more first next
 
 -- a change that was made from all live rows of the key
-pub anew_told : (told : Option Kept) (run : List ElementRow) (tombs : List TombRow) (key : List ℕ) (old : Option ValueRow) (rows : List ElementRow) (best found : Option Ranked) (change : Option ValueChange)
-    → IfSome told (λ kept. IsValueRow (processed kept) key old)
+pub anew_told : (told : Option Kept) (run : List ElementRow) (tombs : List TombRow) (key : List ℕ) (old : Option RankedValue) (rows : List ElementRow) (best found : Option Ranked) (change : Option ValueChange)
+    → IfSome told (λ kept. ranked_value old ≡ value_row (processed kept) key)
     → IfSome told (λ kept. Ascends element_cmp rows (live_element_rows (processed kept) key))
     → best ≡ greatest (live_rows (has_tomb_row tombs key) rows)
     → IfSome told (λ kept. found ≡ fold greater best (live_rows (hides (processed kept) tombs key) run))
-    → IsChange key (ranked_row old) found change
+    → IsChange key (ranked_value old) found change
     → IfSome told (λ kept. IsChange key (value_row (processed kept) key) (row_from (processed kept) run tombs key) change)
 anew_told None run tombs key old rows best found change is ascends first then made = tt
 anew_told (Some kept) run tombs key old rows best found change is ascends first then made =
-    changed_so key (ranked_row old) (value_row (processed kept) key) found (row_from (processed kept) run tombs key) change
-    (row_read (processed kept) key old is)
+    changed_so key (ranked_value old) (value_row (processed kept) key) found (row_from (processed kept) run tombs key) change
+    is
     (then ∙ ap (λ (z : Option Ranked). fold greater z (live_rows (hides (processed kept) tombs key) run)) first ∙ row_anew (processed kept) tombs key rows run ascends.members)
     made
 
 -- a change that was made from the old row
-pub on_told : (told : Option Kept) (run : List ElementRow) (tombs : List TombRow) (key : List ℕ) (old : Option ValueRow) (best found : Option Ranked) (change : Option ValueChange)
-    → IfSome told (λ kept. IsValueRow (processed kept) key old)
+pub on_told : (told : Option Kept) (run : List ElementRow) (tombs : List TombRow) (key : List ℕ) (old : Option RankedValue) (best found : Option Ranked) (change : Option ValueChange)
+    → IfSome told (λ kept. ranked_value old ≡ value_row (processed kept) key)
     → IfSome told (λ kept. Stands (processed kept) tombs key)
-    → best ≡ ranked_row old
+    → best ≡ ranked_value old
     → IfSome told (λ kept. found ≡ fold greater best (live_rows (hides (processed kept) tombs key) run))
-    → IsChange key (ranked_row old) found change
+    → IsChange key (ranked_value old) found change
     → IfSome told (λ kept. IsChange key (value_row (processed kept) key) (row_from (processed kept) run tombs key) change)
 on_told None run tombs key old best found change is stands first then made = tt
 on_told (Some kept) run tombs key old best found change is stands first then made =
-    changed_so key (ranked_row old) (value_row (processed kept) key) found (row_from (processed kept) run tombs key) change
-    (row_read (processed kept) key old is)
-    (then ∙ ap (λ (z : Option Ranked). fold greater z (live_rows (hides (processed kept) tombs key) run)) (first ∙ row_read (processed kept) key old is)
+    changed_so key (ranked_value old) (value_row (processed kept) key) found (row_from (processed kept) run tombs key) change
+    is
+    (then ∙ ap (λ (z : Option Ranked). fold greater z (live_rows (hides (processed kept) tombs key) run)) (first ∙ is)
     ∙ row_on (processed kept) tombs key run stands)
     made
 

@@ -1,13 +1,13 @@
 -- One more change of a value row.
 use Rattle.std.proofs.Common.{◌≡◌, ℕ, ◌+◌, ◌<◌, length, take, get_or, Bool, true, false, cond, not, List, [], ◌∷◌, ◌++◌, ◌||◌, ◌&&◌, sym, refl, ap, ◌∙◌, subst, arith}
 use Rattle.std.specs.Prelude.{fold, IfSome, Option, Some, None}
-use Rattle.std.specs.List.{list_any, list_all}
+use Rattle.std.specs.List.{list_any}
 use Rattle.std.specs.List.Sorted.{IsStrictlySortedBy}
 use Rattle.std.specs.Ordering.{nat_cmp, is_eq}
 use Rattle.std.specs.Cmp.Lexicographic.{slice_cmp}
 use Rattle.std.specs.Str.{bytes_eq}
 use Rattle.std.proofs.lemmas.List.{append-nil, get_or-take, get_or_default, length-take-le}
-use Rattle.std.proofs.lemmas.List.Folds.{list_any-append, list_any_none, list_any_more, list_all-append}
+use Rattle.std.proofs.lemmas.List.Folds.{list_any-append, list_any_none, list_any_more}
 use Rattle.std.proofs.lemmas.Map.Keys.{Less-from_sorted}
 use Rattle.std.proofs.lemmas.Map.Text.{is_eq-slice_cmp}
 use Rattle.std.proofs.lemmas.Bool.{or_parts, and_from, and_parts}
@@ -24,8 +24,7 @@ use Rattle.mc_model.proofs.Greatest.{fold-append}
 use Rattle.mc_keep.specs.declared.rows.ElementRow.{ElementRow}
 use Rattle.mc_keep.specs.declared.rows.TombRow.{TombRow}
 use Rattle.mc_keep.specs.declared.changes.ValueChange.{ValueChange}
-use Rattle.mc_keep.specs.Changes.{ranked_row, value_after, values_after}
-use Rattle.mc_keep.specs.Tables.{is_named}
+use Rattle.mc_keep.specs.Changes.{ranked_value, value_after, values_after}
 use Rattle.mc_rows.specs.Hiding.{new_row}
 use Rattle.mc_rows.specs.Values.{IsChange, change_list, has_key, has_change_of, ValuesFit}
 
@@ -54,11 +53,11 @@ pub unspoken : (key : List ℕ) (row : Option Ranked) (changes : List ValueChang
 unspoken key row [] e = refl
 unspoken key row (c ∷ changes) e =
     let parts = or_parts (bytes_eq c.key key) (has_change_of changes key) e in
-    ap (λ (b : Bool). fold (value_after key) (cond b (ranked_row c.row) row) changes) parts.0 ∙ unspoken key row changes parts.1
+    ap (λ (b : Bool). fold (value_after key) (cond b (ranked_value c.value) row) changes) parts.0 ∙ unspoken key row changes parts.1
 
 -- what one more change does to the row of a key
 after_push : (key : List ℕ) (row : Option Ranked) (changes : List ValueChange) (change : ValueChange)
-    → values_after key row (changes ++ change ∷ []) ≡ cond (bytes_eq change.key key) (ranked_row change.row) (values_after key row changes)
+    → values_after key row (changes ++ change ∷ []) ≡ cond (bytes_eq change.key key) (ranked_value change.value) (values_after key row changes)
 after_push key row changes change = fold-append (value_after key) row changes (change ∷ [])
 
 -- the row of the key itself
@@ -67,24 +66,20 @@ own_row : (key : List ℕ) (old new : Option Ranked) (now : List ValueChange) (c
 own_row key old new now None none is = ap (values_after key old) (append-nil now) ∙ unspoken key old now none ∙ sym is
 own_row key old new now (Some change) none is =
     after_push key old now change
-    ∙ ap (λ (b : Bool). cond b (ranked_row change.row) (values_after key old now)) (ap (λ (z : List ℕ). bytes_eq z key) is.key_is ∙ itself key)
-    ∙ is.row_is
+    ∙ ap (λ (b : Bool). cond b (ranked_value change.value) (values_after key old now)) (ap (λ (z : List ℕ). bytes_eq z key) is.key_is ∙ itself key)
+    ∙ is.value_is
 
 -- the row of another key
 other_row : (key other : List ℕ) (old new row : Option Ranked) (now : List ValueChange) (change : Option ValueChange) → bytes_eq key other ≡ false → IsChange key old new change
     → values_after other row (now ++ change_list change) ≡ values_after other row now
 other_row key other old new row now None apart is = ap (values_after other row) (append-nil now)
 other_row key other old new row now (Some change) apart is =
-    after_push other row now change ∙ ap (λ (b : Bool). cond b (ranked_row change.row) (values_after other row now)) (ap (λ (z : List ℕ). bytes_eq z other) is.key_is ∙ apart)
+    after_push other row now change ∙ ap (λ (b : Bool). cond b (ranked_value change.value) (values_after other row now)) (ap (λ (z : List ℕ). bytes_eq z other) is.key_is ∙ apart)
 
 -- a change speaks of its key alone
 speaks_of : (key other : List ℕ) (old new : Option Ranked) (change : Option ValueChange) → bytes_eq key other ≡ false → IsChange key old new change → has_change_of (change_list change) other ≡ false
 speaks_of key other old new None apart is = refl
 speaks_of key other old new (Some change) apart is = ap (λ (z : List ℕ). bytes_eq z other || false) is.key_is ∙ ap (λ b. b || false) apart
-
-named_more : (key : List ℕ) (old new : Option Ranked) (change : Option ValueChange) → IsChange key old new change → list_all is_named (change_list change) ≡ true
-named_more key old new None is = refl
-named_more key old new (Some change) is = ap (λ b. b && true) is.named
 
 abbrev same_key : ValueChange → ValueChange → Bool
 same_key a b = bytes_eq a.key b.key
@@ -117,7 +112,6 @@ fit_more blocks elements tombs keys i d key now change sorted within at before i
       list_any-append (λ (c : ValueChange). bytes_eq c.key k) now (change_list change)
       ∙ ap (λ b. b || has_change_of (change_list change) k) (before.rest k parts.0)
       ∙ speaks_of key k (value_row blocks key) (new_row blocks elements tombs key) change parts.1 is;
-  named = list_all-append is_named now (change_list change) ∙ ap (λ b. b && list_all is_named (change_list change)) before.named ∙ named_more key (value_row blocks key) (new_row blocks elements tombs key) change is;
   once = once_more key (value_row blocks key) (new_row blocks elements tombs key) now change before.once unsaid is;
 }
   where

@@ -1,6 +1,6 @@
 -- What the value rows of a merge come to.
 use Rattle.std.specs.Prelude.{◌≡◌, ℕ, Bool, true, false, List, [], ◌∷◌, Option, Some, None}
-use Rattle.std.specs.List.{list_any, list_all}
+use Rattle.std.specs.List.{list_any}
 use Rattle.std.specs.Option.{option_map}
 use Rattle.std.specs.Str.{bytes_eq}
 use denote.Ref.{Bor}
@@ -11,8 +11,7 @@ use Rattle.mc_model.specs.Rank.{Ranked}
 use Rattle.mc_keep.specs.declared.rows.ElementRow.{ElementRow}
 use Rattle.mc_keep.specs.declared.rows.TombRow.{TombRow}
 use Rattle.mc_keep.specs.declared.changes.ValueChange.{ValueChange}
-use Rattle.mc_keep.specs.Changes.{ranked_row, values_after}
-use Rattle.mc_keep.specs.Tables.{is_named}
+use Rattle.mc_keep.specs.Changes.{ranked_value, values_after}
 use Rattle.mc_rows.specs.declared.best.Best.{Best}
 use Rattle.mc_rows.specs.Hiding.{new_row}
 
@@ -23,8 +22,7 @@ ranked_best best = option_map (λ (b : Best). (b.priority, b.value.now)) best
 -- the change gives the key this row
 pub record ChangesTo (key : List ℕ) (row : Option Ranked) (change : ValueChange) : Type 0 where
   pub key_is : change.key ≡ key
-  pub named : is_named change ≡ true
-  pub row_is : ranked_row change.row ≡ row
+  pub value_is : ranked_value change.value ≡ row
 
 -- a change to a row, or none where the row stays
 abbrev pub IsChange : List ℕ → Option Ranked → Option Ranked → Option ValueChange → Type 0
@@ -48,5 +46,4 @@ pub record ValuesFit (blocks : List Block) (elements : List ElementRow) (tombs :
   pub rows : (key : List ℕ) → has_key keys key ≡ true →
       values_after key (value_row blocks key) changes ≡ new_row blocks elements tombs key
   pub rest : (key : List ℕ) → has_key keys key ≡ false → has_change_of changes key ≡ false
-  pub named : list_all is_named changes ≡ true
   pub once : is_once (λ (a b : ValueChange). bytes_eq a.key b.key) changes ≡ true

@@ -1,10 +1,10 @@
 // The greatest of the values of a key, while they are looked at one after another.
 ghost use Rattle.std.specs.Prelude.{◌≡◌, true, false, Some};
 ghost use Rattle.mc_model.specs.Rank.{greater, rank_cmp};
-ghost use Rattle.mc_keep.specs.Changes.{ranked_row};
+ghost use Rattle.mc_keep.specs.Changes.{ranked_value};
 ghost use Rattle.mc_rows.specs.Values.{ranked_best};
 
-use mc_keep::ValueRow;
+use mc_keep::RankedValue;
 use std::cmp::Ordering;
 
 // A value with its block's priority.
@@ -33,26 +33,26 @@ fn compare(a: Best<'_>, b: Best<'_>) -> Ordering
     a.priority.cmp(&b.priority).then(a.value.cmp(b.value))
 }
 
-// The value of a row.
-pub(crate) fn best_of<'a>(row: &'a Option<ValueRow>) -> Option<Best<'a>>
-    ensures { ranked_best result ≡ ranked_row row.now }
+// The value, borrowed.
+pub(crate) fn best_of<'a>(value: &'a Option<RankedValue>) -> Option<Best<'a>>
+    ensures { ranked_best result ≡ ranked_value value.now }
 {
-    match row {
-        Some(row) => Some(Best {
-            priority: row.priority,
-            value: row.value.as_slice(),
+    match value {
+        Some(ranked) => Some(Best {
+            priority: ranked.priority,
+            value: ranked.value.as_slice(),
         }),
         None => None,
     }
 }
 
-// Whether the value is that of the row. It may say no where it is.
-pub(crate) fn is_unchanged(row: &Option<ValueRow>, best: Option<Best<'_>>) -> bool
-    ensures { result ≡ true → ranked_best best.entry ≡ ranked_row row.now }
+// Whether the best is the value. It may say no where it is.
+pub(crate) fn is_unchanged(value: &Option<RankedValue>, best: Option<Best<'_>>) -> bool
+    ensures { result ≡ true → ranked_best best.entry ≡ ranked_value value.now }
 {
-    match (row, best) {
-        (Some(row), Some(best)) => {
-            row.priority == best.priority && row.value.as_slice() == best.value
+    match (value, best) {
+        (Some(ranked), Some(best)) => {
+            ranked.priority == best.priority && ranked.value.as_slice() == best.value
         }
         (None, None) => true,
         _ => false,

@@ -7,7 +7,6 @@ mod elements;
 mod keys;
 mod live;
 mod merging;
-mod named;
 mod search;
 mod tombs;
 mod values;

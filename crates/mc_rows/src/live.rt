@@ -1,7 +1,7 @@
 // The greatest of the rows of a key that no tombstone hides.
 ghost use Rattle.std.specs.Prelude.{◌≡◌, fold, IfOk, Some};
-ghost use Rattle.std.specs.Result.{is_err};
 ghost use Rattle.std.specs.List.Sorted.{IsStrictlySortedBy};
+ghost use Rattle.mc_model.specs.Id.{id_text};
 ghost use Rattle.mc_model.specs.Kept.{processed};
 ghost use Rattle.mc_model.specs.Rank.{greater, greatest};
 ghost use Rattle.mc_keep.specs.Calls.{Reads};
@@ -16,30 +16,48 @@ ghost use Rattle.mc_rows.specs.Values.{ranked_best};
 
 use crate::best::{Best, is_above};
 use crate::elements::NewElement;
-use crate::named::{Named, name};
-use crate::search::has_tomb;
+use crate::search::{has_tomb, has_tomb_with};
 use crate::tombs::NewTomb;
-use mc_base::{Cid, Failed};
+use mc_base::Cid;
 use mc_keep::{ElementRow, KeepError, Keeper};
 use mc_model::id_of;
 use std::alloc::{AllocError, Global};
 
-// Whether a tombstone, of the group or of a processed block, hides the elements of the key in the block with this id.
+// Whether a tombstone of the group hides the elements of the key in a block. The block's id is made only where the
+// group has a tombstone of the key.
+fn is_named(
+    alloc: Global,
+    key: &str,
+    cid: &Cid,
+    tombs: &[NewTomb<'_>],
+) -> Result<bool, AllocError>
+    requires sorted { IsStrictlySortedBy new_tomb_cmp tombs.now }
+    ensures { IfOk result (λ named. named ≡ has_tomb_row (tombs_of tombs.now) key.now (id_text cid.now.0)) }
+{
+    if !has_tomb_with(tombs, key) {
+        return Ok(false);
+    }
+    let id = id_of(alloc, cid)?;
+    Ok(has_tomb(tombs, key, id.as_str()))
+}
+
+// Whether a tombstone, of the group or of a processed block, hides the elements of the key in a block.
 fn is_hidden<K: Keeper>(
     keeper: &mut K,
+    alloc: Global,
     key: &str,
-    id: &str,
+    cid: &Cid,
     tombs: &[NewTomb<'_>],
-) -> Result<bool, Failed>
+) -> Result<bool, KeepError>
     requires sorted { IsStrictlySortedBy new_tomb_cmp tombs.now }
     ensures hidden { IfTold (K.told keeper.old) result (λ kept hidden.
-        hidden ≡ hides (processed kept) (tombs_of tombs.now) key.now id.now) }
-    ensures reads { Reads K.Keeper (is_err result) keeper.old keeper.new }
+        hidden ≡ hides (processed kept) (tombs_of tombs.now) key.now (id_text cid.now.0)) }
+    ensures reads { Reads K.Keeper (is_fault result) keeper.old keeper.new }
 {
-    if has_tomb(tombs, key, id) {
+    if is_named(alloc, key, cid, tombs)? {
         return Ok(true);
     }
-    keeper.hidden(key, id)
+    keeper.hides(alloc, key, cid)
 }
 
 // Whether a tombstone of the group hides the elements of the key in a block.
@@ -71,8 +89,7 @@ fn see(
             });
         }
     }
-    let id = id_of(alloc, cid)?;
-    let hidden = has_tomb(tombs, key, id.as_str());
+    let hidden = is_named(alloc, key, cid, tombs)?;
     Ok(LastBlock { cid: *cid, hidden })
 }
 
@@ -126,15 +143,13 @@ fn with_old<'a>(
     Ok(Some(next))
 }
 
-// The greatest of a value and of these elements of the key, which are of blocks of the group. `last` is the block that
-// was named last.
+// The greatest of a value and of these elements of the key, which are of blocks of the group.
 pub(crate) fn best_with_new<'a, K: Keeper>(
     keeper: &mut K,
     alloc: Global,
     key: &str,
     elements: &[NewElement<'a>],
     tombs: &[NewTomb<'_>],
-    last: &mut Option<Named>,
     best: Option<Best<'a>>,
 ) -> Result<Option<Best<'a>>, KeepError>
     requires sorted { IsStrictlySortedBy new_tomb_cmp tombs.now }
@@ -145,19 +160,18 @@ pub(crate) fn best_with_new<'a, K: Keeper>(
 {
     let mut best = best;
     for element in elements {
-        best = with_new(keeper, alloc, key, element, tombs, last, best)?;
+        best = with_new(keeper, alloc, key, element, tombs, best)?;
     }
     Ok(best)
 }
 
-// The same with one more element. Just the block of one that is above all before is named.
+// The same with one more element. Just the block of one that is above all before is looked for in the tombstones.
 fn with_new<'a, K: Keeper>(
     keeper: &mut K,
     alloc: Global,
     key: &str,
     element: &NewElement<'a>,
     tombs: &[NewTomb<'_>],
-    last: &mut Option<Named>,
     best: Option<Best<'a>>,
 ) -> Result<Option<Best<'a>>, KeepError>
     requires sorted { IsStrictlySortedBy new_tomb_cmp tombs.now }
@@ -173,10 +187,7 @@ fn with_new<'a, K: Keeper>(
     if !is_above(best, next) {
         return Ok(best);
     }
-    let named = name(alloc, element.cid(), last.take())?;
-    let hidden = is_hidden(keeper, key, named.id.as_str(), tombs)?;
-    *last = Some(named);
-    if hidden {
+    if is_hidden(keeper, alloc, key, element.cid(), tombs)? {
         return Ok(best);
     }
     Ok(Some(next))

@@ -78,9 +78,8 @@ fn value_changes<K: Keeper>(
     ensures reads { Reads K.Keeper (is_fault result) keeper.old keeper.new }
 {
     let mut values = List::with_capacity(alloc, keys.len())?;
-    let mut last = None;
     for key in keys {
-        let change = change_of(keeper, alloc, *key, elements, tombs, &mut last)?;
+        let change = change_of(keeper, alloc, *key, elements, tombs)?;
         push_change(&mut values, change)?;
     }
     Ok(values)

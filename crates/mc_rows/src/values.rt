@@ -6,8 +6,7 @@ ghost use Rattle.mc_model.specs.Live.{value_row};
 ghost use Rattle.mc_keep.specs.Calls.{Reads};
 ghost use Rattle.mc_keep.specs.Causes.{IfTold};
 ghost use Rattle.mc_keep.specs.Plan.{is_fault};
-ghost use Rattle.mc_keep.specs.Changes.{ranked_row};
-ghost use Rattle.mc_keep.specs.Tables.{IsValueRow};
+ghost use Rattle.mc_keep.specs.Changes.{ranked_value};
 ghost use Rattle.mc_rows.specs.Rows.{new_element_cmp, new_tomb_cmp, rows_of, tombs_of};
 ghost use Rattle.mc_rows.specs.Hiding.{new_row, row_from, HidesValue, Stands};
 ghost use Rattle.mc_rows.specs.Values.{ranked_best, ChangesTo, IsChange};
@@ -15,23 +14,20 @@ ghost use Rattle.mc_rows.specs.Values.{ranked_best, ChangesTo, IsChange};
 use crate::best::{Best, best_of, is_unchanged};
 use crate::elements::NewElement;
 use crate::live::{best_of_old, best_with_new};
-use crate::named::Named;
 use crate::search::{elements_with, has_tomb, has_tomb_with};
 use crate::tombs::NewTomb;
 use mc_base::{Bytes, Text};
-use mc_keep::{KeepError, Keeper, ValueChange, ValueRow};
+use mc_keep::{KeepError, Keeper, RankedValue, ValueChange};
 use mc_model::id_of;
 use std::alloc::{AllocError, Global};
 
-// The change of a key's value row by the new elements and tombstones, or none where the row stays. `last` is the block
-// that was named last.
+// The change of a key's value by the new elements and tombstones, or none where it stays.
 pub(crate) fn change_of<K: Keeper>(
     keeper: &mut K,
     alloc: Global,
     key: &str,
     elements: &[NewElement<'_>],
     tombs: &[NewTomb<'_>],
-    last: &mut Option<Named>,
 ) -> Result<Option<ValueChange>, KeepError>
     requires elements { IsStrictlySortedBy new_element_cmp elements.now }
     requires tombs { IsStrictlySortedBy new_tomb_cmp tombs.now }
@@ -43,9 +39,9 @@ pub(crate) fn change_of<K: Keeper>(
     let old = keeper.value(alloc, key)?;
     let elements = elements_with(elements, key);
     if is_hidden_anew(keeper, alloc, key, tombs, &old)? {
-        return change_anew(keeper, alloc, key, elements, tombs, &old, last);
+        return change_anew(keeper, alloc, key, elements, tombs, &old);
     }
-    change_on(keeper, alloc, key, elements, tombs, &old, last)
+    change_on(keeper, alloc, key, elements, tombs, &old)
 }
 
 // Whether a new tombstone hides the block of the key's value. Where it says no, the value is still that of the old
@@ -55,10 +51,10 @@ fn is_hidden_anew<K: Keeper>(
     alloc: Global,
     key: &str,
     tombs: &[NewTomb<'_>],
-    old: &Option<ValueRow>,
+    old: &Option<RankedValue>,
 ) -> Result<bool, KeepError>
     requires tombs { IsStrictlySortedBy new_tomb_cmp tombs.now }
-    requires old { IfSome (K.told keeper.old) (λ kept. IsValueRow (processed kept) key.now old.now) }
+    requires old { IfSome (K.told keeper.old) (λ kept. ranked_value old.now ≡ value_row (processed kept) key.now) }
     ensures hides { IfTold (K.told keeper.old) result (λ kept hidden.
         hidden ≡ true → HidesValue (processed kept) (tombs_of tombs.now) key.now) }
     ensures stands { IfTold (K.told keeper.old) result (λ kept hidden.
@@ -86,11 +82,10 @@ fn change_anew<K: Keeper>(
     key: &str,
     elements: &[NewElement<'_>],
     tombs: &[NewTomb<'_>],
-    old: &Option<ValueRow>,
-    last: &mut Option<Named>,
+    old: &Option<RankedValue>,
 ) -> Result<Option<ValueChange>, KeepError>
     requires tombs { IsStrictlySortedBy new_tomb_cmp tombs.now }
-    requires old { IfSome (K.told keeper.old) (λ kept. IsValueRow (processed kept) key.now old.now) }
+    requires old { IfSome (K.told keeper.old) (λ kept. ranked_value old.now ≡ value_row (processed kept) key.now) }
     requires hides { IfSome (K.told keeper.old) (λ kept. HidesValue (processed kept) (tombs_of tombs.now) key.now) }
     ensures change { IfTold (K.told keeper.old) result (λ kept change.
         IsChange key.now (value_row (processed kept) key.now)
@@ -99,7 +94,7 @@ fn change_anew<K: Keeper>(
 {
     let rows = keeper.live_elements(alloc, key)?;
     let best = best_of_old(alloc, key, rows.as_slice(), tombs)?;
-    let found = best_with_new(keeper, alloc, key, elements, tombs, last, best)?;
+    let found = best_with_new(keeper, alloc, key, elements, tombs, best)?;
     Ok(change_to(alloc, key, old, found)?)
 }
 
@@ -110,11 +105,10 @@ fn change_on<K: Keeper>(
     key: &str,
     elements: &[NewElement<'_>],
     tombs: &[NewTomb<'_>],
-    old: &Option<ValueRow>,
-    last: &mut Option<Named>,
+    old: &Option<RankedValue>,
 ) -> Result<Option<ValueChange>, KeepError>
     requires tombs { IsStrictlySortedBy new_tomb_cmp tombs.now }
-    requires old { IfSome (K.told keeper.old) (λ kept. IsValueRow (processed kept) key.now old.now) }
+    requires old { IfSome (K.told keeper.old) (λ kept. ranked_value old.now ≡ value_row (processed kept) key.now) }
     requires stands { IfSome (K.told keeper.old) (λ kept. Stands (processed kept) (tombs_of tombs.now) key.now) }
     ensures change { IfTold (K.told keeper.old) result (λ kept change.
         IsChange key.now (value_row (processed kept) key.now)
@@ -122,17 +116,17 @@ fn change_on<K: Keeper>(
     ensures reads { Reads K.Keeper (is_fault result) keeper.old keeper.new }
 {
     let best = best_of(old);
-    let found = best_with_new(keeper, alloc, key, elements, tombs, last, best)?;
+    let found = best_with_new(keeper, alloc, key, elements, tombs, best)?;
     Ok(change_to(alloc, key, old, found)?)
 }
 
 fn change_to(
     alloc: Global,
     key: &str,
-    old: &Option<ValueRow>,
+    old: &Option<RankedValue>,
     best: Option<Best<'_>>,
 ) -> Result<Option<ValueChange>, AllocError>
-    ensures { IfOk result (λ change. IsChange key.now (ranked_row old.now) (ranked_best best.entry) change) }
+    ensures { IfOk result (λ change. IsChange key.now (ranked_value old.now) (ranked_best best.entry) change) }
 {
     if is_unchanged(old, best) {
         return Ok(None);
@@ -146,21 +140,20 @@ fn change_with(alloc: Global, key: &str, best: Option<Best<'_>>) -> Result<Value
     match best {
         Some(best) => Ok(ValueChange {
             key: Text::from_text(alloc, key)?,
-            row: Some(row_with(alloc, key, best)?),
+            value: Some(value_of(alloc, best)?),
         }),
         None => Ok(ValueChange {
             key: Text::from_text(alloc, key)?,
-            row: None,
+            value: None,
         }),
     }
 }
 
-fn row_with(alloc: Global, key: &str, best: Best<'_>) -> Result<ValueRow, AllocError>
-    ensures { IfOk result (λ row.
-        (row.key ≡ key.now) × (row.priority ≡ best.entry.priority) × (row.value ≡ best.entry.value.now)) }
+fn value_of(alloc: Global, best: Best<'_>) -> Result<RankedValue, AllocError>
+    ensures { IfOk result (λ value.
+        (value.priority ≡ best.entry.priority) × (value.value ≡ best.entry.value.now)) }
 {
-    Ok(ValueRow {
-        key: Text::from_text(alloc, key)?,
+    Ok(RankedValue {
         priority: best.priority,
         value: Bytes::from_slice(alloc, best.value)?,
     })

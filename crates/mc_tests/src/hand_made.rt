@@ -2,7 +2,7 @@
 ghost use Rattle.std.specs.Prelude.{◌≡◌, None, false};
 
 use mc_base::{Bytes, Cid, Counted, Failed, List, Text};
-use mc_keep::{Changes, ElementRow, HeadRow, KeepError, Keeper, Summary, ValueRow};
+use mc_keep::{Changes, ElementRow, HeadRow, KeepError, Keeper, RankedValue, Summary, ValueRow};
 use mc_model::id_of;
 use mc_query::Pair;
 use std::alloc::{AllocError, Global};
@@ -88,10 +88,15 @@ fn row_of(alloc: Global, pair: &Pair) -> Result<ValueRow, AllocError> {
     })
 }
 
-fn find_row(alloc: Global, rows: &[Pair], key: &str) -> Result<Option<ValueRow>, AllocError> {
+fn find_value(
+    alloc: Global,
+    rows: &[Pair],
+    key: &str,
+) -> Result<Option<RankedValue>, AllocError> {
     for pair in rows {
         if pair.key.as_str() == key {
-            return Ok(Some(row_of(alloc, pair)?));
+            let ValueRow { priority, value, .. } = row_of(alloc, pair)?;
+            return Ok(Some(RankedValue { priority, value }));
         }
     }
     Ok(None)
@@ -270,9 +275,13 @@ impl Keeper for HandMade {
         Ok(self.hidden.as_str() == id)
     }
 
-    fn value(&mut self, alloc: Global, key: &str) -> Result<Option<ValueRow>, KeepError> {
+    fn hides(&mut self, alloc: Global, _key: &str, cid: &Cid) -> Result<bool, KeepError> {
+        Ok(self.hidden.as_str() == id_of(alloc, cid)?.as_str())
+    }
+
+    fn value(&mut self, alloc: Global, key: &str) -> Result<Option<RankedValue>, KeepError> {
         self.read()?;
-        Ok(find_row(alloc, self.rows.as_slice(), key)?)
+        Ok(find_value(alloc, self.rows.as_slice(), key)?)
     }
 
     fn holder(&mut self, _alloc: Global, _key: &str) -> Result<Option<Cid>, KeepError> {

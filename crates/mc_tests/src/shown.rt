@@ -67,6 +67,9 @@ pub fn has_rows<K: Keeper>(
             && keeper.hidden("/k", id_of(alloc, hidden)?.as_str())?
             && !keeper.hidden("/k", id_of(alloc, kept)?.as_str())?
             && !keeper.hidden("/", id_of(alloc, hidden)?.as_str())?
+            && keeper.hides(alloc, "/k", hidden)?
+            && !keeper.hides(alloc, "/k", kept)?
+            && !keeper.hides(alloc, "/", hidden)?
             && keeper.holder(alloc, "/k")? == Some(*kept)
             && keeper.holder(alloc, "/")?.is_none(),
     )

@@ -109,10 +109,9 @@ pub(crate) fn record_line<K: Keeper>(
         ++ entry_since K.faults K.own K.Desk.faults before.now world.old ∷ []) world.old world.new) }
     ensures err { OnErr result (HasRecord world.old.entries world.old world.new) }
 {
-    let after = counts_of(world, alloc)?;
-    let keepers = risen(alloc, before.keepers.as_slice(), after.keepers.as_slice())?;
-    let desks = risen(alloc, before.desks.as_slice(), after.desks.as_slice())?;
-    let own = risen(alloc, before.own.as_slice(), after.own.as_slice())?;
+    let keepers = risen_faults(alloc, before.keepers.as_slice(), world.seats.as_slice())?;
+    let desks = risen(alloc, before.desks.as_slice(), world.desk_counts.as_slice())?;
+    let own = risen_own(alloc, before.own.as_slice(), world.seats.as_slice())?;
     push_entry(
         &mut world.entries,
         LineEntry {
@@ -129,6 +128,76 @@ fn push_entry(entries: &mut List<LineEntry>, entry: LineEntry) -> Result<(), All
 {
     entries.push(entry)?;
     Ok(())
+}
+
+// The numbers of the keepers whose counts rose.
+fn risen_faults<K: Keeper>(
+    alloc: Global,
+    before: &[u64],
+    seats: &[Seat<K>],
+) -> Result<List<u64>, AllocError>
+    ensures { IfOk result (λ numbers. numbers ≡ risen_from 0 before.now (fault_counts K.faults seats.now)) }
+{
+    let mut numbers = List::new(alloc);
+    add_risen_faults(&mut numbers, 0, before, seats)?;
+    Ok(numbers)
+}
+
+// The same from this number on, behind others.
+fn add_risen_faults<K: Keeper>(
+    numbers: &mut List<u64>,
+    number: u64,
+    before: &[u64],
+    seats: &[Seat<K>],
+) -> Result<(), AllocError>
+    requires few { number + length before.now ≤ 18446744073709551615 }
+    ensures { OnOk result (numbers.new ≡ numbers.old ++ risen_from number before.now (fault_counts K.faults seats.now)) }
+{
+    let [old, before @ ..] = before else {
+        return Ok(());
+    };
+    let [seat, seats @ ..] = seats else {
+        return Ok(());
+    };
+    if rises(*old, keeper_of(seat).faults()) {
+        numbers.push(number)?;
+    }
+    add_risen_faults(numbers, number + 1, before, seats)
+}
+
+// The numbers of the keepers whose own counts rose.
+fn risen_own<K: Keeper>(
+    alloc: Global,
+    before: &[u64],
+    seats: &[Seat<K>],
+) -> Result<List<u64>, AllocError>
+    ensures { IfOk result (λ numbers. numbers ≡ risen_from 0 before.now (own_counts K.own seats.now)) }
+{
+    let mut numbers = List::new(alloc);
+    add_risen_own(&mut numbers, 0, before, seats)?;
+    Ok(numbers)
+}
+
+// The same from this number on, behind others.
+fn add_risen_own<K: Keeper>(
+    numbers: &mut List<u64>,
+    number: u64,
+    before: &[u64],
+    seats: &[Seat<K>],
+) -> Result<(), AllocError>
+    requires few { number + length before.now ≤ 18446744073709551615 }
+    ensures { OnOk result (numbers.new ≡ numbers.old ++ risen_from number before.now (own_counts K.own seats.now)) }
+{
+    let [old, before @ ..] = before else {
+        return Ok(());
+    };
+    let [seat, seats @ ..] = seats else {
+        return Ok(());
+    };
+    if rises(*old, keeper_of(seat).own_faults()) {
+        numbers.push(number)?;
+    }
+    add_risen_own(numbers, number + 1, before, seats)
 }
 
 // The numbers of the counts that rose.

@@ -10,13 +10,14 @@ loop-at-init g c =
     c.args.elements.now.chains c.last_of-at.ensures
 
 pub loop-at-smaller : goal.loop-at-smaller
-loop-at-smaller g c = (walk_steps c.args.elements.now.chains.back c.loop-at.invariant c.in-Some.is c.deref.ensures.value c.in-Some-get.ensures.lookup.0 c.in-Some-get.ensures.lookup.1).fewer
+loop-at-smaller g c = rw c.place-at.ensures ((walk_steps c.args.elements.now.chains.back c.loop-at.invariant c.in-Some.is c.deref.ensures.value c.in-Some-get.ensures.lookup.0 c.in-Some-get.ensures.lookup.1).fewer)
 
 pub loop-at-preserved : goal.loop-at-preserved
 loop-at-preserved g c =
-    passed_by (is_held (has_tomb_in c.args.tombs.now.keys.keys c.args.tombs.now.ids.keys c.args.tombs.now.pairs.keys c.args.key.now) (c.args.held.now.priority, c.args.held.now.value))
+    rw c.place-at.ensures
+    (passed_by (is_held (has_tomb_in c.args.tombs.now.keys.keys c.args.tombs.now.ids.keys c.args.tombs.now.pairs.keys c.args.key.now) (c.args.held.now.priority, c.args.held.now.value))
     (walk_steps c.args.elements.now.chains.back c.loop-at.invariant c.in-Some.is c.deref.ensures.value c.in-Some-get.ensures.lookup.0 c.in-Some-get.ensures.lookup.1)
-    (sym c.in_ok-holds.ensures ∙ c.if-branch.false)
+    (sym c.in_ok-holds.ensures ∙ c.if-branch.false))
 
 pub returns-then-branch : goal.returns-then-branch
 returns-then-branch g c =

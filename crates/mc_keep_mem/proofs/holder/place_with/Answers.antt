@@ -15,13 +15,14 @@ pub loop-at-init : goal.loop-at-init
 loop-at-init g c = walk_begins (find (has c.args.priority c.args.value.now)) c.args.elements.now.chains c.in-Some.ensures.last
 
 pub loop-at-smaller : goal.loop-at-smaller
-loop-at-smaller g c = (walk_steps c.args.elements.now.chains.back c.loop-at.invariant c.in-Some-at.is c.deref.ensures.value c.in-Some-get.ensures.lookup.0 c.in-Some-get.ensures.lookup.1).fewer
+loop-at-smaller g c = rw c.place-at.ensures ((walk_steps c.args.elements.now.chains.back c.loop-at.invariant c.in-Some-at.is c.deref.ensures.value c.in-Some-get.ensures.lookup.0 c.in-Some-get.ensures.lookup.1).fewer)
 
 pub loop-at-preserved : goal.loop-at-preserved
 loop-at-preserved g c =
-    row_passed (has c.args.priority c.args.value.now)
+    rw c.place-at.ensures
+    (row_passed (has c.args.priority c.args.value.now)
     (walk_steps c.args.elements.now.chains.back c.loop-at.invariant c.in-Some-at.is c.deref.ensures.value c.in-Some-get.ensures.lookup.0 c.in-Some-get.ensures.lookup.1)
-    (sym c.has_value.ensures ∙ c.if-has_value.false)
+    (sym c.has_value.ensures ∙ c.if-has_value.false))
 
 pub returns-then-has_value-clause-row : goal.returns-then-has_value-clause-row
 returns-then-has_value-clause-row g c =

@@ -14,10 +14,10 @@ use Rattle.mc_keep_mem.proofs.values.place_row.Goals as goal
 pub returns-clause-rows : goal.returns-clause-rows
 returns-clause-rows g c =
     let nodes = c.args.elements.now.nodes.items in
-    let ranked : Ranked = (c.args.row.priority, c.args.row.value) in
+    let ranked : Ranked = (c.args.value.priority, c.args.value.value) in
     let rows : List ElementRow = rows_in nodes (last_in c.args.elements.now.keys) c.args.key.now in
     let found : row_at nodes c.args.key.now c.in-Some.place ≡ row_with ranked rows =
-    rw c.as_slice.ensures at c.in-Some.ensures.row in
+    rw c.as_slice-bytes.ensures at c.in-Some.ensures.row in
     let placed : (other : List ℕ) → value_in c.set_value-had.new.keys other ≡ cond (bytes_eq c.args.key.now other) (Some c.in-Some.place) (value_in c.args.elements.now.keys other) =
     λ other. c.set_value-had.ensures.values c.args.key.now c.in-Some.ensures.place other ∙ ap (λ z. cond (bytes_eq c.args.key.now other) z (value_in c.args.elements.now.keys other)) c.at.ensures in
     row_set nodes (value_in c.args.elements.now.keys) (value_in c.set_value-had.new.keys) c.args.key.now c.in-Some.place ranked rows found c.requires.brought placed
@@ -27,10 +27,10 @@ returns-clause-backed g c = λ hidden backed.
     let nodes = c.args.elements.now.nodes.items in
     let lasts = last_in c.args.elements.now.keys in
     let values = value_in c.set_value-had.new.keys in
-    let ranked : Ranked = (c.args.row.priority, c.args.row.value) in
+    let ranked : Ranked = (c.args.value.priority, c.args.value.value) in
     let rows : List ElementRow = rows_in nodes lasts c.args.key.now in
     let found : row_at nodes c.args.key.now c.in-Some.place ≡ row_with ranked rows =
-    rw c.as_slice.ensures at c.in-Some.ensures.row in
+    rw c.as_slice-bytes.ensures at c.in-Some.ensures.row in
     let placed : (other : List ℕ) → value_in c.set_value-had.new.keys other ≡ cond (bytes_eq c.args.key.now other) (Some c.in-Some.place) (value_in c.args.elements.now.keys other) =
     λ other. c.set_value-had.ensures.values c.args.key.now c.in-Some.ensures.place other ∙ ap (λ z. cond (bytes_eq c.args.key.now other) z (value_in c.args.elements.now.keys other)) c.at.ensures in
     backed_same hidden hidden nodes nodes lasts (last_in c.set_value-had.new.keys) values values (λ key id. refl) refl (same_rows nodes nodes lasts (last_in c.set_value-had.new.keys) refl c.set_value-had.ensures.lasts) (λ key. refl)
