@@ -6,8 +6,8 @@ ghost use Rattle.mc_model.specs.Offer.{offer, block_max};
 use crate::laws::written_blocks_are_good;
 use crate::limits::fit_types;
 use mc_base::{Bytes, Cid};
-use mc_dagpb::write_node;
-use mc_delta::write_delta;
+use mc_dagpb::begin_node;
+use mc_delta::{len_delta, push_delta};
 use mc_model::Delta;
 use std::alloc::{AllocError, Global};
 
@@ -28,10 +28,22 @@ pub fn write_block(alloc: Global, links: &[Cid], delta: &Delta) -> Result<Made, 
     ensures good { IfOk result (λ made. length made.bytes ≤ block_max →
         offer made.cid made.bytes ≡ Ok (record { cid = made.cid; links = links.now; delta = delta.now })) }
 {
-    let data = write_delta(alloc, delta)?;
-    let bytes = write_node(alloc, links, data.as_slice())?;
+    let bytes = bytes_of(alloc, links, delta)?;
     let cid = Cid::of(bytes.as_slice());
     fit_types(links, delta);
     written_blocks_are_good();
     Ok(Made { cid, bytes })
+}
+
+// The bytes of a block. A delta whose length passes 64 bits has no room in memory.
+fn bytes_of(alloc: Global, links: &[Cid], delta: &Delta) -> Result<Bytes, AllocError>
+    ensures { IfOk result (λ bytes. bytes ≡ made_bytes links.now delta.now) }
+{
+    let len = len_delta(delta);
+    if len == u64::MAX {
+        return Err(AllocError);
+    }
+    let mut bytes = begin_node(alloc, links, len)?;
+    push_delta(&mut bytes, delta)?;
+    Ok(bytes)
 }

@@ -15,4 +15,4 @@ pub use fault::{NodeError, NodeFault, NodeFaultKind};
 pub use laws::{nodes_are_read, written_nodes_are_read};
 pub use node::{Node, NodeView};
 pub use read::{read_node, view_node};
-pub use write::{node_len, write_node};
+pub use write::{begin_node, node_len, write_node};

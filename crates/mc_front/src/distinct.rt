@@ -1,5 +1,5 @@
 // The links of a group of blocks, each once.
-ghost use Rattle.std.specs.Prelude.{◌≡◌, fold, IfOk, OnOk};
+ghost use Rattle.std.specs.Prelude.{◌≡◌, fold, IfOk, IfSome, OnOk};
 ghost use Rattle.indexmap.specs.IndexSet.{insert_key};
 ghost use Rattle.mc_model.specs.Front.{same_cid, is_among};
 ghost use Rattle.mc_front.specs.Steps.{with_links, different_links};
@@ -14,18 +14,20 @@ use std::alloc::{AllocError, Global};
 // As many links are looked through one after another: a list of so few takes less time than a table.
 const FEW: usize = 8;
 
-// Identifiers, each once.
+// Identifiers, each once. At most one is lent.
 #[derive(Drop)]
-pub(crate) enum Distinct {
+pub(crate) enum Distinct<'a> {
+    Lent(&'a [Cid]),
     Few(List<Cid>),
     Many(IndexSet<Cid>),
 }
 
-impl Distinct {
+impl<'a> Distinct<'a> {
     pub(crate) fn as_slice(&self) -> &[Cid]
         ensures { result.now ≡ cids_in self.now }
     {
         match self {
+            Distinct::Lent(cids) => *cids,
             Distinct::Few(cids) => cids.as_slice(),
             Distinct::Many(cids) => cids.as_slice(),
         }
@@ -35,6 +37,7 @@ impl Distinct {
         ensures { result ≡ is_among (cids_in self.now) cid.now }
     {
         match self {
+            Distinct::Lent(cids) => has(*cids, cid),
             Distinct::Few(cids) => has(cids.as_slice(), cid),
             Distinct::Many(cids) => cids.contains(cid),
         }
@@ -42,14 +45,31 @@ impl Distinct {
 }
 
 // The links of the blocks, each once.
-pub(crate) fn links_of(alloc: Global, blocks: &[Block]) -> Result<Distinct, AllocError>
+pub(crate) fn links_of<'a>(alloc: Global, blocks: &'a [Block]) -> Result<Distinct<'a>, AllocError>
     ensures { IfOk result (λ links. cids_in links ≡ different_links blocks.now) }
 {
+    if let Some(links) = only_link(blocks) {
+        return Ok(Distinct::Lent(links));
+    }
     let count = link_count(blocks);
     if count <= FEW {
         return Ok(Distinct::Few(few_links(alloc, blocks, count)?));
     }
     Ok(Distinct::Many(many_links(alloc, blocks)?))
+}
+
+// The link of a block, or none of it, where it is the only block and has no more.
+fn only_link<'a>(blocks: &'a [Block]) -> Option<&'a [Cid]>
+    ensures { IfSome result (λ links. links.now ≡ different_links blocks.now) }
+{
+    let [block] = blocks else {
+        return None;
+    };
+    let links = block.links.as_slice();
+    match links {
+        [] | [_] => Some(links),
+        _ => None,
+    }
 }
 
 // How many links the blocks have, repeats too.

@@ -21,7 +21,7 @@ pub(crate) fn new_heads<K: Keeper>(
     keeper: &mut K,
     alloc: Global,
     blocks: &[Block],
-    links: &Distinct,
+    links: &Distinct<'_>,
 ) -> Result<List<HeadRow>, KeepError>
     ensures heads { IfTold (K.told keeper.old) result (λ kept heads.
         heads ≡ rows_of_heads (processed kept) (cids_in links.now) blocks.now) }
@@ -45,7 +45,7 @@ fn head_of(block: &Block) -> HeadRow
     }
 }
 
-fn is_led_to<K: Keeper>(keeper: &mut K, links: &Distinct, cid: &Cid) -> Result<bool, Failed>
+fn is_led_to<K: Keeper>(keeper: &mut K, links: &Distinct<'_>, cid: &Cid) -> Result<bool, Failed>
     ensures found { IfTold (K.told keeper.old) result (λ kept found.
         found ≡ leads_to (processed kept) (cids_in links.now) cid.now) }
     ensures reads { Reads K.Keeper (is_err result) keeper.old keeper.new }

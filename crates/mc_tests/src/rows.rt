@@ -98,8 +98,8 @@ fn merged_in<K: Keeper + Drop>(
 fn new_value<'a>(changes: &'a Changes, key: &str) -> Option<(u64, &'a [u8])> {
     for change in changes.values.as_slice() {
         if change.key.as_str() == key {
-            return match &change.row {
-                Some(row) => Some((row.priority, row.value.as_slice())),
+            return match &change.value {
+                Some(value) => Some((value.priority, value.value.as_slice())),
                 None => None,
             };
         }
