@@ -25,12 +25,7 @@ use std::alloc::{AllocError, Global};
 
 // Whether a tombstone of the group hides the elements of the key in a block. The block's id is made only where the
 // group has a tombstone of the key.
-fn is_named(
-    alloc: Global,
-    key: &str,
-    cid: &Cid,
-    tombs: &[NewTomb<'_>],
-) -> Result<bool, AllocError>
+fn is_named(alloc: Global, key: &str, cid: &Cid, tombs: &[NewTomb<'_>]) -> Result<bool, AllocError>
     requires sorted { IsStrictlySortedBy new_tomb_cmp tombs.now }
     ensures { IfOk result (λ named. named ≡ has_tomb_row (tombs_of tombs.now) key.now (id_text cid.now.0)) }
 {

@@ -88,14 +88,14 @@ fn row_of(alloc: Global, pair: &Pair) -> Result<ValueRow, AllocError> {
     })
 }
 
-fn find_value(
-    alloc: Global,
-    rows: &[Pair],
-    key: &str,
-) -> Result<Option<RankedValue>, AllocError> {
+fn find_value(alloc: Global, rows: &[Pair], key: &str) -> Result<Option<RankedValue>, AllocError> {
     for pair in rows {
         if pair.key.as_str() == key {
-            let ValueRow { priority, value, .. } = row_of(alloc, pair)?;
+            let ValueRow {
+                priority,
+                value,
+                ..
+            } = row_of(alloc, pair)?;
             return Ok(Some(RankedValue { priority, value }));
         }
     }
