@@ -7,7 +7,7 @@ use crate::laws::written_blocks_are_good;
 use crate::limits::fit_types;
 use mc_base::{Bytes, Cid};
 use mc_dagpb::begin_node;
-use mc_delta::{len_delta, push_delta};
+use mc_delta::{append_delta, len_delta};
 use mc_model::Delta;
 use std::alloc::{AllocError, Global};
 
@@ -43,7 +43,6 @@ fn bytes_of(alloc: Global, links: &[Cid], delta: &Delta) -> Result<Bytes, AllocE
     if len == u64::MAX {
         return Err(AllocError);
     }
-    let mut bytes = begin_node(alloc, links, len)?;
-    push_delta(&mut bytes, delta)?;
-    Ok(bytes)
+    let node = begin_node(alloc, links, len)?;
+    append_delta(node, delta)
 }

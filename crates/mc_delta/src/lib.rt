@@ -12,4 +12,4 @@ pub use fault::{DeltaError, DeltaFault, DeltaFaultKind};
 pub use laws::{deltas_are_read, written_deltas_are_read};
 pub use length::len_delta;
 pub use read::read_delta;
-pub use write::{push_delta, write_delta};
+pub use write::{append_delta, write_delta};

@@ -28,21 +28,22 @@ const VALUE: u64 = 3;
 pub fn write_delta(alloc: Global, delta: &Delta) -> Result<Bytes, AllocError>
     ensures { IfOk result (λ bytes. bytes ≡ delta_bytes delta.now) }
 {
-    let mut out = Bytes::with_capacity(alloc, len_delta(delta) as usize)?;
-    push_delta(&mut out, delta)?;
-    Ok(out)
+    let out = Bytes::with_capacity(alloc, len_delta(delta) as usize)?;
+    append_delta(out, delta)
 }
 
-/// Appends the written spelling of a delta. Where there is no memory, some of it may have been appended.
-pub fn push_delta(out: &mut Bytes, delta: &Delta) -> Result<(), AllocError>
-    ensures { OnOk result (out.new ≡ out.old ++ delta_bytes delta.now) }
+/// These bytes with the written spelling of a delta behind them. They are taken over, and are gone where there is no
+/// memory.
+pub fn append_delta(bytes: Bytes, delta: &Delta) -> Result<Bytes, AllocError>
+    ensures { IfOk result (λ out. out ≡ bytes ++ delta_bytes delta.now) }
 {
-    push_elements(out, delta.elements.as_slice())?;
-    push_tombs(out, delta.tombstones.as_slice())?;
+    let mut out = bytes;
+    push_elements(&mut out, delta.elements.as_slice())?;
+    push_tombs(&mut out, delta.tombstones.as_slice())?;
     if delta.priority != 0 {
-        put_varint_field(out, PRIORITY, delta.priority)?;
+        put_varint_field(&mut out, PRIORITY, delta.priority)?;
     }
-    Ok(())
+    Ok(out)
 }
 
 fn push_elements(out: &mut Bytes, elements: &[Element]) -> Result<(), AllocError>

@@ -16,8 +16,8 @@ use std::cmp::Ordering;
 use std::collections::BTreeSet;
 use std::hash::BuildHasher;
 
-/// Puts copies of the keys that wait into order, the least first, but for those that lost their value meanwhile. After
-/// want of memory some have been, and the others still wait.
+/// Puts copies of the keys that wait into order, the greatest first, but for those that lost their value meanwhile.
+/// After want of memory some have been, and the others still wait.
 pub(crate) fn settle<S: BuildHasher + Drop>(
     alloc: Global,
     values: &mut Values,
@@ -41,14 +41,15 @@ pub(crate) fn settle<S: BuildHasher + Drop>(
     Ok(())
 }
 
-// Sorts the places of keys by these, the greatest first.
+// Sorts the places of keys by these, the least first. Taken from the end, each key is below those that were put into
+// order before it, so of each node on its way it is compared with the first key alone.
 fn sort_waiting<S: BuildHasher + Drop>(pending: &mut Vec<usize>, keys: &IndexMap<String, Places, S>)
     ensures waits { (key : List ℕ) → waits_in (texts_in keys.now) pending.new.items key
         ≡ waits_in (texts_in keys.now) pending.old.items key }
     ensures len { vec_len pending.new ≡ vec_len pending.old }
     ensures capacity { vec_capacity pending.new ≡ vec_capacity pending.old }
 {
-    pending.sort_unstable_by(|a, b| key_order(keys, *b, *a));
+    pending.sort_unstable_by(|a, b| key_order(keys, *a, *b));
 }
 
 // How the keys at two places compare.

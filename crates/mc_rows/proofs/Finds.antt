@@ -1,5 +1,5 @@
 -- What a binary search finds in sorted rows.
-use Rattle.std.proofs.Common.{◌≡◌, ℕ, zero, suc, ◌+◌, ◌<◌, ◌≤◌, length, take, drop, get_or, Bool, true, false, cond, ◌&&◌, List, [], ◌∷◌, ◌⊎◌, inl, inr, sym, refl, ap, ◌∙◌, arith}
+use Rattle.std.proofs.Common.{◌≡◌, ℕ, zero, suc, ◌+◌, ◌-◌, ◌<◌, ◌≤◌, length, take, drop, get_or, Bool, true, false, cond, ◌&&◌, List, [], ◌∷◌, ◌⊎◌, inl, inr, sym, refl, ap, ◌∙◌, arith}
 use Rattle.std.specs.Prelude.{filter, Result, Ok, Err}
 use Rattle.std.specs.List.{list_any, AllWithin}
 use Rattle.std.specs.List.Sorted.{IsStrictlySortedBy, IsSortedBy, IsNonDecreasingBy, IsPartitionedBy, IsPartitionPoint, IsBinarySearchResult, IsSearchInRange}
@@ -23,6 +23,7 @@ use Rattle.mc_rows.specs.declared.elements.NewElement.{NewElement}
 use Rattle.mc_rows.specs.declared.tombs.NewTomb.{NewTomb}
 use Rattle.mc_rows.specs.Rows.{row_of, rows_of, tomb_of, tombs_of, new_element_cmp, new_tomb_cmp, new_tomb_total}
 use Rattle.mc_rows.specs.Hiding.{has_tomb_of, rows_with}
+use Rattle.mc_rows.specs.Places.{goes_before, IsPlace}
 
 module _ {X : Type 0} where
   -- what an order tells of neighbours, a part of it tells too
@@ -166,28 +167,42 @@ module _ (xs : List NewElement) (key : List ℕ) (sorted : IsStrictlySortedBy ne
   rising : IsNonDecreasingBy (λ e. ordering_index (order e)) xs
   rising = searchable_from_sorted nat_list_cmp_total (λ (e : NewElement). e.key.now) xs key (sorted_by_part new_element_cmp (slice_cmp nat_cmp) (λ (e : NewElement). e.key.now) element_key_below xs sorted)
 
-  pub below_parted : IsPartitionedBy (λ (e : NewElement). is_lt (slice_cmp nat_cmp e.key.now key)) xs
+  below_parted : IsPartitionedBy (λ (e : NewElement). is_lt (slice_cmp nat_cmp e.key.now key)) xs
   below_parted i j d up in' e = lt_down _ _ (rising i j d up in') e
 
-  pub upto_parted : IsPartitionedBy (λ (e : NewElement). is_le (slice_cmp nat_cmp e.key.now key)) xs
+  upto_parted : IsPartitionedBy (λ (e : NewElement). is_le (slice_cmp nat_cmp e.key.now key)) xs
   upto_parted i j d up in' e = le_down _ _ (rising i j d up in') e
 
-abbrev pub BelowPoint : List NewElement → List ℕ → ℕ → Type 0
-BelowPoint xs key lo = IsPartitionPoint (λ (e : NewElement). is_lt (slice_cmp nat_cmp e.key.now key) ≡ true) (λ (e : NewElement). is_lt (slice_cmp nat_cmp e.key.now key) ≡ false) xs lo
+-- so does each of both tests
+pub parted : (xs : List NewElement) (key : List ℕ) (inclusive : Bool) → IsStrictlySortedBy new_element_cmp xs → IsPartitionedBy (goes_before inclusive key) xs
+parted xs key true sorted = upto_parted xs key sorted
+parted xs key false sorted = below_parted xs key sorted
 
-abbrev pub UptoPoint : List NewElement → List ℕ → ℕ → Type 0
-UptoPoint xs key hi = IsPartitionPoint (λ (e : NewElement). is_le (slice_cmp nat_cmp e.key.now key) ≡ true) (λ (e : NewElement). is_le (slice_cmp nat_cmp e.key.now key) ≡ false) xs hi
+-- a place that parts its neighbours parts all
+pub place_here : (xs : List NewElement) (key : List ℕ) (inclusive : Bool) (at : ℕ) → IsStrictlySortedBy new_element_cmp xs → at ≤ length xs
+    → ((d : NewElement) → 0 < at → goes_before inclusive key (get_or xs (at - 1) d) ≡ true)
+    → ((d : NewElement) → at < length xs → goes_before inclusive key (get_or xs at d) ≡ false)
+    → IsPlace xs key inclusive at
+place_here xs key inclusive at sorted within before behind = (
+  λ k d a b. parted xs key inclusive sorted k (at - 1) d (omega (arith, b)) (omega (arith, b, within)) (before d (omega (arith, b))),
+  λ k d a b. rest k d a b (goes_before inclusive key (get_or xs k d)) refl,
+)
+  where
+    rest : (k : ℕ) (d : NewElement) → at ≤ k → k < length xs → (b : Bool) → goes_before inclusive key (get_or xs k d) ≡ b → goes_before inclusive key (get_or xs k d) ≡ false
+    rest k d a b false e = e
+    rest k d a b true e =
+        absurd (let no : true ≡ false = sym (parted xs key inclusive sorted at k d a b e) ∙ behind d (omega (arith, a, b)) in cc)
 
-pub points_in_order : (xs : List NewElement) (key : List ℕ) (lo hi : ℕ) → lo ≤ length xs → BelowPoint xs key lo → UptoPoint xs key hi → lo ≤ hi
+pub points_in_order : (xs : List NewElement) (key : List ℕ) (lo hi : ℕ) → lo ≤ length xs → IsPlace xs key false lo → IsPlace xs key true hi → lo ≤ hi
 points_in_order xs key lo hi within below upto = in_order (cases_lt hi lo) xs within below upto
   where
-    in_order : (hi < lo) ⊎ (lo ≤ hi) → (ys : List NewElement) → lo ≤ length ys → BelowPoint ys key lo → UptoPoint ys key hi → lo ≤ hi
+    in_order : (hi < lo) ⊎ (lo ≤ hi) → (ys : List NewElement) → lo ≤ length ys → IsPlace ys key false lo → IsPlace ys key true hi → lo ≤ hi
     in_order (inr up) ys within below upto = up
     in_order (inl down) [] within below upto = absurd (omega (arith, within, down))
     in_order (inl down) (y ∷ ys) within below upto =
         absurd (let yes : true ≡ false = sym (lt_then_le _ (below.0 hi y (omega arith) down)) ∙ upto.1 hi y (omega arith) (omega (arith, within, down)) in cc)
 
-pub elements_found : (xs : List NewElement) (key : List ℕ) (lo hi : ℕ) → lo ≤ length xs → hi ≤ length xs → BelowPoint xs key lo → UptoPoint xs key hi
+pub elements_found : (xs : List NewElement) (key : List ℕ) (lo hi : ℕ) → lo ≤ length xs → hi ≤ length xs → IsPlace xs key false lo → IsPlace xs key true hi
     → rows_of (drop lo (take hi xs)) ≡ rows_with (rows_of xs) key
 elements_found xs key lo hi within top below upto =
     ap rows_of (filter_between (λ (e : NewElement). bytes_eq e.key.now key) xs lo hi (points_in_order xs key lo hi within below upto)

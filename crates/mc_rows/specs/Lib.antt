@@ -1,4 +1,5 @@
 pub mod Rows
 pub mod Hiding
 pub mod LastBlock
+pub mod Places
 pub mod Values

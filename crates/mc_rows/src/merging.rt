@@ -14,6 +14,7 @@ ghost use Rattle.mc_rows.specs.Values.{ValuesFit, change_list};
 
 use crate::elements::{NewElement, element_rows_from, new_elements};
 use crate::keys::keys_of;
+use crate::search::elements_with;
 use crate::tombs::{NewTomb, new_tombs, tomb_rows_from};
 use crate::values::change_of;
 use mc_base::List;
@@ -78,8 +79,11 @@ fn value_changes<K: Keeper>(
     ensures reads { Reads K.Keeper (is_fault result) keeper.old keeper.new }
 {
     let mut values = List::with_capacity(alloc, keys.len())?;
+    let mut at = 0;
     for key in keys {
-        let change = change_of(keeper, alloc, *key, elements, tombs)?;
+        let (own, next) = elements_with(elements, *key, at);
+        at = next;
+        let change = change_of(keeper, alloc, *key, own, tombs)?;
         push_change(&mut values, change)?;
     }
     Ok(values)

@@ -7,21 +7,21 @@ ghost use Rattle.mc_keep.specs.Calls.{Reads};
 ghost use Rattle.mc_keep.specs.Causes.{IfTold};
 ghost use Rattle.mc_keep.specs.Plan.{is_fault};
 ghost use Rattle.mc_keep.specs.Changes.{ranked_value};
-ghost use Rattle.mc_rows.specs.Rows.{new_element_cmp, new_tomb_cmp, rows_of, tombs_of};
-ghost use Rattle.mc_rows.specs.Hiding.{new_row, row_from, HidesValue, Stands};
+ghost use Rattle.mc_rows.specs.Rows.{new_tomb_cmp, rows_of, tombs_of};
+ghost use Rattle.mc_rows.specs.Hiding.{row_from, HidesValue, Stands};
 ghost use Rattle.mc_rows.specs.Values.{ranked_best, ChangesTo, IsChange};
 
 use crate::best::{Best, best_of, is_unchanged};
 use crate::elements::NewElement;
 use crate::live::{best_of_old, best_with_new};
-use crate::search::{elements_with, has_tomb, has_tomb_with};
+use crate::search::{has_tomb, has_tomb_with};
 use crate::tombs::NewTomb;
 use mc_base::{Bytes, Text};
 use mc_keep::{KeepError, Keeper, RankedValue, ValueChange};
 use mc_model::id_of;
 use std::alloc::{AllocError, Global};
 
-// The change of a key's value by the new elements and tombstones, or none where it stays.
+// The change of a key's value by these new elements of it and the new tombstones, or none where it stays.
 pub(crate) fn change_of<K: Keeper>(
     keeper: &mut K,
     alloc: Global,
@@ -29,15 +29,13 @@ pub(crate) fn change_of<K: Keeper>(
     elements: &[NewElement<'_>],
     tombs: &[NewTomb<'_>],
 ) -> Result<Option<ValueChange>, KeepError>
-    requires elements { IsStrictlySortedBy new_element_cmp elements.now }
     requires tombs { IsStrictlySortedBy new_tomb_cmp tombs.now }
     ensures change { IfTold (K.told keeper.old) result (λ kept change.
         IsChange key.now (value_row (processed kept) key.now)
-        (new_row (processed kept) (rows_of elements.now) (tombs_of tombs.now) key.now) change) }
+        (row_from (processed kept) (rows_of elements.now) (tombs_of tombs.now) key.now) change) }
     ensures reads { Reads K.Keeper (is_fault result) keeper.old keeper.new }
 {
     let old = keeper.value(alloc, key)?;
-    let elements = elements_with(elements, key);
     if is_hidden_anew(keeper, alloc, key, tombs, &old)? {
         return change_anew(keeper, alloc, key, elements, tombs, &old);
     }
