@@ -1,15 +1,15 @@
 -- Chains of nodes: what one more node leaves of them.
 use Rattle.std.proofs.Common.{◌≡◌, ℕ, zero, suc, ◌+◌, ◌<◌, ◌≤◌, ◌||◌, ◌⊎◌, inl, inr, arith, Bool, true, false, cond, List, [], ◌∷◌, ◌++◌, map, length, Option, Some, None, sym, refl, ap, ◌∙◌, subst, length-append, ltb, get_or}
 use Rattle.std.specs.Prelude.{slice_get, nat_eq, nat_lt}
-use Rattle.std.specs.Option.{option_map}
 use Rattle.std.specs.Str.{bytes_eq}
 use Rattle.std.proofs.lemmas.Bool.Decides.{nat_tests}
 use Rattle.std.proofs.lemmas.Bool.{and_from, and_parts, or_cases}
 use Rattle.std.proofs.lemmas.Option.{slice_get_within}
 use Rattle.std.proofs.lemmas.Slice.Eq.{bytes_eq-Decides}
+use Rattle.mc_base.specs.declared.cid.Cid.{Cid}
 use Rattle.mc_keep.specs.declared.rows.ElementRow.{ElementRow}
 use Rattle.mc_keep_mem.specs.declared.elements.Node.{Node}
-use Rattle.mc_keep_mem.specs.Chains.{is_before, is_on, lead_back, chain, row_of_node, rows_in, AreChains, KeepsRows}
+use Rattle.mc_keep_mem.specs.Chains.{is_before, is_on, lead_back, chain, row_of_node, rows_in, AreChains, KeepsNodes}
 
 pub before_later : (place later : ℕ) (at : Option ℕ) → place ≤ later → is_before place at ≡ true → is_before later at ≡ true
 before_later place later None l e = refl
@@ -131,19 +131,15 @@ module _ (nodes : List Node) (back : lead_back 0 nodes ≡ true) where
       ]
 
 -- one more node leaves what stands at each place
-pub push_keeps : (nodes : List Node) (node : Node) → KeepsRows nodes (nodes ++ node ∷ [])
-push_keeps nodes node = λ key place row got. ap (option_map (row_of_node key)) (get_push nodes node place (by key place row (slice_get nodes place) refl got)) ∙ got
-  where
-    by : (key : List ℕ) (place : ℕ) (row : ElementRow) (found : Option Node) → slice_get nodes place ≡ found → option_map (row_of_node key) found ≡ Some row → place < length nodes
-    by key place row None is e = absurd (let f : None ≡ Some row = e in cc)
-    by key place row (Some n) is e = slice_get_within nodes place n is
+pub push_keeps : (nodes : List Node) (node : Node) → KeepsNodes nodes (nodes ++ node ∷ [])
+push_keeps nodes node = λ place n got. get_push nodes node place (slice_get_within nodes place n got) ∙ got
 
 -- the table after one more row
-pub record IsRowPut (nodes new_nodes : List Node) (lasts new_lasts : List ℕ → Option ℕ) (row : ElementRow) : Type 0 where
+pub record IsRowPut (cids : List Cid) (nodes new_nodes : List Node) (lasts new_lasts : List ℕ → Option ℕ) (row : ElementRow) : Type 0 where
   pub chains : AreChains new_nodes new_lasts
-  pub rows : (key : List ℕ) → rows_in new_nodes new_lasts key ≡ cond (bytes_eq row.key key) (row ∷ rows_in nodes lasts key) (rows_in nodes lasts key)
+  pub rows : (key : List ℕ) → rows_in cids new_nodes new_lasts key ≡ cond (bytes_eq row.key key) (row ∷ rows_in cids nodes lasts key) (rows_in cids nodes lasts key)
 
-module _ (nodes : List Node) (lasts new_lasts : List ℕ → Option ℕ) (key : List ℕ) (node : Node) (chains : AreChains nodes lasts)
+module _ (cids : List Cid) (nodes : List Node) (lasts new_lasts : List ℕ → Option ℕ) (key : List ℕ) (node : Node) (chains : AreChains nodes lasts)
     (leads : node.before ≡ lasts key)
     (updates : (other : List ℕ) → new_lasts other ≡ cond (bytes_eq key other) (Some (length nodes)) (lasts other)) where
   longer : length (nodes ++ node ∷ []) ≡ suc (length nodes)
@@ -192,28 +188,28 @@ module _ (nodes : List Node) (lasts new_lasts : List ℕ → Option ℕ) (key : 
       by other true = grind (arith, nat_tests)
       by other false = before_later (length nodes) (suc (length nodes)) (lasts other) (omega arith) (chains.there other)
 
-  at_key : (other : List ℕ) → bytes_eq key other ≡ true → map (row_of_node other) (chain (nodes ++ node ∷ []) (suc (length nodes)) (Some (length nodes))) ≡ row_of_node key node ∷ rows_in nodes lasts other
+  at_key : (other : List ℕ) → bytes_eq key other ≡ true → map (row_of_node cids other) (chain (nodes ++ node ∷ []) (suc (length nodes)) (Some (length nodes))) ≡ row_of_node cids key node ∷ rows_in cids nodes lasts other
   at_key other e =
       let same : key ≡ other = (bytes_eq-Decides key other).0 e in
-      ap (λ found. map (row_of_node other) (next nodes chains.back (nodes ++ node ∷ []) (length nodes) found)) (get_last nodes node)
-      ∙ ap (λ rest. row_of_node other node ∷ map (row_of_node other) rest) (chain_push nodes chains.back node (length nodes) node.before before_end ∙ ap (chain nodes (length nodes)) (leads ∙ ap lasts same))
-      ∙ ap (λ z. row_of_node z node ∷ rows_in nodes lasts other) (sym same)
+      ap (λ found. map (row_of_node cids other) (next nodes chains.back (nodes ++ node ∷ []) (length nodes) found)) (get_last nodes node)
+      ∙ ap (λ rest. row_of_node cids other node ∷ map (row_of_node cids other) rest) (chain_push nodes chains.back node (length nodes) node.before before_end ∙ ap (chain nodes (length nodes)) (leads ∙ ap lasts same))
+      ∙ ap (λ z. row_of_node cids z node ∷ rows_in cids nodes lasts other) (sym same)
 
-  elsewhere : (other : List ℕ) → map (row_of_node other) (chain (nodes ++ node ∷ []) (suc (length nodes)) (lasts other)) ≡ rows_in nodes lasts other
+  elsewhere : (other : List ℕ) → map (row_of_node cids other) (chain (nodes ++ node ∷ []) (suc (length nodes)) (lasts other)) ≡ rows_in cids nodes lasts other
   elsewhere other =
-      ap (map (row_of_node other)) (chain_push nodes chains.back node (suc (length nodes)) (lasts other) (chains.there other)
+      ap (map (row_of_node cids other)) (chain_push nodes chains.back node (suc (length nodes)) (lasts other) (chains.there other)
       ∙ sym (chain_more nodes chains.back (length nodes) (suc (length nodes)) (lasts other) (chains.there other) (omega arith)))
 
-  pub row_put : IsRowPut nodes (nodes ++ node ∷ []) lasts new_lasts (row_of_node key node)
+  pub row_put : IsRowPut cids nodes (nodes ++ node ∷ []) lasts new_lasts (row_of_node cids key node)
   row_put = record {
     chains = still_chains;
     rows = λ other.
-        ap (λ z. map (row_of_node other) (chain (nodes ++ node ∷ []) z (new_lasts other))) longer
-        ∙ ap (λ z. map (row_of_node other) (chain (nodes ++ node ∷ []) (suc (length nodes)) z)) (updates other)
+        ap (λ z. map (row_of_node cids other) (chain (nodes ++ node ∷ []) z (new_lasts other))) longer
+        ∙ ap (λ z. map (row_of_node cids other) (chain (nodes ++ node ∷ []) (suc (length nodes)) z)) (updates other)
         ∙ by other (bytes_eq key other) refl;
   }
     where
-      by : (other : List ℕ) (b : Bool) → bytes_eq key other ≡ b → map (row_of_node other) (chain (nodes ++ node ∷ []) (suc (length nodes)) (cond b (Some (length nodes)) (lasts other))) ≡ cond b (row_of_node key node ∷ rows_in nodes lasts other) (rows_in nodes lasts other)
+      by : (other : List ℕ) (b : Bool) → bytes_eq key other ≡ b → map (row_of_node cids other) (chain (nodes ++ node ∷ []) (suc (length nodes)) (cond b (Some (length nodes)) (lasts other))) ≡ cond b (row_of_node cids key node ∷ rows_in cids nodes lasts other) (rows_in cids nodes lasts other)
       by other true e = at_key other e
       by other false e = elsewhere other
 
@@ -265,7 +261,7 @@ same_chains nodes new_nodes lasts new_lasts e same chains = record {
     back : (key : List ℕ) (place : ℕ) → is_on new_nodes (length new_nodes) (new_lasts key) place ≡ true → is_on nodes (length nodes) (lasts key) place ≡ true
     back key place f = ap (λ z. is_on nodes (length nodes) z place) (sym (same key)) ∙ ap (λ z. is_on z (length z) (new_lasts key) place) (sym e) ∙ f
 
-pub same_rows : (nodes new_nodes : List Node) (lasts new_lasts : List ℕ → Option ℕ) → new_nodes ≡ nodes
-    → ((key : List ℕ) → new_lasts key ≡ lasts key) → (key : List ℕ) → rows_in new_nodes new_lasts key ≡ rows_in nodes lasts key
-same_rows nodes new_nodes lasts new_lasts e same key =
-    ap (λ z. map (row_of_node key) (chain z (length z) (new_lasts key))) e ∙ ap (λ z. map (row_of_node key) (chain nodes (length nodes) z)) (same key)
+pub same_rows : (cids : List Cid) → (nodes new_nodes : List Node) (lasts new_lasts : List ℕ → Option ℕ) → new_nodes ≡ nodes
+    → ((key : List ℕ) → new_lasts key ≡ lasts key) → (key : List ℕ) → rows_in cids new_nodes new_lasts key ≡ rows_in cids nodes lasts key
+same_rows cids nodes new_nodes lasts new_lasts e same key =
+    ap (λ z. map (row_of_node cids key) (chain z (length z) (new_lasts key))) e ∙ ap (λ z. map (row_of_node cids key) (chain nodes (length nodes) z)) (same key)

@@ -1,6 +1,6 @@
 -- Empty tables fit.
 use Rattle.std.proofs.Common.{◌≡◌, ℕ, Bool, true, false, List, [], None, map, sym, refl, ap, ◌∙◌, subst}
-use Rattle.std.specs.Prelude.{filter, is_some}
+use Rattle.std.specs.Prelude.{filter, is_some, slice_get}
 use Rattle.std.specs.List.{list_any}
 use Rattle.std.specs.HashMap.{keys as map_keys}
 use Rattle.std.specs.Map.{lookup}
@@ -14,15 +14,16 @@ use Rattle.std.specs.declared.hash.Hasher as hash
 use Rattle.mc_model.specs.Front.{same_cid, is_among, is_gap, head_at}
 use Rattle.mc_model.specs.Live.{has_tomb, value_row}
 use Rattle.mc_model.specs.Kept.{Kept, IsKept, processed}
-use Rattle.mc_keep.specs.LiveRows.{live_element_rows, ranked_of}
+use Rattle.mc_keep.specs.LiveRows.{live_element_rows}
 use Rattle.mc_keep_mem.specs.Places.{last_in, value_in}
 use Rattle.mc_keep_mem.specs.declared.places.Places.{Places}
 use Rattle.mc_keep_mem.specs.declared.tables.Tables.{Tables}
-use Rattle.mc_keep_mem.specs.Chains.{is_live, row_at, rows_in}
+use Rattle.mc_keep_mem.specs.Chains.{are_stored, is_live, row_at, rows_in}
 use Rattle.mc_keep_mem.specs.Fits.{kept_in, tomb_in, Fits}
 use Rattle.mc_keep_mem.specs.Graph.{cid_in, stored_of}
 use Rattle.mc_keep_mem.specs.Holder.{is_backed}
 use Rattle.mc_keep_mem.specs.Tombs.{same_pair, number_of}
+use Rattle.mc_keep_mem.specs.Values.{ranked_in}
 
 abbrev empty : Bool → Kept
 empty mark = record { graph = []; order = []; mark = mark }
@@ -43,16 +44,17 @@ module _ {S X : Type 0} {g : build.Ghosts S X} {h : hash.Ghosts X} (tables : Tab
   pub fits_empty : Fits tables
   fits_empty = record {
     kept = subst IsKept (sym told) (record { good = refl; stored_once = refl; order_once = refl; stored = refl });
-    elements = λ key. record { same = λ test. ap (λ z. list_any test (filter (is_live (tomb_in tables key)) (rows_in z (last_in tables.elements.keys) key))) nodes ∙ ap (λ z. list_any test (live_element_rows z key)) (sym none) };
+    blocks = ap (are_stored (map_keys tables.graph.blocks)) nodes;
+    elements = λ key. record { same = λ test. ap (λ z. list_any test (filter (is_live (tomb_in tables key)) (rows_in (map_keys tables.graph.blocks) z (last_in tables.elements.keys) key))) nodes ∙ ap (λ z. list_any test (live_element_rows z key)) (sym none) };
     tombs = λ key id.
         ap (list_any (same_pair (number_of tables.tombs.keys.keys key, number_of tables.tombs.ids.keys id))) pairs ∙ ap (λ z. has_tomb z key id) (sym none);
-    values = λ key. ap (λ z. option_map ranked_of (option_and_then (row_at tables.elements.nodes.items key) z)) (no_value key) ∙ ap (λ z. value_row z key) (sym none);
+    values = λ key. ap (λ z. option_map ranked_in (option_and_then (slice_get tables.elements.nodes.items) z)) (no_value key) ∙ ap (λ z. value_row z key) (sym none);
     covered = record {
       each = λ key some. absurd (let f : false ≡ true = sym (ap is_some (no_value key)) ∙ some in cc);
       exact = λ key there. absurd (let f : false ≡ true = sym (ap (list_any (λ k. is_eq (slice_cmp nat_cmp key (string_bytes k)))) ordered) ∙ there in cc);
     };
     backed = record {
-      each = λ key. ap (is_backed (tomb_in tables key) (rows_in tables.elements.nodes.items (last_in tables.elements.keys) key) (row_at tables.elements.nodes.items key)) (no_value key);
+      each = λ key. ap (is_backed (tomb_in tables key) (rows_in (map_keys tables.graph.blocks) tables.elements.nodes.items (last_in tables.elements.keys) key) (row_at (map_keys tables.graph.blocks) tables.elements.nodes.items key)) (no_value key);
     };
     gaps = λ cid. ap (λ z. is_among z cid) gaps ∙ ap (λ z. is_gap z cid) (sym none);
     heads = λ cid. ap (lookup (same_cid cid)) heads ∙ ap (λ z. head_at z cid) (sym none);

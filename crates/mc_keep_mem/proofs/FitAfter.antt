@@ -1,6 +1,7 @@
 -- What a commit leaves fits.
 use Rattle.std.proofs.Common.{◌≡◌, ℕ, Bool, true, false, not, List, ◌++◌, map, ◌||◌, ◌&&◌, sym, refl, ap, ◌∙◌, subst}
 use Rattle.std.specs.Prelude.{filter, fold}
+use Rattle.std.specs.HashMap.{keys}
 use Rattle.std.specs.List.{list_any}
 use Rattle.std.specs.Str.{bytes_eq}
 use Rattle.std.specs.declared.hash.BuildHasher as build
@@ -13,7 +14,7 @@ use Rattle.mc_model.specs.Id.{id_text}
 use Rattle.mc_model.specs.SameMembers.{SameMembers}
 use Rattle.mc_model.specs.Front.{same_cid, is_among, is_linked, is_processed, is_gap, head_at}
 use Rattle.mc_model.specs.Live.{has_tomb, value_row}
-use Rattle.mc_model.specs.Kept.{Kept, IsKept, processed}
+use Rattle.mc_model.specs.Kept.{Kept, IsKept, cids_of, processed}
 use Rattle.mc_model.proofs.Blocks.{is_processed_has}
 use Rattle.mc_model.proofs.Members.{any_agree, list_any-filter}
 use Rattle.mc_keep.specs.declared.rows.ElementRow.{ElementRow}
@@ -23,11 +24,12 @@ use Rattle.mc_keep.specs.LiveRows.{is_shown, live_element_rows}
 use Rattle.mc_keep.specs.Tables.{element_row, element_rows, element_rows_of, ChangesFit}
 use Rattle.mc_keep_mem.specs.Places.{last_in, value_in}
 use Rattle.mc_keep_mem.specs.declared.tables.Tables.{Tables}
-use Rattle.mc_keep_mem.specs.Chains.{is_live, rows_in}
+use Rattle.mc_keep_mem.specs.Chains.{is_live, rows_in, with_element}
 use Rattle.mc_keep_mem.specs.Front.{closed_by}
 use Rattle.mc_keep_mem.specs.Fits.{kept_in, order_in, tomb_in, Fits, Applied}
 use Rattle.mc_keep_mem.proofs.Fit.{elements_put, tombs_put, closed_all, opened_all}
 use Rattle.mc_keep_mem.proofs.HolderFacts.{are_there, backed_put}
+use Rattle.mc_keep_mem.proofs.StoredFacts.{keys_grown, rows_grown, rows_stay, still_stored}
 use Rattle.mc_keep_mem.proofs.ValueFacts.{row_kept}
 
 -- the rows of a key over further blocks
@@ -64,6 +66,16 @@ module _ {S X : Type 0} {g : build.Ghosts S X} {h : hash.Ghosts X} (old new : Ta
   blocks_after : processed (kept_in new) ≡ processed (kept_in old) ++ newly_processed (kept_in old) changes
   blocks_after = ap processed told_after ∙ processed_after
 
+  grown : keys new.graph.blocks ≡ keys old.graph.blocks ++ cids_of changes.store
+  grown = keys_grown old.graph.blocks new.graph.blocks changes.store applied.graph
+
+  rows_after : (key : List ℕ) → rows_in (keys new.graph.blocks) new.elements.nodes.items (last_in new.elements.keys) key
+      ≡ fold (with_element key) (rows_in (keys old.graph.blocks) old.elements.nodes.items (last_in old.elements.keys) key) changes.elements
+  rows_after key =
+      applied.elements key
+      ∙ ap (λ (rows : List ElementRow). fold (with_element key) rows changes.elements)
+      (rows_grown (keys old.graph.blocks) (keys new.graph.blocks) (cids_of changes.store) grown old.elements.nodes.items fits.blocks (last_in old.elements.keys) key)
+
   tombs_after : (key id : List ℕ) → tomb_in new key id ≡ has_tomb (processed (kept_in new)) key id
   tombs_after key id =
       applied.tombs key id ∙ tombs_put key id (tomb_in old key id) changes.tombs ∙ ap (λ t. t || has_tomb_row changes.tombs key id) (fits.tombs key id)
@@ -90,21 +102,21 @@ module _ {S X : Type 0} {g : build.Ghosts S X} {h : hash.Ghosts X} (old new : Ta
   abbrev passes : List ℕ → (ElementRow → Bool) → ElementRow → Bool
   passes key test row = is_live (tomb_in new key) row && test row
 
-  old_rows : (key : List ℕ) (test : ElementRow → Bool) → list_any (passes key test) (rows_in old.elements.nodes.items (last_in old.elements.keys) key) ≡ list_any (passes key test) (element_rows_of (processed (kept_in old)) key)
+  old_rows : (key : List ℕ) (test : ElementRow → Bool) → list_any (passes key test) (rows_in (keys old.graph.blocks) old.elements.nodes.items (last_in old.elements.keys) key) ≡ list_any (passes key test) (element_rows_of (processed (kept_in old)) key)
   old_rows key test =
-      sym (any_agree (λ row. is_live (tomb_in old key) row && passes key test row) (passes key test) (λ row. both (is_live (tomb_in old key) row) (is_live (tomb_in new key) row) (test row) (still_hidden key row)) (rows_in old.elements.nodes.items (last_in old.elements.keys) key))
-      ∙ sym (list_any-filter (passes key test) (is_live (tomb_in old key)) (rows_in old.elements.nodes.items (last_in old.elements.keys) key))
+      sym (any_agree (λ row. is_live (tomb_in old key) row && passes key test row) (passes key test) (λ row. both (is_live (tomb_in old key) row) (is_live (tomb_in new key) row) (test row) (still_hidden key row)) (rows_in (keys old.graph.blocks) old.elements.nodes.items (last_in old.elements.keys) key))
+      ∙ sym (list_any-filter (passes key test) (is_live (tomb_in old key)) (rows_in (keys old.graph.blocks) old.elements.nodes.items (last_in old.elements.keys) key))
       ∙ (fits.elements key).same (passes key test)
       ∙ list_any-filter (passes key test) (is_shown (processed (kept_in old)) key) (element_rows_of (processed (kept_in old)) key)
       ∙ any_agree (λ row. is_shown (processed (kept_in old)) key row && passes key test row) (passes key test)
       (λ row. ap (λ t. not t && passes key test row) (sym (fits.tombs key (id_text row.cid.0))) ∙ both (is_live (tomb_in old key) row) (is_live (tomb_in new key) row) (test row) (still_hidden key row)) (element_rows_of (processed (kept_in old)) key)
 
-  elements_after : (key : List ℕ) → SameMembers (filter (is_live (tomb_in new key)) (rows_in new.elements.nodes.items (last_in new.elements.keys) key)) (live_element_rows (processed (kept_in new)) key)
+  elements_after : (key : List ℕ) → SameMembers (filter (is_live (tomb_in new key)) (rows_in (keys new.graph.blocks) new.elements.nodes.items (last_in new.elements.keys) key)) (live_element_rows (processed (kept_in new)) key)
   elements_after key = record {
     same = λ test.
-        list_any-filter test (is_live (tomb_in new key)) (rows_in new.elements.nodes.items (last_in new.elements.keys) key)
-        ∙ ap (list_any (passes key test)) (applied.elements key)
-        ∙ elements_put (passes key test) key (rows_in old.elements.nodes.items (last_in old.elements.keys) key) changes.elements
+        list_any-filter test (is_live (tomb_in new key)) (rows_in (keys new.graph.blocks) new.elements.nodes.items (last_in new.elements.keys) key)
+        ∙ ap (list_any (passes key test)) (rows_after key)
+        ∙ elements_put (passes key test) key (rows_in (keys old.graph.blocks) old.elements.nodes.items (last_in old.elements.keys) key) changes.elements
         ∙ ap (λ t. t || list_any (λ (row : ElementRow). bytes_eq row.key key && passes key test row) changes.elements) (old_rows key test)
         ∙ ap (λ t. list_any (passes key test) (element_rows_of (processed (kept_in old)) key) || t) (meet.rows.elements.same (λ (row : ElementRow). bytes_eq row.key key && passes key test row))
         ∙ sym (rows_of-append (passes key test) key (processed (kept_in old)) (newly_processed (kept_in old) changes))
@@ -128,15 +140,17 @@ module _ {S X : Type 0} {g : build.Ghosts S X} {h : hash.Ghosts X} (old new : Ta
   pub fits_after : Fits new
   fits_after = record {
     kept = subst IsKept (sym told_after) sound_after;
+    blocks = applied.blocks (still_stored (keys old.graph.blocks) (keys new.graph.blocks) (cids_of changes.store) grown old.elements.nodes.items fits.blocks);
     elements = elements_after;
     tombs = tombs_after;
     values = λ key.
         applied.values key
         ∙ ap (λ z. values_after key z changes.values) (row_kept old.elements.nodes.items new.elements.nodes.items (value_in old.elements.keys) applied.stays (are_there fits.backed) key ∙ fits.values key) ∙ sym (meet.rows.values key) ∙ ap (λ z. value_row z key) (sym blocks_after);
     covered = applied.covered;
-    backed = applied.backed (tomb_in new)
-        (backed_put (tomb_in old) (tomb_in new) old.elements.nodes.items new.elements.nodes.items (last_in old.elements.keys) (last_in new.elements.keys) (value_in old.elements.keys) changes.elements changes.tombs
-        applied.elements applied.tombs applied.stays fits.backed);
+    backed = applied.backed (keys new.graph.blocks) (tomb_in new)
+        (backed_put (keys old.graph.blocks) (keys new.graph.blocks) (tomb_in old) (tomb_in new) old.elements.nodes.items new.elements.nodes.items (last_in old.elements.keys) (last_in new.elements.keys) (value_in old.elements.keys) changes.elements changes.tombs
+        rows_after applied.tombs
+        (rows_stay (keys old.graph.blocks) (keys new.graph.blocks) (cids_of changes.store) grown old.elements.nodes.items fits.blocks new.elements.nodes.items applied.stays) fits.backed);
     gaps = gaps_after;
     heads = λ cid. applied.heads cid ∙ ap (λ z. head_after cid z changes.heads_out changes.heads_in) (fits.heads cid) ∙ sym (meet.front.heads cid) ∙ ap (λ z. head_at z cid) (sym blocks_after);
   }

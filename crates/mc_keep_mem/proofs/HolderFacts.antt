@@ -1,6 +1,6 @@
 -- The block of a key's value: found among the rows of the key, it holds the value.
 use Rattle.std.proofs.Common.{◌≡◌, arith, ℕ, Bool, true, false, not, cond, List, [], ◌∷◌, ◌&&◌, ◌||◌, inl, inr, Option, Some, None, sym, refl, ap, ◌∙◌}
-use Rattle.std.specs.Prelude.{filter, find, fold, is_some, nat_eq}
+use Rattle.std.specs.Prelude.{filter, find, fold, is_some, nat_eq, slice_get}
 use Rattle.std.specs.Str.{bytes_eq}
 use Rattle.std.specs.List.{list_any}
 use Rattle.std.specs.Option.{option_map, option_and_then}
@@ -24,7 +24,7 @@ use Rattle.mc_keep.specs.LiveRows.{ranked_of, is_row_of, live_element_rows, Hold
 use Rattle.mc_keep.specs.Tables.{element_rows_of}
 use Rattle.mc_keep.proofs.Lives.{live_rows-element_rows_of, live_rows_any}
 use Rattle.mc_keep_mem.specs.declared.elements.Node.{Node}
-use Rattle.mc_keep_mem.specs.Chains.{is_live, row_at, rows_in, with_element, KeepsRows, Pruned}
+use Rattle.mc_keep_mem.specs.Chains.{is_live, row_at, row_of_node, rows_in, with_element, Pruned}
 use Rattle.mc_keep_mem.specs.Holder.{AreBacked, is_backed, is_held, holder_among, row_with, stands_in}
 use Rattle.mc_keep_mem.specs.Tombs.{with_tomb}
 use Rattle.mc_keep_mem.specs.Values.{AreThere}
@@ -202,72 +202,73 @@ more_backed hidden more rows new at now (Some place) up on stays e = by (at plac
     by None is f = absurd (let g : false ≡ true = f in cc)
     by (Some row) is f = ap (stands_in more new) (stays place row is) ∙ more_stands hidden more rows new row up on f
 
-pub backed_put : (hidden more : List ℕ → List ℕ → Bool) (nodes new_nodes : List Node) (lasts new_lasts values : List ℕ → Option ℕ) (new : List ElementRow) (tombs : List TombRow)
-    → ((key : List ℕ) → rows_in new_nodes new_lasts key ≡ fold (with_element key) (rows_in nodes lasts key) new) → ((key id : List ℕ) → more key id ≡ fold (with_tomb key id) (hidden key id) tombs)
-    → KeepsRows nodes new_nodes → AreBacked hidden nodes lasts values → AreBacked more new_nodes new_lasts values
-backed_put hidden more nodes new_nodes lasts new_lasts values new tombs put buried stays backed = record {
-  each = λ key. more_backed (hidden key) (more key) (rows_in nodes lasts key) (rows_in new_nodes new_lasts key) (row_at nodes key) (row_at new_nodes key) (values key)
+pub backed_put : (cids new_cids : List Cid) (hidden more : List ℕ → List ℕ → Bool) (nodes new_nodes : List Node) (lasts new_lasts values : List ℕ → Option ℕ) (new : List ElementRow) (tombs : List TombRow)
+    → ((key : List ℕ) → rows_in new_cids new_nodes new_lasts key ≡ fold (with_element key) (rows_in cids nodes lasts key) new) → ((key id : List ℕ) → more key id ≡ fold (with_tomb key id) (hidden key id) tombs)
+    → ((key : List ℕ) (place : ℕ) (row : ElementRow) → row_at cids nodes key place ≡ Some row → row_at new_cids new_nodes key place ≡ Some row)
+    → AreBacked cids hidden nodes lasts values → AreBacked new_cids more new_nodes new_lasts values
+backed_put cids new_cids hidden more nodes new_nodes lasts new_lasts values new tombs put buried stays backed = record {
+  each = λ key. more_backed (hidden key) (more key) (rows_in cids nodes lasts key) (rows_in new_cids new_nodes new_lasts key) (row_at cids nodes key) (row_at new_cids new_nodes key) (values key)
       (λ id e. buried key id ∙ tombs_put key id (hidden key id) tombs ∙ or_left (hidden key id) (has_tomb_row tombs key id) e)
-      (λ test e. ap (list_any test) (put key) ∙ elements_put test key (rows_in nodes lasts key) new ∙ or_left (list_any test (rows_in nodes lasts key)) (list_any (λ (row : ElementRow). bytes_eq row.key key && test row) new) e)
+      (λ test e. ap (list_any test) (put key) ∙ elements_put test key (rows_in cids nodes lasts key) new ∙ or_left (list_any test (rows_in cids nodes lasts key)) (list_any (λ (row : ElementRow). bytes_eq row.key key && test row) new) e)
       (stays key) (backed.each key);
 }
 
 -- a key's value is set, or goes
-pub backed_set : (hidden : List ℕ → List ℕ → Bool) (nodes : List Node) (lasts old new : List ℕ → Option ℕ) (key : List ℕ) (value : Option ℕ)
-    → ((other : List ℕ) → new other ≡ cond (bytes_eq key other) value (old other)) → is_backed (hidden key) (rows_in nodes lasts key) (row_at nodes key) value ≡ true → AreBacked hidden nodes lasts old
-    → AreBacked hidden nodes lasts new
-backed_set hidden nodes lasts old new key value set own backed = record { each = λ other. ap (is_backed (hidden other) (rows_in nodes lasts other) (row_at nodes other)) (set other) ∙ by other (bytes_eq key other) refl }
+pub backed_set : (cids : List Cid) → (hidden : List ℕ → List ℕ → Bool) (nodes : List Node) (lasts old new : List ℕ → Option ℕ) (key : List ℕ) (value : Option ℕ)
+    → ((other : List ℕ) → new other ≡ cond (bytes_eq key other) value (old other)) → is_backed (hidden key) (rows_in cids nodes lasts key) (row_at cids nodes key) value ≡ true → AreBacked cids hidden nodes lasts old
+    → AreBacked cids hidden nodes lasts new
+backed_set cids hidden nodes lasts old new key value set own backed = record { each = λ other. ap (is_backed (hidden other) (rows_in cids nodes lasts other) (row_at cids nodes other)) (set other) ∙ by other (bytes_eq key other) refl }
   where
-    by : (other : List ℕ) (b : Bool) → bytes_eq key other ≡ b → is_backed (hidden other) (rows_in nodes lasts other) (row_at nodes other) (cond b value (old other)) ≡ true
-    by other true e = ap (λ (z : List ℕ). is_backed (hidden z) (rows_in nodes lasts z) (row_at nodes z) value) (sym ((bytes_eq-Decides key other).0 e)) ∙ own
+    by : (other : List ℕ) (b : Bool) → bytes_eq key other ≡ b → is_backed (hidden other) (rows_in cids nodes lasts other) (row_at cids nodes other) (cond b value (old other)) ≡ true
+    by other true e = ap (λ (z : List ℕ). is_backed (hidden z) (rows_in cids nodes lasts z) (row_at cids nodes z) value) (sym ((bytes_eq-Decides key other).0 e)) ∙ own
     by other false e = backed.each other
 
 -- the same rows, values and hidden blocks
-pub backed_same : (hidden still : List ℕ → List ℕ → Bool) (nodes new_nodes : List Node) (lasts new_lasts old new : List ℕ → Option ℕ) → ((key id : List ℕ) → still key id ≡ hidden key id)
-    → new_nodes ≡ nodes → ((key : List ℕ) → rows_in new_nodes new_lasts key ≡ rows_in nodes lasts key) → ((key : List ℕ) → new key ≡ old key) → AreBacked hidden nodes lasts old → AreBacked still new_nodes new_lasts new
-backed_same hidden still nodes new_nodes lasts new_lasts old new alike kept same values backed = record {
-  each = λ key. ap (is_backed (still key) (rows_in new_nodes new_lasts key) (row_at new_nodes key)) (values key)
-      ∙ more_backed (hidden key) (still key) (rows_in nodes lasts key) (rows_in new_nodes new_lasts key) (row_at nodes key) (row_at new_nodes key) (old key)
-      (λ id e. alike key id ∙ e) (λ test e. ap (list_any test) (same key) ∙ e) (λ place row e. ap (λ (z : List Node). row_at z key place) kept ∙ e) (backed.each key);
+pub backed_same : (cids : List Cid) → (hidden still : List ℕ → List ℕ → Bool) (nodes new_nodes : List Node) (lasts new_lasts old new : List ℕ → Option ℕ) → ((key id : List ℕ) → still key id ≡ hidden key id)
+    → new_nodes ≡ nodes → ((key : List ℕ) → rows_in cids new_nodes new_lasts key ≡ rows_in cids nodes lasts key) → ((key : List ℕ) → new key ≡ old key) → AreBacked cids hidden nodes lasts old → AreBacked cids still new_nodes new_lasts new
+backed_same cids hidden still nodes new_nodes lasts new_lasts old new alike kept same values backed = record {
+  each = λ key. ap (is_backed (still key) (rows_in cids new_nodes new_lasts key) (row_at cids new_nodes key)) (values key)
+      ∙ more_backed (hidden key) (still key) (rows_in cids nodes lasts key) (rows_in cids new_nodes new_lasts key) (row_at cids nodes key) (row_at cids new_nodes key) (old key)
+      (λ id e. alike key id ∙ e) (λ test e. ap (list_any test) (same key) ∙ e) (λ place row e. ap (λ (z : List Node). row_at cids z key place) kept ∙ e) (backed.each key);
 }
 
 -- rows that are hidden may be passed over
-pub backed_pruned : (hidden : List ℕ → List ℕ → Bool) (nodes new : List Node) (lasts values : List ℕ → Option ℕ) → Pruned hidden nodes new lasts → AreBacked hidden nodes lasts values → AreBacked hidden new lasts values
-backed_pruned hidden nodes new lasts values pruned backed = record { each = λ key. one key (values key) (backed.each key) }
+pub backed_pruned : (cids : List Cid) → (hidden : List ℕ → List ℕ → Bool) (nodes new : List Node) (lasts values : List ℕ → Option ℕ) → Pruned cids hidden nodes new lasts → AreBacked cids hidden nodes lasts values → AreBacked cids hidden new lasts values
+backed_pruned cids hidden nodes new lasts values pruned backed = record { each = λ key. one key (values key) (backed.each key) }
   where
-    by : (key : List ℕ) (row : Option ElementRow) → stands_in (hidden key) (rows_in nodes lasts key) row ≡ true → stands_in (hidden key) (rows_in new lasts key) row ≡ true
+    by : (key : List ℕ) (row : Option ElementRow) → stands_in (hidden key) (rows_in cids nodes lasts key) row ≡ true → stands_in (hidden key) (rows_in cids new lasts key) row ≡ true
     by key None e = e
     by key (Some row) e = free (hidden key (id_text row.cid.0)) refl e
       where
-        free : (b : Bool) → hidden key (id_text row.cid.0) ≡ b → (hidden key (id_text row.cid.0) || list_any (is_row_of row.cid (ranked_of row)) (rows_in nodes lasts key)) ≡ true
-            → (hidden key (id_text row.cid.0) || list_any (is_row_of row.cid (ranked_of row)) (rows_in new lasts key)) ≡ true
-        free true h e = or_left (hidden key (id_text row.cid.0)) (list_any (is_row_of row.cid (ranked_of row)) (rows_in new lasts key)) h
-        free false h e = or_right (hidden key (id_text row.cid.0)) (list_any (is_row_of row.cid (ranked_of row)) (rows_in new lasts key))
-            (sym (of_live_block (hidden key) row.cid (ranked_of row) (rows_in new lasts key) h) ∙ ap (list_any (is_row_of row.cid (ranked_of row))) (pruned.live key)
-            ∙ of_live_block (hidden key) row.cid (ranked_of row) (rows_in nodes lasts key) h
-            ∙ ap (λ b. b || list_any (is_row_of row.cid (ranked_of row)) (rows_in nodes lasts key)) (sym h) ∙ e)
+        free : (b : Bool) → hidden key (id_text row.cid.0) ≡ b → (hidden key (id_text row.cid.0) || list_any (is_row_of row.cid (ranked_of row)) (rows_in cids nodes lasts key)) ≡ true
+            → (hidden key (id_text row.cid.0) || list_any (is_row_of row.cid (ranked_of row)) (rows_in cids new lasts key)) ≡ true
+        free true h e = or_left (hidden key (id_text row.cid.0)) (list_any (is_row_of row.cid (ranked_of row)) (rows_in cids new lasts key)) h
+        free false h e = or_right (hidden key (id_text row.cid.0)) (list_any (is_row_of row.cid (ranked_of row)) (rows_in cids new lasts key))
+            (sym (of_live_block (hidden key) row.cid (ranked_of row) (rows_in cids new lasts key) h) ∙ ap (list_any (is_row_of row.cid (ranked_of row))) (pruned.live key)
+            ∙ of_live_block (hidden key) row.cid (ranked_of row) (rows_in cids nodes lasts key) h
+            ∙ ap (λ b. b || list_any (is_row_of row.cid (ranked_of row)) (rows_in cids nodes lasts key)) (sym h) ∙ e)
 
-    one : (key : List ℕ) (value : Option ℕ) → is_backed (hidden key) (rows_in nodes lasts key) (row_at nodes key) value ≡ true → is_backed (hidden key) (rows_in new lasts key) (row_at new key) value ≡ true
+    one : (key : List ℕ) (value : Option ℕ) → is_backed (hidden key) (rows_in cids nodes lasts key) (row_at cids nodes key) value ≡ true → is_backed (hidden key) (rows_in cids new lasts key) (row_at cids new key) value ≡ true
     one key None e = refl
-    one key (Some place) e = ap (stands_in (hidden key) (rows_in new lasts key)) (pruned.same key place) ∙ by key (row_at nodes key place) e
+    one key (Some place) e = ap (stands_in (hidden key) (rows_in cids new lasts key)) (pruned.same key place) ∙ by key (row_at cids nodes key place) e
 
 -- there is a row at each place of a value
-pub are_there : {hidden : List ℕ → List ℕ → Bool} {nodes : List Node} {lasts values : List ℕ → Option ℕ} → AreBacked hidden nodes lasts values → AreThere nodes values
-are_there {hidden = hidden} {nodes = nodes} {lasts = lasts} {values = values} backed = record { each = λ key. by key (values key) (backed.each key) }
+pub are_there : {cids : List Cid} {hidden : List ℕ → List ℕ → Bool} {nodes : List Node} {lasts values : List ℕ → Option ℕ} → AreBacked cids hidden nodes lasts values → AreThere nodes values
+are_there {cids = cids} {hidden = hidden} {nodes = nodes} {lasts = lasts} {values = values} backed = record { each = λ key. by key (values key) (backed.each key) }
   where
-    some : (key : List ℕ) (row : Option ElementRow) → stands_in (hidden key) (rows_in nodes lasts key) row ≡ true → is_some row ≡ true
+    some : (key : List ℕ) (node : Option Node) → stands_in (hidden key) (rows_in cids nodes lasts key) (option_map (row_of_node cids key) node) ≡ true → is_some node ≡ true
     some key None e = e
-    some key (Some row) e = refl
+    some key (Some node) e = refl
 
-    by : (key : List ℕ) (value : Option ℕ) → is_backed (hidden key) (rows_in nodes lasts key) (row_at nodes key) value ≡ true → is_some (option_and_then (row_at nodes key) value) ≡ is_some value
+    by : (key : List ℕ) (value : Option ℕ) → is_backed (hidden key) (rows_in cids nodes lasts key) (row_at cids nodes key) value ≡ true → is_some (option_and_then (slice_get nodes) value) ≡ is_some value
     by key None e = refl
-    by key (Some place) e = some key (row_at nodes key place) e
+    by key (Some place) e = some key (slice_get nodes place) e
 
 -- the row of a value is one of its key, unless it is hidden
-pub value_stands : {hidden : List ℕ → List ℕ → Bool} {nodes : List Node} {lasts values : List ℕ → Option ℕ} → AreBacked hidden nodes lasts values → (key : List ℕ) (row : ElementRow)
-    → Some row ≡ option_and_then (row_at nodes key) (values key) → stands_in (hidden key) (rows_in nodes lasts key) (Some row) ≡ true
-value_stands {hidden = hidden} {nodes = nodes} {lasts = lasts} {values = values} backed key row is = by (values key) (backed.each key) is
+pub value_stands : {cids : List Cid} {hidden : List ℕ → List ℕ → Bool} {nodes : List Node} {lasts values : List ℕ → Option ℕ} → AreBacked cids hidden nodes lasts values → (key : List ℕ) (node : Node)
+    → Some node ≡ option_and_then (slice_get nodes) (values key) → stands_in (hidden key) (rows_in cids nodes lasts key) (Some (row_of_node cids key node)) ≡ true
+value_stands {cids = cids} {hidden = hidden} {nodes = nodes} {lasts = lasts} {values = values} backed key node is = by (values key) (backed.each key) is
   where
-    by : (value : Option ℕ) → is_backed (hidden key) (rows_in nodes lasts key) (row_at nodes key) value ≡ true → Some row ≡ option_and_then (row_at nodes key) value → stands_in (hidden key) (rows_in nodes lasts key) (Some row) ≡ true
-    by None e f = absurd (let g : Some row ≡ None = f in cc)
-    by (Some place) e f = ap (stands_in (hidden key) (rows_in nodes lasts key)) f ∙ e
+    by : (value : Option ℕ) → is_backed (hidden key) (rows_in cids nodes lasts key) (row_at cids nodes key) value ≡ true → Some node ≡ option_and_then (slice_get nodes) value → stands_in (hidden key) (rows_in cids nodes lasts key) (Some (row_of_node cids key node)) ≡ true
+    by None e f = absurd (let g : Some node ≡ None = f in cc)
+    by (Some place) e f = ap (λ (found : Option Node). stands_in (hidden key) (rows_in cids nodes lasts key) (option_map (row_of_node cids key) found)) f ∙ e

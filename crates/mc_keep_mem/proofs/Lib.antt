@@ -23,3 +23,4 @@ pub mod HolderFacts
 pub mod BroughtFacts
 pub mod PlaceFacts
 pub mod OrderFacts
+pub mod StoredFacts

@@ -26,11 +26,8 @@ use Rattle.mc_base.proofs.Orders.{less_is}
 use Rattle.mc_model.specs.Rank.{Ranked}
 use Rattle.mc_keep.specs.Next.{is_past, IsNextRow, AreNextOf, IsKeyAtOf}
 use Rattle.mc_keep.specs.declared.rows.ValueRow.{ValueRow}
-use Rattle.mc_keep.specs.LiveRows.{ranked_of}
-use Rattle.mc_keep.specs.declared.rows.ElementRow.{ElementRow}
-use Rattle.mc_keep_mem.specs.Chains.{row_at}
 use Rattle.mc_keep_mem.specs.declared.elements.Node.{Node}
-use Rattle.mc_keep_mem.specs.Values.{row_in}
+use Rattle.mc_keep_mem.specs.Values.{ranked_in, row_in}
 use Rattle.mc_keep_mem.specs.Listed.{row_listed, rows_listed, keys_past}
 
 -- whether a key of the list is this text
@@ -267,10 +264,10 @@ module _ {Y : Type 0} (ordered : BTreeSet (String Y)) (bound : List ℕ) (inclus
       (listed_next value bound inclusive taken left most
       (subst (λ (k : List (String Y)). IsStrictlySortedBy string_cmp k) parts (sorted_past sorted))
       (subst (λ (k : List (String Y)). ArePast bound inclusive k) parts (each_past ordered.keys))
-      (λ text text_past has. subst (λ (k : List (String Y)). has_key text k ≡ true) parts (each_there text text_past (covered text (has_place (row_at nodes text) (values text) has))))
+      (λ text text_past has. subst (λ (k : List (String Y)). has_key text k ≡ true) parts (each_there text text_past (covered text (has_place (slice_get nodes) (values text) has))))
       few over)
     where
-      has_place : (at : ℕ → Option ElementRow) (place : Option ℕ) → is_some (option_map ranked_of (option_and_then at place)) ≡ true → is_some place ≡ true
+      has_place : (at : ℕ → Option Node) (place : Option ℕ) → is_some (option_map ranked_in (option_and_then at place)) ≡ true → is_some place ≡ true
       has_place at None has = has
       has_place at (Some place) has = refl
 

@@ -17,7 +17,7 @@ use Rattle.mc_base.specs.declared.cid.Cid.{Cid}
 use Rattle.mc_model.specs.Front.{same_cid}
 use Rattle.mc_model.proofs.Counts.{cid_is, cid_itself, same_cid-symm}
 use Rattle.mc_keep_mem.specs.declared.graph.BlockRow.{BlockRow}
-use Rattle.mc_keep_mem.specs.Graph.{cid_in, order_of, stored_of, position_in, IsOrdered}
+use Rattle.mc_keep_mem.specs.Graph.{cid_in, no_cid, order_of, stored_of, position_in, IsOrdered}
 use Rattle.mc_keep_mem.proofs.ChainFacts.{get_push, is_below}
 use Rattle.mc_keep_mem.proofs.GraphFacts.{map-push}
 
@@ -90,16 +90,16 @@ order_stays : (cids : List Cid) (more : Cid) (order : List ℕ) → list_all (λ
 order_stays cids more [] e = refl
 order_stays cids more (place ∷ order) e =
     let parts = and_parts (nat_lt place (length cids)) (list_all (λ p. nat_lt p (length cids)) order) e in
-    ap (λ found. unwrap_or found (record { 0 = [] }) ∷ map (cid_in (cids ++ more ∷ [])) order) (get_push cids more place (is_below (length cids) place parts.0))
+    ap (λ found. unwrap_or found no_cid ∷ map (cid_in (cids ++ more ∷ [])) order) (get_push cids more place (is_below (length cids) place parts.0))
     ∙ ap (λ rest. cid_in cids place ∷ rest) (order_stays cids more order parts.1)
 
-within_more : (len more : ℕ) (order : List ℕ) → len ≤ more → list_all (λ place. nat_lt place len) order ≡ true → list_all (λ place. nat_lt place more) order ≡ true
+pub within_more : (len more : ℕ) (order : List ℕ) → len ≤ more → list_all (λ place. nat_lt place len) order ≡ true → list_all (λ place. nat_lt place more) order ≡ true
 within_more len more [] l e = refl
 within_more len more (place ∷ order) l e =
     let parts = and_parts (nat_lt place len) (list_all (λ p. nat_lt p len) order) e in
     and_from (nat_lt place more) (list_all (λ p. nat_lt p more) order) (let test = parts.0 in grind (arith, nat_tests, test, l)) (within_more len more order l parts.1)
 
-within_push : (len place : ℕ) (order : List ℕ) → place < len → list_all (λ p. nat_lt p len) order ≡ true → list_all (λ p. nat_lt p len) (order ++ place ∷ []) ≡ true
+pub within_push : (len place : ℕ) (order : List ℕ) → place < len → list_all (λ p. nat_lt p len) order ≡ true → list_all (λ p. nat_lt p len) (order ++ place ∷ []) ≡ true
 within_push len place [] l e = and_from (nat_lt place len) true (grind (arith, nat_tests, l)) refl
 within_push len place (first ∷ order) l e =
     let parts = and_parts (nat_lt first len) (list_all (λ p. nat_lt p len) order) e in
@@ -131,7 +131,7 @@ module _ {S : Type 0} (old new : HashMap Cid BlockRow S) (cid : Cid) (place : �
   pub order_set : order_of new (order ++ place ∷ []) ≡ order_of old order ++ cid ∷ []
   order_set =
       ap (λ z. map (cid_in z) (order ++ place ∷ [])) same ∙ map-push (cid_in (keys old)) order place
-      ∙ ap (λ found. order_of old order ++ unwrap_or found (record { 0 = [] }) ∷ []) at
+      ∙ ap (λ found. order_of old order ++ unwrap_or found no_cid ∷ []) at
 
   pub ordered_set : IsOrdered old order → position_in old cid ≡ None → ((other : Cid) → position_in new other ≡ cond (same_cid other cid) (Some (length order)) (position_in old other)) → IsOrdered new (order ++ place ∷ [])
   ordered_set ordered free set = record {

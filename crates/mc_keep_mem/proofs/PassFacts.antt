@@ -5,9 +5,10 @@ use Rattle.std.specs.Option.{option_map}
 use Rattle.std.proofs.lemmas.Bool.Decides.{nat_tests}
 use Rattle.std.proofs.lemmas.Bool.{cases_lt, and_from, and_parts, or_cases, or_left, or_right, or_parts}
 use Rattle.std.proofs.lemmas.Option.{slice_get_within}
+use Rattle.mc_base.specs.declared.cid.Cid.{Cid}
 use Rattle.mc_keep.specs.declared.rows.ElementRow.{ElementRow}
 use Rattle.mc_keep_mem.specs.declared.elements.Node.{Node}
-use Rattle.mc_keep_mem.specs.Chains.{before_at, chain, is_before, is_live, is_on, lead_back, led_to, live_from, row_at, row_of_node, AreChains, IsOf, Pruned}
+use Rattle.mc_keep_mem.specs.Chains.{before_at, blocks_of, chain, is_before, is_live, is_on, lead_back, led_to, live_from, row_at, row_of_node, AreChains, IsOf, Pruned}
 use Rattle.mc_keep_mem.proofs.ChainFacts.{before_later, is_below, node_leads, on_more, chain_step, fewer_steps, steps_left}
 
 get_led_here : (nodes : List Node) (place : ℕ) (before : Option ℕ) (node : Node) → slice_get nodes place ≡ Some node → slice_get (led_to nodes place before) place ≡ Some (record node { before = before })
@@ -43,6 +44,11 @@ pub led_length : (nodes : List Node) (place : ℕ) (before : Option ℕ) → len
 led_length [] place before = refl
 led_length (n ∷ nodes) zero before = refl
 led_length (n ∷ nodes) (suc place) before = ap (λ (z : ℕ). suc z) (led_length nodes place before)
+
+pub led_blocks : (nodes : List Node) (place : ℕ) (before : Option ℕ) → blocks_of (led_to nodes place before) ≡ blocks_of nodes
+led_blocks [] place before = refl
+led_blocks (n ∷ nodes) zero before = refl
+led_blocks (n ∷ nodes) (suc place) before = ap (λ blocks. n.block ∷ blocks) (led_blocks nodes place before)
 
 led_back : (first place : ℕ) (nodes : List Node) (before : Option ℕ) → lead_back first nodes ≡ true → is_before (first + place) before ≡ true → lead_back first (led_to nodes place before) ≡ true
 led_back first place [] before back leads = refl
@@ -83,17 +89,17 @@ on_first zero nodes place node there got = absurd (let below = is_below 0 place 
 on_first (suc most) nodes place node there got = ap (on_next nodes most place place) got ∙ or_left (nat_eq place place) (is_on nodes most node.before place) (itself place)
 
 -- the live rows of nodes, and those with one more
-abbrev lives : (List ℕ → Bool) → List ℕ → List Node → List ElementRow
-lives hidden key nodes = filter (is_live hidden) (map (row_of_node key) nodes)
+abbrev lives : List Cid → (List ℕ → Bool) → List ℕ → List Node → List ElementRow
+lives cids hidden key nodes = filter (is_live hidden) (map (row_of_node cids key) nodes)
 
-abbrev onto : (List ℕ → Bool) → List ℕ → Node → List ElementRow → List ElementRow
-onto hidden key node rest = cond (is_live hidden (row_of_node key node)) (row_of_node key node ∷ rest) rest
+abbrev onto : List Cid → (List ℕ → Bool) → List ℕ → Node → List ElementRow → List ElementRow
+onto cids hidden key node rest = cond (is_live hidden (row_of_node cids key node)) (row_of_node cids key node ∷ rest) rest
 
 -- after one row of the key, which is hidden, was passed over at the node at this place
-pub record IsPassed (hidden : List ℕ → List ℕ → Bool) (key : List ℕ) (nodes new : List Node) (lasts : List ℕ → Option ℕ) (place : ℕ) : Type 0 where
-  pub pruned : Pruned hidden nodes new lasts
+pub record IsPassed (cids : List Cid) (hidden : List ℕ → List ℕ → Bool) (key : List ℕ) (nodes new : List Node) (lasts : List ℕ → Option ℕ) (place : ℕ) : Type 0 where
+  pub pruned : Pruned cids hidden nodes new lasts
   pub on : IsOf new lasts key place
-  pub rest : live_from (hidden key) new key (before_at new place) ≡ live_from (hidden key) nodes key (before_at nodes place)
+  pub rest : live_from cids (hidden key) new key (before_at new place) ≡ live_from cids (hidden key) nodes key (before_at nodes place)
   pub fewer : steps_left (before_at new place) < steps_left (before_at nodes place)
 
 -- the node at `place` leads past the one at `after`, to which it led
@@ -118,33 +124,33 @@ module _ (nodes : List Node) (back : lead_back 0 nodes ≡ true) (place after : 
   there_passed most e = let far = is_below (suc most) place e in let near = below in before_later after most passed.before (omega (arith, far, near)) before_passed
 
   -- the live rows of the key on the way from a place stay
-  live_kept : (hidden : List ℕ → Bool) (key : List ℕ) → is_live hidden (row_of_node key passed) ≡ false → (most : ℕ) (at : Option ℕ) → is_before most at ≡ true
-      → lives hidden key (chain new most at) ≡ lives hidden key (chain nodes most at)
-  live_kept hidden key gone zero at e = refl
-  live_kept hidden key gone (suc most) None e = refl
-  live_kept hidden key gone (suc most) (Some at) e = by (nat_eq place at) refl (λ z f. live_kept hidden key gone most z f)
+  live_kept : (cids : List Cid) → (hidden : List ℕ → Bool) (key : List ℕ) → is_live hidden (row_of_node cids key passed) ≡ false → (most : ℕ) (at : Option ℕ) → is_before most at ≡ true
+      → lives cids hidden key (chain new most at) ≡ lives cids hidden key (chain nodes most at)
+  live_kept cids hidden key gone zero at e = refl
+  live_kept cids hidden key gone (suc most) None e = refl
+  live_kept cids hidden key gone (suc most) (Some at) e = by (nat_eq place at) refl (λ z f. live_kept cids hidden key gone most z f)
     where
-      at_place : is_before (suc most) (Some place) ≡ true → ((z : Option ℕ) → is_before most z ≡ true → lives hidden key (chain new most z) ≡ lives hidden key (chain nodes most z))
-          → lives hidden key (chain new (suc most) (Some place)) ≡ lives hidden key (chain nodes (suc most) (Some place))
+      at_place : is_before (suc most) (Some place) ≡ true → ((z : Option ℕ) → is_before most z ≡ true → lives cids hidden key (chain new most z) ≡ lives cids hidden key (chain nodes most z))
+          → lives cids hidden key (chain new (suc most) (Some place)) ≡ lives cids hidden key (chain nodes (suc most) (Some place))
       at_place f go =
-          ap (λ found. lives hidden key (next new most found)) here
-          ∙ ap (onto hidden key node) (go passed.before (there_passed most f) ∙ ap (λ b. cond b (row_of_node key passed ∷ lives hidden key (chain nodes most passed.before)) (lives hidden key (chain nodes most passed.before))) (sym gone)
-          ∙ ap (lives hidden key) (sym (chain_step nodes back most after passed (there_after most f) got_passed).0) ∙ ap (λ z. lives hidden key (chain nodes most z)) (sym leads))
-          ∙ ap (λ found. lives hidden key (next nodes most found)) (sym got)
+          ap (λ found. lives cids hidden key (next new most found)) here
+          ∙ ap (onto cids hidden key node) (go passed.before (there_passed most f) ∙ ap (λ b. cond b (row_of_node cids key passed ∷ lives cids hidden key (chain nodes most passed.before)) (lives cids hidden key (chain nodes most passed.before))) (sym gone)
+          ∙ ap (lives cids hidden key) (sym (chain_step nodes back most after passed (there_after most f) got_passed).0) ∙ ap (λ z. lives cids hidden key (chain nodes most z)) (sym leads))
+          ∙ ap (λ found. lives cids hidden key (next nodes most found)) (sym got)
 
-      elsewhere : (found : Option Node) → slice_get nodes at ≡ found → at ≤ most → ((z : Option ℕ) → is_before most z ≡ true → lives hidden key (chain new most z) ≡ lives hidden key (chain nodes most z))
-          → lives hidden key (next new most found) ≡ lives hidden key (next nodes most found)
+      elsewhere : (found : Option Node) → slice_get nodes at ≡ found → at ≤ most → ((z : Option ℕ) → is_before most z ≡ true → lives cids hidden key (chain new most z) ≡ lives cids hidden key (chain nodes most z))
+          → lives cids hidden key (next new most found) ≡ lives cids hidden key (next nodes most found)
       elsewhere None is l go = refl
-      elsewhere (Some other) is l go = ap (onto hidden key other) (go other.before (before_later at most other.before l (node_leads nodes back at other is)))
+      elsewhere (Some other) is l go = ap (onto cids hidden key other) (go other.before (before_later at most other.before l (node_leads nodes back at other is)))
 
-      by : (b : Bool) → nat_eq place at ≡ b → ((z : Option ℕ) → is_before most z ≡ true → lives hidden key (chain new most z) ≡ lives hidden key (chain nodes most z))
-          → lives hidden key (chain new (suc most) (Some at)) ≡ lives hidden key (chain nodes (suc most) (Some at))
+      by : (b : Bool) → nat_eq place at ≡ b → ((z : Option ℕ) → is_before most z ≡ true → lives cids hidden key (chain new most z) ≡ lives cids hidden key (chain nodes most z))
+          → lives cids hidden key (chain new (suc most) (Some at)) ≡ lives cids hidden key (chain nodes (suc most) (Some at))
       by true same go =
           let is = equal_places place at same in
-          subst (λ (z : ℕ). lives hidden key (chain new (suc most) (Some z)) ≡ lives hidden key (chain nodes (suc most) (Some z))) is (at_place (subst (λ (z : ℕ). is_before (suc most) (Some z) ≡ true) (sym is) e) go)
+          subst (λ (z : ℕ). lives cids hidden key (chain new (suc most) (Some z)) ≡ lives cids hidden key (chain nodes (suc most) (Some z))) is (at_place (subst (λ (z : ℕ). is_before (suc most) (Some z) ≡ true) (sym is) e) go)
       by false differ go =
           let far = is_below (suc most) at e in
-          ap (λ found. lives hidden key (next new most found)) (get_led_other nodes place at passed.before (other_places place at differ)) ∙ elsewhere (slice_get nodes at) refl (omega (arith, far)) go
+          ap (λ found. lives cids hidden key (next new most found)) (get_led_other nodes place at passed.before (other_places place at differ)) ∙ elsewhere (slice_get nodes at) refl (omega (arith, far)) go
 
   on_itself : (most : ℕ) → is_on nodes (suc most) (Some place) place ≡ true
   on_itself most = ap (on_next nodes most place place) got ∙ or_left (nat_eq place place) (is_on nodes most node.before place) (itself place)
@@ -260,16 +266,16 @@ module _ (nodes : List Node) (back : lead_back 0 nodes ≡ true) (place after : 
     }
 
     -- where the row that is passed over is a hidden one of the key
-    module _ (hidden : List ℕ → List ℕ → Bool) (key : List ℕ) (on : IsOf nodes lasts key place) (gone : is_live (hidden key) (row_of_node key passed) ≡ false) where
-      lives_kept : (other : List ℕ) → lives (hidden other) other (chain new (length nodes) (lasts other)) ≡ lives (hidden other) other (chain nodes (length nodes) (lasts other))
+    module _ (cids : List Cid) (hidden : List ℕ → List ℕ → Bool) (key : List ℕ) (on : IsOf nodes lasts key place) (gone : is_live (hidden key) (row_of_node cids key passed) ≡ false) where
+      lives_kept : (other : List ℕ) → lives cids (hidden other) other (chain new (length nodes) (lasts other)) ≡ lives cids (hidden other) other (chain nodes (length nodes) (lasts other))
       lives_kept other = by (is_on nodes (length nodes) (lasts other) place) refl
         where
           by : (b : Bool) → is_on nodes (length nodes) (lasts other) place ≡ b
-              → lives (hidden other) other (chain new (length nodes) (lasts other)) ≡ lives (hidden other) other (chain nodes (length nodes) (lasts other))
+              → lives cids (hidden other) other (chain new (length nodes) (lasts other)) ≡ lives cids (hidden other) other (chain nodes (length nodes) (lasts other))
           by true there =
-              subst (λ (z : List ℕ). lives (hidden z) z (chain new (length nodes) (lasts z)) ≡ lives (hidden z) z (chain nodes (length nodes) (lasts z)))
-              (chains.apart key other place on there) (live_kept (hidden key) key gone (length nodes) (lasts key) (chains.there key))
-          by false off = ap (lives (hidden other) other) (chain_kept (length nodes) (lasts other) off)
+              subst (λ (z : List ℕ). lives cids (hidden z) z (chain new (length nodes) (lasts z)) ≡ lives cids (hidden z) z (chain nodes (length nodes) (lasts z)))
+              (chains.apart key other place on there) (live_kept cids (hidden key) key gone (length nodes) (lasts key) (chains.there key))
+          by false off = ap (lives cids (hidden other) other) (chain_kept (length nodes) (lasts other) off)
 
       in_nodes : is_before (length nodes) (Some after) ≡ true
       in_nodes = let near = below in let far = slice_get_within nodes place node got in grind (arith, nat_tests, near, far)
@@ -280,29 +286,30 @@ module _ (nodes : List Node) (back : lead_back 0 nodes ≡ true) (place after : 
       old_before : before_at nodes place ≡ Some after
       old_before = ap (λ (found : Option Node). elim found as (λ _. Option ℕ) [ None ↦ None | Some n ↦ n.before ]) got ∙ leads
 
-      rest_kept : live_from (hidden key) new key (before_at new place) ≡ live_from (hidden key) nodes key (before_at nodes place)
+      rest_kept : live_from cids (hidden key) new key (before_at new place) ≡ live_from cids (hidden key) nodes key (before_at nodes place)
       rest_kept =
-          ap (live_from (hidden key) new key) new_before
-          ∙ ap (λ (z : ℕ). lives (hidden key) key (chain new z passed.before)) (led_length nodes place passed.before)
-          ∙ live_kept (hidden key) key gone (length nodes) passed.before (let near = slice_get_within nodes after passed got_passed in before_later after (length nodes) passed.before (omega (arith, near)) before_passed)
-          ∙ ap (λ b. cond b (row_of_node key passed ∷ lives (hidden key) key (chain nodes (length nodes) passed.before)) (lives (hidden key) key (chain nodes (length nodes) passed.before))) (sym gone)
-          ∙ ap (lives (hidden key) key) (sym (chain_step nodes back (length nodes) after passed in_nodes got_passed).0)
-          ∙ ap (live_from (hidden key) nodes key) (sym old_before)
+          ap (live_from cids (hidden key) new key) new_before
+          ∙ ap (λ (z : ℕ). lives cids (hidden key) key (chain new z passed.before)) (led_length nodes place passed.before)
+          ∙ live_kept cids (hidden key) key gone (length nodes) passed.before (let near = slice_get_within nodes after passed got_passed in before_later after (length nodes) passed.before (omega (arith, near)) before_passed)
+          ∙ ap (λ b. cond b (row_of_node cids key passed ∷ lives cids (hidden key) key (chain nodes (length nodes) passed.before)) (lives cids (hidden key) key (chain nodes (length nodes) passed.before))) (sym gone)
+          ∙ ap (lives cids (hidden key) key) (sym (chain_step nodes back (length nodes) after passed in_nodes got_passed).0)
+          ∙ ap (live_from cids (hidden key) nodes key) (sym old_before)
 
       -- what stands at each place
-      rows_stay : (other : List ℕ) (at : ℕ) → row_at new other at ≡ row_at nodes other at
+      rows_stay : (other : List ℕ) (at : ℕ) → row_at cids new other at ≡ row_at cids nodes other at
       rows_stay other at = by (nat_eq place at) refl
         where
-          by : (b : Bool) → nat_eq place at ≡ b → row_at new other at ≡ row_at nodes other at
-          by true same = subst (λ (z : ℕ). row_at new other z ≡ row_at nodes other z) (equal_places place at same) (ap (option_map (row_of_node other)) here ∙ ap (option_map (row_of_node other)) (sym got))
-          by false differ = ap (option_map (row_of_node other)) (get_led_other nodes place at passed.before (other_places place at differ))
+          by : (b : Bool) → nat_eq place at ≡ b → row_at cids new other at ≡ row_at cids nodes other at
+          by true same = subst (λ (z : ℕ). row_at cids new other z ≡ row_at cids nodes other z) (equal_places place at same) (ap (option_map (row_of_node cids other)) here ∙ ap (option_map (row_of_node cids other)) (sym got))
+          by false differ = ap (option_map (row_of_node cids other)) (get_led_other nodes place at passed.before (other_places place at differ))
 
-      pub is_passed : IsPassed hidden key nodes new lasts place
+      pub is_passed : IsPassed cids hidden key nodes new lasts place
       is_passed = record {
         pruned = record {
           len = led_length nodes place passed.before;
+          blocks = led_blocks nodes place passed.before;
           same = rows_stay;
-          live = λ other. ap (λ (z : ℕ). lives (hidden other) other (chain new z (lasts other))) (led_length nodes place passed.before) ∙ lives_kept other;
+          live = λ other. ap (λ (z : ℕ). lives cids (hidden other) other (chain new z (lasts other))) (led_length nodes place passed.before) ∙ lives_kept other;
         };
         on = ap (λ (z : ℕ). is_on new z (lasts key) place) (led_length nodes place passed.before) ∙ on_stays (length nodes) (lasts key) on;
         rest = rest_kept;

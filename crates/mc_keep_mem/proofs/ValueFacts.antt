@@ -9,15 +9,16 @@ use Rattle.std.specs.declared.string.String.{String}
 use Rattle.std.proofs.lemmas.List.Folds.{list_any-append}
 use Rattle.std.proofs.lemmas.Bool.{or_right, or_left, or_cases}
 use Rattle.std.proofs.lemmas.Slice.Eq.{bytes_eq-Decides}
+use Rattle.mc_base.specs.declared.cid.Cid.{Cid}
 use Rattle.mc_model.specs.Rank.{Ranked}
 use Rattle.mc_keep.specs.declared.rows.ElementRow.{ElementRow}
 use Rattle.mc_keep.specs.LiveRows.{ranked_of}
 use Rattle.mc_keep_mem.specs.declared.elements.Node.{Node}
-use Rattle.mc_keep_mem.specs.Chains.{row_at, KeepsRows}
+use Rattle.mc_keep_mem.specs.Chains.{row_at, row_of_node, KeepsNodes}
 use Rattle.mc_keep_mem.specs.Holder.{row_with}
 use Rattle.mc_keep_mem.specs.Places.{is_named, stands_at, has_value_at, texts_in, value_in, KeepsTexts}
 use Rattle.mc_keep_mem.specs.declared.places.Places.{Places}
-use Rattle.mc_keep_mem.specs.Values.{row_in, waits_in, AreThere, IsCovered}
+use Rattle.mc_keep_mem.specs.Values.{ranked_in, row_in, waits_in, AreThere, IsCovered}
 use Rattle.mc_keep_mem.proofs.HolderFacts.{found_is}
 
 more : (a b c : Bool) → (a || b) ≡ true → (a || (b || c)) ≡ true
@@ -83,34 +84,37 @@ module _ {Y : Type 0} (texts new : List (String Y)) (keeps : KeepsTexts texts ne
       by true key e = refl
       by false key e = waits_kept pending key e
 
+-- the value of a node is that of its row
+pub ranked_row : (cids : List Cid) (key : List ℕ) (node : Option Node) → option_map ranked_in node ≡ option_map ranked_of (option_map (row_of_node cids key) node)
+ranked_row cids key None = refl
+ranked_row cids key (Some node) = refl
+
 -- what the value of a key is once its place is set, or gone
 module _ (nodes : List Node) (old new : List ℕ → Option ℕ) (key : List ℕ) where
-  pub row_set : (place : ℕ) (ranked : Ranked) (rows : List ElementRow) → row_at nodes key place ≡ row_with ranked rows → is_some (row_with ranked rows) ≡ true
+  pub row_set : (cids : List Cid) (place : ℕ) (ranked : Ranked) (rows : List ElementRow) → row_at cids nodes key place ≡ row_with ranked rows → is_some (row_with ranked rows) ≡ true
       → ((other : List ℕ) → new other ≡ cond (bytes_eq key other) (Some place) (old other))
       → (other : List ℕ) → row_in nodes new other ≡ cond (bytes_eq key other) (Some ranked) (row_in nodes old other)
-  row_set place ranked rows at some set other = ap (λ value. option_map ranked_of (option_and_then (row_at nodes other) value)) (set other) ∙ by (bytes_eq key other) refl
+  row_set cids place ranked rows at some set other = ap (λ value. option_map ranked_in (option_and_then (slice_get nodes) value)) (set other) ∙ by (bytes_eq key other)
     where
       found : (row : Option ElementRow) → row_with ranked rows ≡ row → is_some row ≡ true → option_map ranked_of row ≡ Some ranked
       found None is e = absurd (let f : false ≡ true = e in cc)
       found (Some row) is e = ap (λ (z : Ranked). Some z) (sym (found_is ranked rows row is))
 
-      by : (b : Bool) → bytes_eq key other ≡ b → option_map ranked_of (option_and_then (row_at nodes other) (cond b (Some place) (old other))) ≡ cond b (Some ranked) (row_in nodes old other)
-      by true e =
-          ap (λ (z : List ℕ). option_map ranked_of (row_at nodes z place)) (sym ((bytes_eq-Decides key other).0 e))
-          ∙ ap (option_map ranked_of) at ∙ found (row_with ranked rows) refl some
-      by false e = refl
+      by : (b : Bool) → option_map ranked_in (option_and_then (slice_get nodes) (cond b (Some place) (old other))) ≡ cond b (Some ranked) (row_in nodes old other)
+      by true = ranked_row cids key (slice_get nodes place) ∙ ap (option_map ranked_of) at ∙ found (row_with ranked rows) refl some
+      by false = refl
 
 -- what stays where it stood has the values that it had
-pub row_kept : (nodes new : List Node) (values : List ℕ → Option ℕ) → KeepsRows nodes new → AreThere nodes values → (key : List ℕ) → row_in new values key ≡ row_in nodes values key
+pub row_kept : (nodes new : List Node) (values : List ℕ → Option ℕ) → KeepsNodes nodes new → AreThere nodes values → (key : List ℕ) → row_in new values key ≡ row_in nodes values key
 row_kept nodes new values stays there key = by (values key) (there.each key)
   where
-    one : (place : ℕ) (row : Option ElementRow) → row_at nodes key place ≡ row → is_some row ≡ true → row_at new key place ≡ row
+    one : (place : ℕ) (node : Option Node) → slice_get nodes place ≡ node → is_some node ≡ true → slice_get new place ≡ node
     one place None is e = absurd (let f : false ≡ true = e in cc)
-    one place (Some row) is e = stays key place row is
+    one place (Some node) is e = stays place node is
 
-    by : (value : Option ℕ) → is_some (option_and_then (row_at nodes key) value) ≡ is_some value → option_map ranked_of (option_and_then (row_at new key) value) ≡ option_map ranked_of (option_and_then (row_at nodes key) value)
+    by : (value : Option ℕ) → is_some (option_and_then (slice_get nodes) value) ≡ is_some value → option_map ranked_in (option_and_then (slice_get new) value) ≡ option_map ranked_in (option_and_then (slice_get nodes) value)
     by None e = refl
-    by (Some place) e = ap (option_map ranked_of) (one place (row_at nodes key place) refl e)
+    by (Some place) e = ap (option_map ranked_in) (one place (slice_get nodes place) refl e)
 
 -- a key that is put into order, where it has a value, needs to wait no more
 pub covered_moved : {Y S : Type 0} (keys : HashMap (String Y) Places S) (ordered new : BTreeSet (String Y)) (pending all : List ℕ) (number : ℕ)
@@ -176,12 +180,12 @@ covered_sorted texts values ordered pending new same covered = record {
 pub rows_in_order : {Y : Type 0} (nodes : List Node) (texts : List (String Y)) (values : List ℕ → Option ℕ) (ordered : BTreeSet (String Y)) (rows : List ℕ → Option Ranked)
     → AreThere nodes values → IsCovered texts values ordered [] → ((key : List ℕ) → row_in nodes values key ≡ rows key) → (key : List ℕ) → is_some (rows key) ≡ contains_text ordered key
 rows_in_order nodes texts values ordered rows there covered same key =
-    ap is_some (sym (same key)) ∙ with_value (option_and_then (row_at nodes key) (values key)) ∙ there.each key
+    ap is_some (sym (same key)) ∙ with_value (option_and_then (slice_get nodes) (values key)) ∙ there.each key
     ∙ both (is_some (values key)) (contains_text ordered key) (covered.each key) (covered.exact key)
   where
-    with_value : (row : Option ElementRow) → is_some (option_map ranked_of row) ≡ is_some row
+    with_value : (node : Option Node) → is_some (option_map ranked_in node) ≡ is_some node
     with_value None = refl
-    with_value (Some row) = refl
+    with_value (Some node) = refl
 
     both : (a b : Bool) → (a ≡ true → (b || false) ≡ true) → (b ≡ true → a ≡ true) → a ≡ b
     both true true up down = refl

@@ -2,7 +2,7 @@
 use Rattle.std.specs.Prelude.{◌≡◌, ◌≤◌, ◌+◌, ℕ, Bool, true, false, List, ◌++◌, filter, fold, unwrap_or, vec_len}
 use Rattle.std.specs.Prelude.{vec_capacity}
 use Rattle.std.specs.List.{list_any, list_all}
-use Rattle.std.specs.HashMap.{spare as map_spare, get}
+use Rattle.std.specs.HashMap.{spare as map_spare, get, keys}
 use Rattle.std.specs.HashSet.{spare as set_spare}
 use Rattle.std.specs.declared.hash.BuildHasher as build
 use Rattle.std.specs.declared.hash.Hasher as hash
@@ -14,10 +14,11 @@ use Rattle.mc_model.specs.Front.{same_cid, is_among, is_gap, head_at}
 use Rattle.mc_model.specs.Live.{has_tomb, value_row}
 use Rattle.mc_model.specs.Kept.{Kept, IsKept, processed, is_stored, cids_of}
 use Rattle.mc_keep.specs.declared.changes.Changes.{Changes}
+use Rattle.mc_keep.specs.declared.rows.ElementRow.{ElementRow}
 use Rattle.mc_keep.specs.Changes.{head_after, values_after}
 use Rattle.mc_keep.specs.LiveRows.{live_element_rows}
 use Rattle.mc_keep_mem.specs.declared.tables.Tables.{Tables}
-use Rattle.mc_keep_mem.specs.Chains.{is_live, rows_in, with_element, KeepsRows}
+use Rattle.mc_keep_mem.specs.Chains.{are_stored, is_live, rows_in, with_element, KeepsNodes}
 use Rattle.mc_keep_mem.specs.Front.{are_fresh, closed_by, opened_by}
 use Rattle.mc_keep_mem.specs.Graph.{graph_of, order_of}
 use Rattle.mc_keep_mem.specs.Holder.{AreBacked, is_brought}
@@ -39,9 +40,11 @@ tomb_in tables key id = has_tomb_in tables.tombs.keys.keys tables.tombs.ids.keys
 -- the tables are exactly those of what they stand for
 pub record Fits {S X : Type 0} {g : build.Ghosts S X} {h : hash.Ghosts X} (tables : Tables S X g h) : Type 0 where
   pub kept : IsKept (kept_in tables)
+  pub blocks : are_stored (keys tables.graph.blocks) tables.elements.nodes.items ≡ true
   pub elements : (key : List ℕ) →
       SameMembers
-      (filter (is_live (tomb_in tables key)) (rows_in tables.elements.nodes.items (last_in tables.elements.keys) key))
+      (filter (is_live (tomb_in tables key))
+      (rows_in (keys tables.graph.blocks) tables.elements.nodes.items (last_in tables.elements.keys) key))
       (live_element_rows (processed (kept_in tables)) key)
   pub tombs : (key id : List ℕ) → tomb_in tables key id ≡ has_tomb (processed (kept_in tables)) key id
   pub values : (key : List ℕ) →
@@ -49,8 +52,8 @@ pub record Fits {S X : Type 0} {g : build.Ghosts S X} {h : hash.Ghosts X} (table
       ≡ value_row (processed (kept_in tables)) key
   pub covered : IsCovered (texts_in tables.elements.keys)
       (value_in tables.elements.keys) tables.values.ordered tables.values.pending.items
-  pub backed : AreBacked (tomb_in tables) tables.elements.nodes.items (last_in tables.elements.keys)
-      (value_in tables.elements.keys)
+  pub backed : AreBacked (keys tables.graph.blocks) (tomb_in tables) tables.elements.nodes.items
+      (last_in tables.elements.keys) (value_in tables.elements.keys)
   pub gaps : (cid : Cid) → is_among tables.gaps.keys cid ≡ is_gap (processed (kept_in tables)) cid
   pub heads : (cid : Cid) → get same_cid tables.heads cid ≡ head_at (processed (kept_in tables)) cid
 
@@ -68,7 +71,8 @@ pub record RoomFor {S X : Type 0} {g : build.Ghosts S X} {h : hash.Ghosts X} (ta
   pub pairs : rows ≤ set_spare tables.tombs.pairs
   pub pending : vec_len tables.values.pending + rows ≤ vec_capacity tables.values.pending
 
--- the blocks to store and to process are new, those to process are stored, and the changed values are those of rows
+-- the blocks to store and to process are new, those to process and those of rows are stored, and the changed values are
+-- those of rows
 pub record ChangesMeet {S X : Type 0} {g : build.Ghosts S X} {h : hash.Ghosts X} (tables : Tables S X g h)
     (changes : Changes) : Type 0 where
   pub new : list_any (λ (stored : Stored). is_stored (graph_of tables.graph.blocks) stored.cid) changes.store ≡ false
@@ -77,10 +81,14 @@ pub record ChangesMeet {S X : Type 0} {g : build.Ghosts S X} {h : hash.Ghosts X}
   pub fresh : are_fresh (order_in tables) changes.marks ≡ true
   pub covered : IsCovered (texts_in tables.elements.keys)
       (value_in tables.elements.keys) tables.values.ordered tables.values.pending.items
-  pub brought : list_all
+  pub elements : list_all
+      (λ (row : ElementRow). is_stored (graph_of tables.graph.blocks ++ changes.store) row.cid) changes.elements ≡ true
+  pub brought : (cids : List Cid) →
+      list_all
       (is_brought
       (λ key. fold (with_element key)
-      (rows_in tables.elements.nodes.items (last_in tables.elements.keys) key) changes.elements)) changes.values ≡ true
+      (rows_in cids tables.elements.nodes.items (last_in tables.elements.keys) key) changes.elements)) changes.values
+      ≡ true
 
 pub record Applied {S X : Type 0} {g : build.Ghosts S X} {h : hash.Ghosts X} (old new : Tables S X g h)
     (changes : Changes) : Type 0 where
@@ -94,18 +102,21 @@ pub record Applied {S X : Type 0} {g : build.Ghosts S X} {h : hash.Ghosts X} (ol
   pub heads : (cid : Cid) →
       get same_cid new.heads cid ≡ head_after cid (get same_cid old.heads cid) changes.heads_out changes.heads_in
   pub elements : (key : List ℕ) →
-      rows_in new.elements.nodes.items (last_in new.elements.keys) key
-      ≡ fold (with_element key) (rows_in old.elements.nodes.items (last_in old.elements.keys) key) changes.elements
+      rows_in (keys new.graph.blocks) new.elements.nodes.items (last_in new.elements.keys) key
+      ≡ fold (with_element key)
+      (rows_in (keys new.graph.blocks) old.elements.nodes.items (last_in old.elements.keys) key) changes.elements
+  pub blocks : are_stored (keys new.graph.blocks) old.elements.nodes.items ≡ true →
+      are_stored (keys new.graph.blocks) new.elements.nodes.items ≡ true
   pub tombs : (key id : List ℕ) → tomb_in new key id ≡ fold (with_tomb key id) (tomb_in old key id) changes.tombs
-  pub stays : KeepsRows old.elements.nodes.items new.elements.nodes.items
+  pub stays : KeepsNodes old.elements.nodes.items new.elements.nodes.items
   pub values : (key : List ℕ) →
       row_in new.elements.nodes.items (value_in new.elements.keys) key
       ≡ values_after key (row_in new.elements.nodes.items (value_in old.elements.keys) key) changes.values
   pub covered : IsCovered (texts_in new.elements.keys)
       (value_in new.elements.keys) new.values.ordered new.values.pending.items
-  pub backed : (hidden : List ℕ → List ℕ → Bool) →
-      AreBacked hidden new.elements.nodes.items (last_in new.elements.keys) (value_in old.elements.keys) →
-      AreBacked hidden new.elements.nodes.items (last_in new.elements.keys) (value_in new.elements.keys)
+  pub backed : (cids : List Cid) (hidden : List ℕ → List ℕ → Bool) →
+      AreBacked cids hidden new.elements.nodes.items (last_in new.elements.keys) (value_in old.elements.keys) →
+      AreBacked cids hidden new.elements.nodes.items (last_in new.elements.keys) (value_in new.elements.keys)
 
 -- the rows are the same, and there is no less room
 pub record Reserved {S X : Type 0} {g : build.Ghosts S X} {h : hash.Ghosts X} (old new : Tables S X g h) : Type 0 where
@@ -114,9 +125,9 @@ pub record Reserved {S X : Type 0} {g : build.Ghosts S X} {h : hash.Ghosts X} (o
   pub mark : new.mark ≡ old.mark
   pub gaps : new.gaps.keys ≡ old.gaps.keys
   pub heads : new.heads.entries ≡ old.heads.entries
-  pub elements : (key : List ℕ) →
-      rows_in new.elements.nodes.items (last_in new.elements.keys) key
-      ≡ rows_in old.elements.nodes.items (last_in old.elements.keys) key
+  pub elements : (cids : List Cid) (key : List ℕ) →
+      rows_in cids new.elements.nodes.items (last_in new.elements.keys) key
+      ≡ rows_in cids old.elements.nodes.items (last_in old.elements.keys) key
   pub tombs : (key id : List ℕ) → tomb_in new key id ≡ tomb_in old key id
   pub nodes : new.elements.nodes.items ≡ old.elements.nodes.items
   pub values : (key : List ℕ) → value_in new.elements.keys key ≡ value_in old.elements.keys key

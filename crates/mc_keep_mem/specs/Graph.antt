@@ -1,5 +1,5 @@
 -- What the table of stored blocks says, and the order of the processed ones.
-use Rattle.std.specs.Prelude.{◌≡◌, ℕ, true, List, [], length, map, nat_lt, slice_get, unwrap_or, Option}
+use Rattle.std.specs.Prelude.{◌≡◌, ℕ, true, List, length, map, nat_lt, replicate, slice_get, unwrap_or, Option}
 use Rattle.std.specs.HashMap.{HashMap, get, keys}
 use Rattle.std.specs.List.{list_all, position}
 use Rattle.std.specs.Option.{option_and_then}
@@ -15,9 +15,13 @@ stored_of entry = record { cid = entry.0; bytes = entry.1.bytes }
 abbrev pub graph_of : {S : Type 0} → HashMap Cid BlockRow S → List Stored
 graph_of blocks = map stored_of blocks.entries
 
+-- what stands for an identifier where none is
+abbrev pub no_cid : Cid
+no_cid = record { 0 = replicate 32 0 }
+
 -- the identifier at a place
 abbrev pub cid_in : List Cid → ℕ → Cid
-cid_in cids place = unwrap_or (slice_get cids place) (record { 0 = [] })
+cid_in cids place = unwrap_or (slice_get cids place) no_cid
 
 -- the processed blocks, whose places among the stored ones these are
 abbrev pub order_of : {S : Type 0} → HashMap Cid BlockRow S → List ℕ → List Cid

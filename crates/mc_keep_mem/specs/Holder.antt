@@ -41,6 +41,7 @@ is_backed hidden rows at None = true
 is_backed hidden rows at (Some place) = stands_in hidden rows (at place)
 
 -- the row of each value is one of its key, unless it is hidden
-pub record AreBacked (hidden : List ℕ → List ℕ → Bool) (nodes : List Node) (lasts values : List ℕ → Option ℕ)
-    : Type 0 where
-  pub each : (key : List ℕ) → is_backed (hidden key) (rows_in nodes lasts key) (row_at nodes key) (values key) ≡ true
+pub record AreBacked (cids : List Cid) (hidden : List ℕ → List ℕ → Bool) (nodes : List Node)
+    (lasts values : List ℕ → Option ℕ) : Type 0 where
+  pub each : (key : List ℕ) →
+      is_backed (hidden key) (rows_in cids nodes lasts key) (row_at cids nodes key) (values key) ≡ true

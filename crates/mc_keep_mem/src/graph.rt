@@ -9,7 +9,7 @@ ghost use Rattle.mc_base.specs.declared.cid.Cid.{Cid};
 ghost use Rattle.mc_model.specs.Ascending.{is_once};
 ghost use Rattle.mc_model.specs.Front.{same_cid, is_among};
 ghost use Rattle.mc_model.specs.Kept.{bytes_at, is_stored, cids_of};
-ghost use Rattle.mc_keep_mem.specs.Graph.{graph_of, order_of, position_in, IsOrdered};
+ghost use Rattle.mc_keep_mem.specs.Graph.{cid_in, graph_of, order_of, position_in, IsOrdered};
 
 use crate::spot::Spot;
 use indexmap::IndexMap;
@@ -167,6 +167,42 @@ pub(crate) fn cid_at(graph: &Graph, index: usize) -> Option<Cid>
     let place = *graph.order.get(index)?;
     let (cid, _) = graph.blocks.get_index(place)?;
     Some(*cid)
+}
+
+/// The place of a stored block among the stored ones. It is not looked up where the block is the one processed last.
+pub(crate) fn place_of(graph: &Graph, cid: &Cid) -> usize
+    requires stored { is_stored (graph_of graph.now.blocks) cid.now ≡ true }
+    ensures { slice_get (keys graph.now.blocks) result ≡ Some cid.now }
+{
+    if let Some(last) = graph.order.as_slice().last() {
+        if is_at_place(graph, cid, *last) {
+            return *last;
+        }
+    }
+    let Some((place, _, _)) = graph.blocks.get_full(cid) else {
+        unreachable!();
+    };
+    place
+}
+
+// Whether the block is at this place among the stored ones.
+fn is_at_place(graph: &Graph, cid: &Cid, place: usize) -> bool
+    ensures { result ≡ true → slice_get (keys graph.now.blocks) place ≡ Some cid.now }
+{
+    match graph.blocks.get_index(place) {
+        Some((other, _)) => other == cid,
+        None => false,
+    }
+}
+
+/// The identifier of the block at a place among the stored ones, or zeros past their end.
+pub(crate) fn cid_of(graph: &Graph, place: usize) -> Cid
+    ensures { result ≡ cid_in (keys graph.now.blocks) place }
+{
+    match graph.blocks.get_index(place) {
+        Some((cid, _)) => *cid,
+        None => Cid([0; 32]),
+    }
 }
 
 /// Makes room for so many blocks, also in the order.

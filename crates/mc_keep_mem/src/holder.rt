@@ -1,6 +1,8 @@
 // The block of a value is looked for along the rows of its key, from the one that came last.
-ghost use Rattle.std.specs.Prelude.{◌≡◌, ◌<◌, ◌-◌, ◌^◌, true, IfOk, IfSome};
+ghost use Rattle.std.specs.Prelude.{◌≡◌, ◌<◌, ◌-◌, ◌^◌, true, List, IfOk, IfSome};
+ghost use Rattle.std.specs.HashMap.{keys};
 ghost use Rattle.std.specs.Option.{option_and_then, option_map};
+ghost use Rattle.mc_base.specs.declared.cid.Cid.{Cid};
 ghost use Rattle.mc_model.specs.Rank.{same_ranked};
 ghost use Rattle.mc_keep_mem.specs.Chains.{row_at, rows_in, row_of_node};
 ghost use Rattle.mc_keep_mem.specs.Holder.{is_held, holder_among, row_with};
@@ -8,7 +10,8 @@ ghost use Rattle.mc_keep_mem.specs.Places.{last_in, texts_in, stands_at};
 ghost use Rattle.mc_keep_mem.specs.Tombs.{has_tomb_in};
 
 use crate::elements::{Elements, Node};
-use crate::live::is_hidden;
+use crate::graph::{Graph, cid_of};
+use crate::live::is_node_hidden;
 use crate::places::{find_key, last_of};
 use crate::tombs::Tombs;
 use mc_base::Cid;
@@ -19,6 +22,7 @@ use std::hash::BuildHasher;
 /// no row is.
 pub(crate) fn holder_of<S: BuildHasher + Drop>(
     alloc: Global,
+    graph: &Graph,
     elements: &Elements<S>,
     tombs: &Tombs<S>,
     key: &str,
@@ -27,15 +31,15 @@ pub(crate) fn holder_of<S: BuildHasher + Drop>(
     ensures { IfOk result (λ cid. cid ≡ holder_among
         (has_tomb_in tombs.now.keys.keys tombs.now.ids.keys tombs.now.pairs.keys key.now)
         (held.now.priority, held.now.value)
-        (rows_in elements.now.nodes.items (last_in elements.now.keys) key.now)) }
+        (rows_in (keys graph.now.blocks) elements.now.nodes.items (last_in elements.now.keys) key.now)) }
 {
     let mut at = last_of(&elements.keys, key);
     while let Some(place) = at {
         let Some(node) = elements.nodes.get(place) else {
             return Ok(None);
         };
-        if holds(alloc, tombs, key, held, node)? {
-            return Ok(Some(node.cid));
+        if holds(alloc, graph, tombs, key, held, node)? {
+            return Ok(Some(cid_of(graph, node.block)));
         }
         at = node.before.place();
     }
@@ -50,8 +54,9 @@ pub(crate) fn place_with<S: BuildHasher + Drop>(
     priority: u64,
     value: &[u8],
 ) -> Option<(usize, usize)>
-    ensures row { option_and_then (row_at elements.now.nodes.items key.now) (option_map (λ found. found.1) result)
-        ≡ row_with (priority, value.now) (rows_in elements.now.nodes.items (last_in elements.now.keys) key.now) }
+    ensures row { (cids : List Cid) →
+        option_and_then (row_at cids elements.now.nodes.items key.now) (option_map (λ found. found.1) result)
+        ≡ row_with (priority, value.now) (rows_in cids elements.now.nodes.items (last_in elements.now.keys) key.now) }
     ensures small { IfSome result (λ found. found.1 < 2 ^ 64 - 1) }
     ensures place { IfSome result (λ found. stands_at (texts_in elements.now.keys) key.now found.0 ≡ true) }
 {
@@ -74,17 +79,20 @@ pub(crate) fn place_with<S: BuildHasher + Drop>(
 // Whether a row of the key has this value with its priority and is not hidden.
 fn holds<S: BuildHasher + Drop>(
     alloc: Global,
+    graph: &Graph,
     tombs: &Tombs<S>,
     key: &str,
     held: &Node,
     node: &Node,
 ) -> Result<bool, AllocError>
-    ensures { IfOk result (λ found. found ≡ is_held (has_tomb_in tombs.now.keys.keys tombs.now.ids.keys tombs.now.pairs.keys key.now) (held.now.priority, held.now.value) (row_of_node key.now node.now)) }
+    ensures { IfOk result (λ found. found ≡ is_held
+        (has_tomb_in tombs.now.keys.keys tombs.now.ids.keys tombs.now.pairs.keys key.now)
+        (held.now.priority, held.now.value) (row_of_node (keys graph.now.blocks) key.now node.now)) }
 {
     if !has_value(node, held.priority, held.value.as_slice()) {
         return Ok(false);
     }
-    Ok(!is_hidden(alloc, tombs, key, &node.cid)?)
+    Ok(!is_node_hidden(alloc, graph, tombs, key, node)?)
 }
 
 fn has_value(node: &Node, priority: u64, value: &[u8]) -> bool

@@ -15,7 +15,7 @@ ghost use Rattle.mc_keep_mem.specs.Fits.{Fits, RoomFor, kept_in};
 
 use crate::cids::has_cid;
 use crate::elements::Elements;
-use crate::graph::{Graph, block_bytes, cid_at, has_block, is_processed, position_of};
+use crate::graph::{Graph, block_bytes, cid_at, cid_of, has_block, is_processed, position_of};
 use crate::heads::{has_head, head_rows};
 use crate::holder::holder_of;
 use crate::live::{is_hidden, live_elements_of};
@@ -143,7 +143,13 @@ impl<S: BuildHasher + Drop> Store<S> {
         ensures kept { kept_in self.new.tables ≡ kept_in self.old.tables }
         ensures room { self.new.room ≡ self.old.room }
     {
-        live_elements_of(alloc, &mut self.tables.elements, &self.tables.tombs, key)
+        live_elements_of(
+            alloc,
+            &self.tables.graph,
+            &mut self.tables.elements,
+            &self.tables.tombs,
+            key,
+        )
     }
 
     pub(crate) fn hidden(&self, key: &str, id: &str) -> bool
@@ -184,10 +190,18 @@ impl<S: BuildHasher + Drop> Store<S> {
         let Some(node) = node_of(&self.tables.elements, key) else {
             return Ok(None);
         };
-        if !is_hidden(alloc, &self.tables.tombs, key, &node.cid)? {
-            return Ok(Some(node.cid));
+        let cid = cid_of(&self.tables.graph, node.block);
+        if !is_hidden(alloc, &self.tables.tombs, key, &cid)? {
+            return Ok(Some(cid));
         }
-        holder_of(alloc, &self.tables.elements, &self.tables.tombs, key, node)
+        holder_of(
+            alloc,
+            &self.tables.graph,
+            &self.tables.elements,
+            &self.tables.tombs,
+            key,
+            node,
+        )
     }
 
     pub(crate) fn has(&self, key: &str) -> bool

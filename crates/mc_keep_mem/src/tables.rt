@@ -69,7 +69,7 @@ fn apply<S: BuildHasher + Drop>(tables: &mut Tables<S>, changes: Changes, room: 
     put_gaps(&mut tables.gaps, &tables.graph, links.as_slice());
     drop_heads(&mut tables.heads, heads_out.as_slice());
     put_heads(&mut tables.heads, heads_in.as_slice());
-    put_elements(&mut tables.elements, elements.into_vec());
+    put_elements(&mut tables.elements, &tables.graph, elements.into_vec());
     put_tombs(&mut tables.tombs, tombs.into_vec());
     put_values(&mut tables.values, &mut tables.elements, values.into_vec());
     if let Some(mark) = mark {

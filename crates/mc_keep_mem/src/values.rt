@@ -1,12 +1,13 @@
 // The values of the keys, and the keys with a value in order: those that were put into order, and those that wait.
 ghost use Rattle.std.specs.Prelude.{◌≡◌, ℕ, ◌<◌, ◌≤◌, ◌+◌, Bool, true, List, length, vec_len, vec_capacity};
-ghost use Rattle.std.specs.Prelude.{IfOk, OnOk, IfSome, IfNone, is_some, cond, Some, None};
+ghost use Rattle.std.specs.Prelude.{IfOk, OnOk, IfSome, IfNone, is_some, cond, slice_get, Some, None};
 ghost use Rattle.std.specs.Str.{bytes_eq};
 ghost use Rattle.std.specs.List.{list_all};
 ghost use Rattle.std.specs.HashMap.{spare};
-ghost use Rattle.std.specs.Option.{option_and_then, option_copied, option_map};
+ghost use Rattle.std.specs.Option.{option_and_then, option_copied};
+ghost use Rattle.mc_base.specs.declared.cid.Cid.{Cid};
 ghost use Rattle.mc_keep.specs.Changes.{ranked_value, value_after, values_after};
-ghost use Rattle.mc_keep_mem.specs.Chains.{row_at, row_of_node, rows_in};
+ghost use Rattle.mc_keep_mem.specs.Chains.{rows_in};
 ghost use Rattle.mc_keep_mem.specs.Holder.{AreBacked, is_brought, row_with};
 ghost use Rattle.mc_keep_mem.specs.Places.{last_in, value_in, texts_in, stands_at};
 ghost use Rattle.mc_keep_mem.specs.Values.{row_in, IsCovered};
@@ -36,16 +37,17 @@ pub(crate) fn put_value<S: BuildHasher + Drop>(
     change: ValueChange,
 )
     requires pending_room { vec_len values.old.pending < vec_capacity values.old.pending }
-    requires brought { is_brought (rows_in elements.old.nodes.items (last_in elements.old.keys)) change ≡ true }
+    requires brought { (cids : List Cid) →
+        is_brought (rows_in cids elements.old.nodes.items (last_in elements.old.keys)) change ≡ true }
     requires covered { IsCovered (texts_in elements.old.keys) (value_in elements.old.keys)
         values.old.ordered values.old.pending.items }
     ensures rows { (key : List ℕ) → row_in elements.new.nodes.items (value_in elements.new.keys) key
         ≡ value_after key (row_in elements.old.nodes.items (value_in elements.old.keys) key) change }
     ensures nodes { elements.new.nodes ≡ elements.old.nodes }
     ensures lasts { (key : List ℕ) → last_in elements.new.keys key ≡ last_in elements.old.keys key }
-    ensures backed { (hidden : List ℕ → List ℕ → Bool) →
-        AreBacked hidden elements.old.nodes.items (last_in elements.old.keys) (value_in elements.old.keys) →
-        AreBacked hidden elements.new.nodes.items (last_in elements.new.keys) (value_in elements.new.keys) }
+    ensures backed { (cids : List Cid) (hidden : List ℕ → List ℕ → Bool) →
+        AreBacked cids hidden elements.old.nodes.items (last_in elements.old.keys) (value_in elements.old.keys) →
+        AreBacked cids hidden elements.new.nodes.items (last_in elements.new.keys) (value_in elements.new.keys) }
     ensures covered { IsCovered (texts_in elements.new.keys) (value_in elements.new.keys)
         values.new.ordered values.new.pending.items }
     ensures keys_spare { spare elements.old.keys ≤ spare elements.new.keys }
@@ -67,8 +69,8 @@ fn set_row<S: BuildHasher + Drop>(
     value: RankedValue,
 )
     requires pending_room { vec_len values.old.pending < vec_capacity values.old.pending }
-    requires brought { is_some (row_with (value.priority, value.value)
-        (rows_in elements.old.nodes.items (last_in elements.old.keys) key.now)) ≡ true }
+    requires brought { (cids : List Cid) → is_some (row_with (value.priority, value.value)
+        (rows_in cids elements.old.nodes.items (last_in elements.old.keys) key.now)) ≡ true }
     requires covered { IsCovered (texts_in elements.old.keys) (value_in elements.old.keys)
         values.old.ordered values.old.pending.items }
     ensures rows { (other : List ℕ) → row_in elements.new.nodes.items (value_in elements.new.keys) other
@@ -76,9 +78,9 @@ fn set_row<S: BuildHasher + Drop>(
         (row_in elements.old.nodes.items (value_in elements.old.keys) other) }
     ensures nodes { elements.new.nodes ≡ elements.old.nodes }
     ensures lasts { (other : List ℕ) → last_in elements.new.keys other ≡ last_in elements.old.keys other }
-    ensures backed { (hidden : List ℕ → List ℕ → Bool) →
-        AreBacked hidden elements.old.nodes.items (last_in elements.old.keys) (value_in elements.old.keys) →
-        AreBacked hidden elements.new.nodes.items (last_in elements.new.keys) (value_in elements.new.keys) }
+    ensures backed { (cids : List Cid) (hidden : List ℕ → List ℕ → Bool) →
+        AreBacked cids hidden elements.old.nodes.items (last_in elements.old.keys) (value_in elements.old.keys) →
+        AreBacked cids hidden elements.new.nodes.items (last_in elements.new.keys) (value_in elements.new.keys) }
     ensures covered { IsCovered (texts_in elements.new.keys) (value_in elements.new.keys)
         values.new.ordered values.new.pending.items }
     ensures keys_spare { spare elements.old.keys ≤ spare elements.new.keys }
@@ -98,8 +100,8 @@ fn place_row<S: BuildHasher + Drop>(
     key: &str,
     value: RankedValue,
 ) -> (usize, bool)
-    requires brought { is_some (row_with (value.priority, value.value)
-        (rows_in elements.old.nodes.items (last_in elements.old.keys) key.now)) ≡ true }
+    requires brought { (cids : List Cid) → is_some (row_with (value.priority, value.value)
+        (rows_in cids elements.old.nodes.items (last_in elements.old.keys) key.now)) ≡ true }
     ensures before { result.1 ≡ is_some (value_in elements.old.keys key.now) }
     ensures place { stands_at (texts_in elements.new.keys) key.now result.0 ≡ true }
     ensures texts { texts_in elements.new.keys ≡ texts_in elements.old.keys }
@@ -110,9 +112,9 @@ fn place_row<S: BuildHasher + Drop>(
         ≡ cond (bytes_eq key.now other) true (is_some (value_in elements.old.keys other)) }
     ensures nodes { elements.new.nodes ≡ elements.old.nodes }
     ensures lasts { (other : List ℕ) → last_in elements.new.keys other ≡ last_in elements.old.keys other }
-    ensures backed { (hidden : List ℕ → List ℕ → Bool) →
-        AreBacked hidden elements.old.nodes.items (last_in elements.old.keys) (value_in elements.old.keys) →
-        AreBacked hidden elements.new.nodes.items (last_in elements.new.keys) (value_in elements.new.keys) }
+    ensures backed { (cids : List Cid) (hidden : List ℕ → List ℕ → Bool) →
+        AreBacked cids hidden elements.old.nodes.items (last_in elements.old.keys) (value_in elements.old.keys) →
+        AreBacked cids hidden elements.new.nodes.items (last_in elements.new.keys) (value_in elements.new.keys) }
     ensures keys_spare { spare elements.old.keys ≤ spare elements.new.keys }
 {
     let bytes = value.value.as_slice();
@@ -162,17 +164,17 @@ pub(crate) fn put_values<S: BuildHasher + Drop>(
     changes: Vec<ValueChange>,
 )
     requires pending_room { vec_len values.old.pending + length changes.items ≤ vec_capacity values.old.pending }
-    requires brought { list_all (is_brought (rows_in elements.old.nodes.items (last_in elements.old.keys)))
-        changes.items ≡ true }
+    requires brought { (cids : List Cid) →
+        list_all (is_brought (rows_in cids elements.old.nodes.items (last_in elements.old.keys))) changes.items ≡ true }
     requires covered { IsCovered (texts_in elements.old.keys) (value_in elements.old.keys)
         values.old.ordered values.old.pending.items }
     ensures rows { (key : List ℕ) → row_in elements.new.nodes.items (value_in elements.new.keys) key
         ≡ values_after key (row_in elements.old.nodes.items (value_in elements.old.keys) key) changes.items }
     ensures nodes { elements.new.nodes ≡ elements.old.nodes }
     ensures lasts { (key : List ℕ) → last_in elements.new.keys key ≡ last_in elements.old.keys key }
-    ensures backed { (hidden : List ℕ → List ℕ → Bool) →
-        AreBacked hidden elements.old.nodes.items (last_in elements.old.keys) (value_in elements.old.keys) →
-        AreBacked hidden elements.new.nodes.items (last_in elements.new.keys) (value_in elements.new.keys) }
+    ensures backed { (cids : List Cid) (hidden : List ℕ → List ℕ → Bool) →
+        AreBacked cids hidden elements.old.nodes.items (last_in elements.old.keys) (value_in elements.old.keys) →
+        AreBacked cids hidden elements.new.nodes.items (last_in elements.new.keys) (value_in elements.new.keys) }
     ensures covered { IsCovered (texts_in elements.new.keys) (value_in elements.new.keys)
         values.new.ordered values.new.pending.items }
     ensures keys_spare { spare elements.old.keys ≤ spare elements.new.keys }
@@ -189,8 +191,8 @@ pub(crate) fn node_of<'a, S: BuildHasher + Drop>(
     elements: &'a Elements<S>,
     key: &str,
 ) -> Option<&'a Node>
-    ensures { option_map (row_of_node key.now) (option_copied result)
-        ≡ option_and_then (row_at elements.now.nodes.items key.now) (value_in elements.now.keys key.now) }
+    ensures { option_copied result
+        ≡ option_and_then (slice_get elements.now.nodes.items) (value_in elements.now.keys key.now) }
 {
     match value_place(&elements.keys, key) {
         Some(place) => elements.nodes.get(place),

@@ -1,4 +1,5 @@
-use Rattle.std.proofs.Common.{◌∙◌, sym}
+use Rattle.std.proofs.Common.{◌∙◌, Some, ap, sym}
+use Rattle.mc_base.specs.declared.cid.Cid.{Cid}
 use Rattle.mc_keep_mem.specs.Holder.{is_held}
 use Rattle.mc_keep_mem.specs.Tombs.{has_tomb_in}
 use Rattle.mc_keep_mem.proofs.WalkFacts.{first_that, walk_begins, walk_steps, walk_ends, passed_by, found_here}
@@ -21,7 +22,8 @@ loop-at-preserved g c =
 
 pub returns-then-branch : goal.returns-then-branch
 returns-then-branch g c =
-    found_here (is_held (has_tomb_in c.args.tombs.now.keys.keys c.args.tombs.now.ids.keys c.args.tombs.now.pairs.keys c.args.key.now) (c.args.held.now.priority, c.args.held.now.value))
+    ap (λ (cid : Cid). Some cid) c.cid_of.ensures
+    ∙ found_here (is_held (has_tomb_in c.args.tombs.now.keys.keys c.args.tombs.now.ids.keys c.args.tombs.now.pairs.keys c.args.key.now) (c.args.held.now.priority, c.args.held.now.value))
     (walk_steps c.args.elements.now.chains.back c.loop-at.invariant c.in-Some.is c.deref.ensures.value c.in-Some-get.ensures.lookup.0 c.in-Some-get.ensures.lookup.1)
     (sym c.in_ok-holds.ensures ∙ c.if-branch.true)
 

@@ -1,3 +1,4 @@
+use Rattle.std.specs.HashMap.{keys}
 use Rattle.mc_keep_mem.specs.Places.{last_in}
 use Rattle.mc_keep_mem.specs.Chains.{rows_in}
 use Rattle.mc_keep_mem.specs.Holder.{is_held}
@@ -10,7 +11,7 @@ use Rattle.mc_keep_mem.proofs.holder.holder_of.Given as goal
 abbrev pub invariant-loop-at : goal.invariant-loop-at
 invariant-loop-at g l =
     let test = is_held (has_tomb_in l.tombs.keys.keys l.tombs.ids.keys l.tombs.pairs.keys l.key) (l.held.priority, l.held.value) in
-    IsWalking l.elements.nodes.items l.key (first_that test (rows_in l.elements.nodes.items (last_in l.elements.keys) l.key)) (first_that test) l.at
+    IsWalking (keys l.graph.blocks) l.elements.nodes.items l.key (first_that test (rows_in (keys l.graph.blocks) l.elements.nodes.items (last_in l.elements.keys) l.key)) (first_that test) l.at
 
 abbrev pub decreases-loop-at : goal.decreases-loop-at
 decreases-loop-at g l = steps_left l.at

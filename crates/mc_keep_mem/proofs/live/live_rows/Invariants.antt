@@ -1,3 +1,4 @@
+use Rattle.std.specs.HashMap.{keys}
 use Rattle.std.proofs.Common.{◌≡◌}
 use Rattle.std.specs.Prelude.{vec_len, vec_capacity}
 use Rattle.mc_keep_mem.specs.Places.{last_in}
@@ -8,7 +9,7 @@ use Rattle.mc_keep_mem.proofs.live.live_rows.Given as goal
 
 abbrev pub invariant-loop-at : goal.invariant-loop-at
 invariant-loop-at g l = record {
-  listing : IsListing (has_tomb_in l.tombs.keys.keys l.tombs.ids.keys l.tombs.pairs.keys) l.key l.fn.elements.nodes.items l.elements.nodes.items (last_in l.fn.elements.keys) l.rows.items l.at;
+  listing : IsListing (keys l.graph.blocks) (has_tomb_in l.tombs.keys.keys l.tombs.ids.keys l.tombs.pairs.keys) l.key l.fn.elements.nodes.items l.elements.nodes.items (last_in l.fn.elements.keys) l.rows.items l.at;
   keys : l.elements.keys ≡ l.fn.elements.keys;
   len : vec_len l.elements.nodes ≡ vec_len l.fn.elements.nodes;
   capacity : vec_capacity l.elements.nodes ≡ vec_capacity l.fn.elements.nodes;

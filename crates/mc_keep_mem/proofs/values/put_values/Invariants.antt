@@ -1,6 +1,7 @@
 use Rattle.std.proofs.Common.{◌≡◌, ◌≤◌, ◌+◌, ℕ, Bool, List, length}
 use Rattle.std.specs.Prelude.{vec_len, vec_capacity}
 use Rattle.std.specs.HashMap.{spare}
+use Rattle.mc_base.specs.declared.cid.Cid.{Cid}
 use Rattle.mc_keep.specs.Changes.{values_after}
 use Rattle.mc_keep_mem.specs.Holder.{AreBacked}
 use Rattle.mc_keep_mem.specs.Places.{last_in, value_in, texts_in}
@@ -13,8 +14,8 @@ invariant-loop-change g l = record {
   nodes : l.elements.nodes ≡ l.initial.elements.nodes;
   lasts : (key : List ℕ) → last_in l.elements.keys key ≡ last_in l.initial.elements.keys key;
   covered : IsCovered (texts_in l.elements.keys) (value_in l.elements.keys) l.values.ordered l.values.pending.items;
-  backed : (hidden : List ℕ → List ℕ → Bool) → AreBacked hidden l.initial.elements.nodes.items (last_in l.initial.elements.keys) (value_in l.initial.elements.keys)
-      → AreBacked hidden l.elements.nodes.items (last_in l.elements.keys) (value_in l.elements.keys);
+  backed : (cids : List Cid) (hidden : List ℕ → List ℕ → Bool) → AreBacked cids hidden l.initial.elements.nodes.items (last_in l.initial.elements.keys) (value_in l.initial.elements.keys)
+      → AreBacked cids hidden l.elements.nodes.items (last_in l.elements.keys) (value_in l.elements.keys);
   keys_spare : spare l.initial.elements.keys ≤ spare l.elements.keys;
   pending_spare : vec_len l.values.pending ≤ vec_len l.initial.values.pending + length l.yielded;
   pending_capacity : vec_capacity l.initial.values.pending ≤ vec_capacity l.values.pending;

@@ -1,6 +1,6 @@
 use Rattle.std.proofs.Common.{rules}
 use Rattle.mc_keep_mem.specs.Fits.{kept_in}
-use Rattle.mc_keep_mem.proofs.BroughtFacts.{are_brought}
+use Rattle.mc_keep_mem.proofs.BroughtFacts.{are_brought, rows_stored}
 use Rattle.mc_keep_mem.proofs.FitAfter.{fits_after}
 use Rattle.mc_keep_mem.proofs.store.Store.commit.Goals as goal
 
@@ -22,5 +22,6 @@ commit_tables-self-requires-clause-meet g c = record {
   stored = c.requires.fit.marks.stored;
   fresh = search rules;
   covered = c.args.self.now.fits.covered;
+  elements = rows_stored (kept_in c.args.self.now.tables) c.args.changes c.requires.fit;
   brought = are_brought c.args.self.now.tables c.args.changes c.args.self.now.fits c.requires.fit;
 }
