@@ -22,7 +22,7 @@ use Rattle.mc_world.specs.declared.record.Counts.{Counts}
 use Rattle.mc_world.specs.declared.seat.Seat.{Seat}
 use Rattle.mc_world.specs.declared.world.World.{World}
 use Rattle.mc_world.specs.Asks.{arms, focus, has_message, is_among, is_named, is_there}
-use Rattle.mc_world.specs.Counting.{HasRecord, desk_counts, entry_since, fault_counts, own_counts, risen_from, rises}
+use Rattle.mc_world.specs.Counting.{HasRecord, desk_counts, entry_since, firsts, keeper_counts, risen_from, rises, seconds}
 use Rattle.mc_world.specs.Keepers.{IsPaid, WorldGoes, armed_in, counted_in, desk_count, desks_in, is_calm, is_calm_desk, is_calm_keeper, keeper_of, own_in}
 use Rattle.mc_world.specs.Effects.{Leaves}
 use Rattle.mc_world.specs.Record.{NamesRisen, RoseAt, RoseIn}
@@ -257,32 +257,32 @@ module _ {K D : Type 0} {g : keeper.Ghosts K D} {h : counted.Ghosts K} {i : coun
       row)
 
   names_of : (before : Counts) (w0 w1 w2 : World K D g h i) (entries : List LineEntry) (faults arming : ℕ)
-      → before.keepers.items ≡ fault_counts k.faults w0.seats.items → before.own.items ≡ own_counts k.own w0.seats.items → before.desks.items ≡ desk_counts desk_faults w0.desks.items
+      → firsts before.keepers.items ≡ keeper_counts k.faults w0.seats.items → seconds before.keepers.items ≡ keeper_counts k.own w0.seats.items → before.desks.items ≡ desk_counts desk_faults w0.desks.items
       → HasRecord entries w1 w2 → WorldGoes k desk_faults faults arming w0 w1 → Names k desk_faults (entry_since k.faults k.own desk_faults before w1) w0 w2
   names_of before w0 w1 w2 entries faults arming keepers owns desks same goes = record {
     keepers = subst (λ l. NamesRisen (λ (seat : Seat K D g h i). k.faults (keeper_of seat)) w0.seats.items w2.seats.items l) keepers_are (names_risen (λ (seat : Seat K D g h i). k.faults (keeper_of seat)) w0.seats.items w2.seats.items);
     owns = subst (λ l. NamesRisen (λ (seat : Seat K D g h i). k.own (keeper_of seat)) w0.seats.items w2.seats.items l) owns_are (names_risen (λ (seat : Seat K D g h i). k.own (keeper_of seat)) w0.seats.items w2.seats.items);
     desks = subst (λ l. NamesRisen (desk_count desk_faults) w0.desks.items w2.desks.items l) desks_are (names_risen (desk_count desk_faults) w0.desks.items w2.desks.items);
     calm = λ is. (
-      (λ t. risen_from 0 (owns t) (own_counts k.own w1.seats.items))
-          ∙ none_rise 0 (own_counts k.own w0.seats.items) (own_counts k.own w1.seats.items) (zero_all (λ (seat : Seat K D g h i). k.quiet (keeper_of seat)) own_at w0.seats.items (first _ _ is)) (zero_all (λ (seat : Seat K D g h i). k.quiet (keeper_of seat)) own_at w1.seats.items (first _ _ (goes.calm is))),
+      (λ t. risen_from 0 (owns t) (keeper_counts k.own w1.seats.items))
+          ∙ none_rise 0 (keeper_counts k.own w0.seats.items) (keeper_counts k.own w1.seats.items) (zero_all (λ (seat : Seat K D g h i). k.quiet (keeper_of seat)) own_at w0.seats.items (first _ _ is)) (zero_all (λ (seat : Seat K D g h i). k.quiet (keeper_of seat)) own_at w1.seats.items (first _ _ (goes.calm is))),
       (λ t. risen_from 0 (desks t) (desk_counts desk_faults w1.desks.items))
           ∙ none_rise 0 (desk_counts desk_faults w0.desks.items) (desk_counts desk_faults w1.desks.items) (zero_lists k.quiet_desk desk_faults w0.desks.items (rest _ _ is)) (zero_lists k.quiet_desk desk_faults w1.desks.items (rest _ _ (goes.calm is))),
     );
   }
     where
-      keepers_are : risen_from 0 (fault_counts k.faults w0.seats.items) (fault_counts k.faults w2.seats.items) ≡ risen_from 0 before.keepers.items (fault_counts k.faults w1.seats.items)
-      keepers_are = λ t. risen_from 0 (sym keepers t) (fault_counts k.faults (same.seats_same t).items)
+      keepers_are : risen_from 0 (keeper_counts k.faults w0.seats.items) (keeper_counts k.faults w2.seats.items) ≡ risen_from 0 (firsts before.keepers.items) (keeper_counts k.faults w1.seats.items)
+      keepers_are = λ t. risen_from 0 (sym keepers t) (keeper_counts k.faults (same.seats_same t).items)
 
-      owns_are : risen_from 0 (own_counts k.own w0.seats.items) (own_counts k.own w2.seats.items) ≡ risen_from 0 before.own.items (own_counts k.own w1.seats.items)
-      owns_are = λ t. risen_from 0 (sym owns t) (own_counts k.own (same.seats_same t).items)
+      owns_are : risen_from 0 (keeper_counts k.own w0.seats.items) (keeper_counts k.own w2.seats.items) ≡ risen_from 0 (seconds before.keepers.items) (keeper_counts k.own w1.seats.items)
+      owns_are = λ t. risen_from 0 (sym owns t) (keeper_counts k.own (same.seats_same t).items)
 
       desks_are : risen_from 0 (desk_counts desk_faults w0.desks.items) (desk_counts desk_faults w2.desks.items) ≡ risen_from 0 before.desks.items (desk_counts desk_faults w1.desks.items)
       desks_are = λ t. risen_from 0 (sym desks t) (desk_counts desk_faults (same.desks_same t).items)
 
   -- a command that is answered and recorded
   pub act_line : (before : Counts) (w0 w1 w2 : World K D g h i) (command : Command) (reply : Reply)
-      → before.keepers.items ≡ fault_counts k.faults w0.seats.items → before.own.items ≡ own_counts k.own w0.seats.items → before.desks.items ≡ desk_counts desk_faults w0.desks.items
+      → firsts before.keepers.items ≡ keeper_counts k.faults w0.seats.items → seconds before.keepers.items ≡ keeper_counts k.own w0.seats.items → before.desks.items ≡ desk_counts desk_faults w0.desks.items
       → is_there (state k desk_faults w0) command ≡ true → ActsOn k desk_faults command (Ok reply) w0 w1 → HasRecord (w1.entries ++ entry_since k.faults k.own desk_faults before w1 ∷ []) w1 w2
       → Records k desk_faults command w0 w2 reply
   act_line before w0 w1 w2 command reply keepers owns desks there acts same =

@@ -18,13 +18,17 @@ risen_from number [] news = []
 risen_from number (old ∷ olds) [] = []
 risen_from number (old ∷ olds) (new ∷ news) = cond (rises old new) (number ∷ []) [] ++ risen_from (number + 1) olds news
 
-abbrev pub fault_counts : {K D : Type 0} {g : keeper.Ghosts K D} {h : counted.Ghosts K} {i : counted.Ghosts D} →
+-- how often the keeper of each replica has failed, by one of its two counts
+abbrev pub keeper_counts : {K D : Type 0} {g : keeper.Ghosts K D} {h : counted.Ghosts K} {i : counted.Ghosts D} →
     (K → ℕ) → List (Seat K D g h i) → List ℕ
-fault_counts {K} {D} {g} {h} {i} count seats = map (λ (seat : Seat K D g h i). count (keeper_of seat)) seats
+keeper_counts {K} {D} {g} {h} {i} count seats = map (λ (seat : Seat K D g h i). count (keeper_of seat)) seats
 
-abbrev pub own_counts : {K D : Type 0} {g : keeper.Ghosts K D} {h : counted.Ghosts K} {i : counted.Ghosts D} →
-    (K → ℕ) → List (Seat K D g h i) → List ℕ
-own_counts {K} {D} {g} {h} {i} count seats = map (λ (seat : Seat K D g h i). count (keeper_of seat)) seats
+-- the first numbers of pairs, and the second ones
+abbrev pub firsts : List (ℕ × ℕ) → List ℕ
+firsts pairs = map (λ (pair : ℕ × ℕ). pair.0) pairs
+
+abbrev pub seconds : List (ℕ × ℕ) → List ℕ
+seconds pairs = map (λ (pair : ℕ × ℕ). pair.1) pairs
 
 abbrev pub desk_counts : {D : Type 0} → (D → ℕ) → List (List D) → List ℕ
 desk_counts count desks = map (desk_count count) desks
@@ -33,9 +37,9 @@ desk_counts count desks = map (desk_count count) desks
 abbrev pub entry_since : {K D : Type 0} {g : keeper.Ghosts K D} {h : counted.Ghosts K} {i : counted.Ghosts D}
     → (K → ℕ) → (K → ℕ) → (D → ℕ) → Counts → World K D g h i → LineEntry
 entry_since faults own desk_faults before world = record {
-  keepers = risen_from 0 before.keepers.items (fault_counts faults world.seats.items);
+  keepers = risen_from 0 (firsts before.keepers.items) (keeper_counts faults world.seats.items);
   desks = risen_from 0 before.desks.items (desk_counts desk_faults world.desks.items);
-  own = risen_from 0 before.own.items (own_counts own world.seats.items);
+  own = risen_from 0 (seconds before.keepers.items) (keeper_counts own world.seats.items);
 }
 
 -- a world is the same but for its record, which is this

@@ -1,6 +1,6 @@
 // The record of a line: what failed in it.
 ghost use Rattle.std.specs.Prelude.{◌≡◌, ◌≤◌, ◌+◌, ◌++◌, [], ◌∷◌, OnErr, OnOk, IfOk, length, vec_capacity, vec_len};
-ghost use Rattle.mc_world.specs.Counting.{desk_counts, fault_counts, own_counts, risen_from, rises};
+ghost use Rattle.mc_world.specs.Counting.{desk_counts, firsts, keeper_counts, risen_from, rises, seconds};
 ghost use Rattle.mc_world.specs.Counting.{HasRecord, entry_since};
 ghost use Rattle.mc_world.specs.Desked.{desk_sums};
 ghost use Rattle.mc_world.specs.Keepers.{desk_count, keeper_of};
@@ -15,46 +15,36 @@ use std::alloc::{AllocError, Global};
 // Of so many replicas the counts take no memory of their own.
 const FEW: usize = 8;
 
-// How often the keepers of a world have failed, how often by themselves, and how often the desks, by replica.
+// How often the keepers of a world have failed, each with how often by itself, and how often the desks, by replica.
 #[derive(Drop)]
 pub(crate) struct Counts {
-    pub(crate) keepers: SmallVec<u64, FEW>,
-    pub(crate) own: SmallVec<u64, FEW>,
+    pub(crate) keepers: SmallVec<(u64, u64), FEW>,
     pub(crate) desks: SmallVec<u64, FEW>,
 }
 
 // What is counted in a world now.
 pub(crate) fn counts_of<K: Keeper>(world: &World<K>, alloc: Global) -> Result<Counts, AllocError>
-    ensures keepers { IfOk result (λ counts. counts.keepers.items ≡ fault_counts K.faults world.now.seats.items) }
-    ensures owns { IfOk result (λ counts. counts.own.items ≡ own_counts K.own world.now.seats.items) }
+    ensures keepers { IfOk result (λ counts.
+        firsts counts.keepers.items ≡ keeper_counts K.faults world.now.seats.items) }
+    ensures owns { IfOk result (λ counts. seconds counts.keepers.items ≡ keeper_counts K.own world.now.seats.items) }
     ensures of_desks { IfOk result (λ counts. counts.desks.items ≡ desk_counts K.Desk.faults world.now.desks.items) }
 {
-    let keepers = faults_of(alloc, world.seats.as_slice())?;
-    let own = own_of(alloc, world.seats.as_slice())?;
+    let keepers = count_keepers(alloc, world.seats.as_slice())?;
     let desks = SmallVec::from_slice(alloc, world.desk_counts.as_slice())?;
-    Ok(Counts {
-        keepers,
-        own,
-        desks,
-    })
+    Ok(Counts { keepers, desks })
 }
 
-fn faults_of<K: Keeper>(alloc: Global, seats: &[Seat<K>]) -> Result<SmallVec<u64, FEW>, AllocError>
-    ensures { IfOk result (λ counts. counts.items ≡ fault_counts K.faults seats.now) }
+fn count_keepers<K: Keeper>(
+    alloc: Global,
+    seats: &[Seat<K>],
+) -> Result<SmallVec<(u64, u64), FEW>, AllocError>
+    ensures keepers { IfOk result (λ counts. firsts counts.items ≡ keeper_counts K.faults seats.now) }
+    ensures owns { IfOk result (λ counts. seconds counts.items ≡ keeper_counts K.own seats.now) }
 {
     let mut counts = SmallVec::with_capacity(alloc, seats.len())?;
     for seat in seats {
-        counts.push(keeper_of(seat).faults())?;
-    }
-    Ok(counts)
-}
-
-fn own_of<K: Keeper>(alloc: Global, seats: &[Seat<K>]) -> Result<SmallVec<u64, FEW>, AllocError>
-    ensures { IfOk result (λ counts. counts.items ≡ own_counts K.own seats.now) }
-{
-    let mut counts = SmallVec::with_capacity(alloc, seats.len())?;
-    for seat in seats {
-        counts.push(keeper_of(seat).own_faults())?;
+        let keeper = keeper_of(seat);
+        counts.push((keeper.faults(), keeper.own_faults()))?;
     }
     Ok(counts)
 }
@@ -109,9 +99,8 @@ pub(crate) fn record_line<K: Keeper>(
         ++ entry_since K.faults K.own K.Desk.faults before.now world.old ∷ []) world.old world.new) }
     ensures err { OnErr result (HasRecord world.old.entries world.old world.new) }
 {
-    let keepers = risen_faults(alloc, before.keepers.as_slice(), world.seats.as_slice())?;
+    let (keepers, own) = risen_keepers(alloc, before.keepers.as_slice(), world.seats.as_slice())?;
     let desks = risen(alloc, before.desks.as_slice(), world.desk_counts.as_slice())?;
-    let own = risen_own(alloc, before.own.as_slice(), world.seats.as_slice())?;
     push_entry(
         &mut world.entries,
         LineEntry {
@@ -130,28 +119,36 @@ fn push_entry(entries: &mut List<LineEntry>, entry: LineEntry) -> Result<(), All
     Ok(())
 }
 
-// The numbers of the keepers whose counts rose.
-fn risen_faults<K: Keeper>(
+// The numbers of the keepers whose counts rose, and of those whose own counts rose.
+fn risen_keepers<K: Keeper>(
     alloc: Global,
-    before: &[u64],
+    before: &[(u64, u64)],
     seats: &[Seat<K>],
-) -> Result<List<u64>, AllocError>
-    ensures { IfOk result (λ numbers. numbers ≡ risen_from 0 before.now (fault_counts K.faults seats.now)) }
+) -> Result<(List<u64>, List<u64>), AllocError>
+    ensures keepers { IfOk result (λ risen.
+        risen.0 ≡ risen_from 0 (firsts before.now) (keeper_counts K.faults seats.now)) }
+    ensures owns { IfOk result (λ risen.
+        risen.1 ≡ risen_from 0 (seconds before.now) (keeper_counts K.own seats.now)) }
 {
-    let mut numbers = List::new(alloc);
-    add_risen_faults(&mut numbers, 0, before, seats)?;
-    Ok(numbers)
+    let mut keepers = List::new(alloc);
+    let mut own = List::new(alloc);
+    add_risen_keepers(&mut keepers, &mut own, 0, before, seats)?;
+    Ok((keepers, own))
 }
 
 // The same from this number on, behind others.
-fn add_risen_faults<K: Keeper>(
-    numbers: &mut List<u64>,
+fn add_risen_keepers<K: Keeper>(
+    keepers: &mut List<u64>,
+    own: &mut List<u64>,
     number: u64,
-    before: &[u64],
+    before: &[(u64, u64)],
     seats: &[Seat<K>],
 ) -> Result<(), AllocError>
     requires few { number + length before.now ≤ 18446744073709551615 }
-    ensures { OnOk result (numbers.new ≡ numbers.old ++ risen_from number before.now (fault_counts K.faults seats.now)) }
+    ensures keepers { OnOk result (keepers.new
+        ≡ keepers.old ++ risen_from number (firsts before.now) (keeper_counts K.faults seats.now)) }
+    ensures owns { OnOk result (own.new
+        ≡ own.old ++ risen_from number (seconds before.now) (keeper_counts K.own seats.now)) }
 {
     let [old, before @ ..] = before else {
         return Ok(());
@@ -159,45 +156,14 @@ fn add_risen_faults<K: Keeper>(
     let [seat, seats @ ..] = seats else {
         return Ok(());
     };
-    if rises(*old, keeper_of(seat).faults()) {
-        numbers.push(number)?;
+    let keeper = keeper_of(seat);
+    if rises(old.0, keeper.faults()) {
+        keepers.push(number)?;
     }
-    add_risen_faults(numbers, number + 1, before, seats)
-}
-
-// The numbers of the keepers whose own counts rose.
-fn risen_own<K: Keeper>(
-    alloc: Global,
-    before: &[u64],
-    seats: &[Seat<K>],
-) -> Result<List<u64>, AllocError>
-    ensures { IfOk result (λ numbers. numbers ≡ risen_from 0 before.now (own_counts K.own seats.now)) }
-{
-    let mut numbers = List::new(alloc);
-    add_risen_own(&mut numbers, 0, before, seats)?;
-    Ok(numbers)
-}
-
-// The same from this number on, behind others.
-fn add_risen_own<K: Keeper>(
-    numbers: &mut List<u64>,
-    number: u64,
-    before: &[u64],
-    seats: &[Seat<K>],
-) -> Result<(), AllocError>
-    requires few { number + length before.now ≤ 18446744073709551615 }
-    ensures { OnOk result (numbers.new ≡ numbers.old ++ risen_from number before.now (own_counts K.own seats.now)) }
-{
-    let [old, before @ ..] = before else {
-        return Ok(());
-    };
-    let [seat, seats @ ..] = seats else {
-        return Ok(());
-    };
-    if rises(*old, keeper_of(seat).own_faults()) {
-        numbers.push(number)?;
+    if rises(old.1, keeper.own_faults()) {
+        own.push(number)?;
     }
-    add_risen_own(numbers, number + 1, before, seats)
+    add_risen_keepers(keepers, own, number + 1, before, seats)
 }
 
 // The numbers of the counts that rose.
