@@ -15,21 +15,21 @@ use Rattle.mc_model.specs.State.{Running, durable_of}
 use Rattle.mc_model.specs.Wanted.{no_queue}
 use Rattle.mc_core.specs.declared.replica.OpenCause.{OpenCause}
 use Rattle.mc_core.specs.declared.replica.OpenCause.TheVariants as causes
-use Rattle.mc_world.specs.declared.seat.Held.{Held}
-use Rattle.mc_world.specs.declared.seat.Held.TheVariants.{Up, Down}
-use Rattle.mc_world.specs.declared.seat.Seat.{Seat}
-use Rattle.mc_world.specs.declared.world.Part.{Part}
-use Rattle.mc_world.specs.Keepers.{desks_in, keeper_in, keeper_of, own_in}
-use Rattle.mc_world.specs.Openings.{AreLeft, AreRefused, counted_of, owns_of, parts_of, starts_of}
+use Rattle.mc_seats.specs.declared.seat.Held.{Held}
+use Rattle.mc_seats.specs.declared.seat.Held.TheVariants.{Up, Down}
+use Rattle.mc_seats.specs.declared.seat.Seat.{Seat}
+use Rattle.mc_seats.specs.declared.world.Part.{Part}
+use Rattle.mc_seats.specs.Keepers.{desks_in, keeper_in, keeper_of, own_in}
+use Rattle.mc_seats.specs.Openings.{AreLeft, AreRefused, counted_of, owns_of, parts_of, starts_of}
 use Rattle.mc_app.specs.Outcome.{EndsAt, Outcome, TakenFrom, TakesSome, contents_of, unopened_status}
-use Rattle.mc_world.specs.Effects.{OpensAs}
+use Rattle.mc_seats.specs.Effects.{OpensAs}
 use Rattle.mc_runs.specs.Runs.{Answer, MayAnswer}
-use Rattle.mc_world.specs.Words.{place}
-use Rattle.mc_world.specs.Worlds.{Place, WorldState, place_with}
+use Rattle.mc_seats.specs.Words.{place}
+use Rattle.mc_seats.specs.Worlds.{Place, WorldState, place_with}
 use Rattle.mc_app.specs.declared.status.Status.{Status}
 use Rattle.mc_app.specs.declared.status.Status.TheVariants as status
 use Rattle.mc_app.proofs.RunFacts.{gives_up_first, nothing_said, untouched}
-use Rattle.mc_world.specs.Starts.{AreStarts, IsFirst}
+use Rattle.mc_seats.specs.Starts.{AreStarts, IsFirst}
 
 -- a replica that was opened over what a keeper tells
 abbrev opens_run : Option Kept → Option Running

@@ -13,21 +13,21 @@ use Rattle.mc_keep.specs.declared.keeper.Keeper as keeper
 use Rattle.mc_script.specs.ReplyText.{reply_text}
 use Rattle.mc_script.specs.declared.command.Command.{Command}
 use Rattle.mc_script.specs.declared.reply.Reply.{Reply}
-use Rattle.mc_world.specs.declared.acting.ActError.{ActError}
-use Rattle.mc_world.specs.declared.entry.LineEntry.{LineEntry}
-use Rattle.mc_world.specs.declared.seat.Seat.{Seat}
-use Rattle.mc_world.specs.declared.world.World.{World}
-use Rattle.mc_world.specs.Asks.{arms, is_named, is_there}
+use Rattle.mc_seats.specs.declared.error.ActError.{ActError}
+use Rattle.mc_seats.specs.declared.entry.LineEntry.{LineEntry}
+use Rattle.mc_seats.specs.declared.seat.Seat.{Seat}
+use Rattle.mc_seats.specs.declared.world.World.{World}
+use Rattle.mc_seats.specs.Asks.{arms, is_named, is_there}
 use Rattle.mc_app.specs.Executes.{CutsShort, Executes, ExecutesPart, IsAnswered}
-use Rattle.mc_world.specs.Keepers.{WorldGoes, desk_count, is_calm, is_calm_desk, is_calm_keeper, keeper_of}
+use Rattle.mc_seats.specs.Keepers.{WorldGoes, desk_count, is_calm, is_calm_desk, is_calm_keeper, keeper_of}
 use Rattle.mc_app.specs.LineWords.{AnswersIn}
-use Rattle.mc_world.specs.Record.{NamesNone, RoseIn}
+use Rattle.mc_seats.specs.Record.{NamesNone, RoseIn}
 use Rattle.mc_runs.specs.Runs.{Answer, names_none, owns_none}
-use Rattle.mc_world.specs.Step.{LeavesStep, Row, Step, answers_fault, is_fault}
-use Rattle.mc_world.specs.Words.{DeskRose, KeeperRose, OwnRose, Records, Shortens, state, tally}
-use Rattle.mc_world.specs.Worlds.{WorldState}
-use Rattle.mc_world.proofs.OpeningFacts.{both_true, first_true, second_true}
-use Rattle.mc_world.proofs.WorkedFacts.{cut_map}
+use Rattle.mc_seats.specs.Step.{LeavesStep, Row, Step, answers_fault, is_fault}
+use Rattle.mc_seats.specs.Words.{DeskRose, KeeperRose, OwnRose, Records, Shortens, state, tally}
+use Rattle.mc_seats.specs.Worlds.{WorldState}
+use Rattle.mc_seats.proofs.OpeningFacts.{both_true, first_true, second_true}
+use Rattle.mc_seats.proofs.WorkedFacts.{cut_map}
 
 named_itself : (r : ℕ) → is_named (r ∷ []) r ≡ true
 named_itself r = ap (λ (b : Bool). b || false) (eq-eqb r r refl)

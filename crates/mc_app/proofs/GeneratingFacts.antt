@@ -12,7 +12,7 @@ use Rattle.mc_app.specs.Generating.{EndsSummary, Generates, IsAllAnswered, IsSai
 use Rattle.mc_app.specs.Progress.{bad_line_text}
 use Rattle.mc_app.specs.Refusal.{EndsBad}
 use Rattle.mc_runs.specs.Runs.{Answer}
-use Rattle.mc_world.specs.Worlds.{WorldState}
+use Rattle.mc_seats.specs.Worlds.{WorldState}
 use Rattle.mc_app.specs.declared.status.Status.{Status}
 use Rattle.mc_app.specs.declared.status.Status.TheVariants.{Done, Usage, BadLine, ReadFault, WriteFault, KeeperFault, Memory}
 use Rattle.mc_app.proofs.RunFacts.{keeps_same, progress_map}

@@ -10,11 +10,11 @@ use Rattle.mc_keep.specs.Fused.{faults_in, quiet_in, schedule_in}
 use Rattle.mc_keep.specs.declared.fuse.Fuse.{Fuse}
 use Rattle.mc_keep.specs.declared.fused.Fused.{Fused}
 use Rattle.mc_model.specs.Kept.{Kept}
-use Rattle.mc_world.specs.declared.world.Part.{Part}
-use Rattle.mc_world.specs.Keepers.{is_calm_keeper}
-use Rattle.mc_world.specs.Openings.{AreFresh, IsFresh, are_calm, owns_of, starts_of}
+use Rattle.mc_seats.specs.declared.world.Part.{Part}
+use Rattle.mc_seats.specs.Keepers.{is_calm_keeper}
+use Rattle.mc_seats.specs.Openings.{AreFresh, IsFresh, are_calm, owns_of, starts_of}
 use Rattle.mc_app.specs.Outcome.{TakenFrom, TakesSome, starts_from}
-use Rattle.mc_world.proofs.OpeningFacts.{both_true}
+use Rattle.mc_seats.proofs.OpeningFacts.{both_true}
 
 -- what a fused keeper tells, by the one inside
 abbrev pub told_in : {K : Type 0} → (K → Option Kept) → Fused K → Option Kept

@@ -11,10 +11,10 @@ use Rattle.mc_app.specs.Progress.{IsBadCommand, Progress}
 use Rattle.mc_runs.specs.Runs.{Answer, text_of_answer}
 use Rattle.mc_app.specs.Summing.{SumsLine, SumsUp}
 use Rattle.mc_app.specs.Taking.{TakesLine}
-use Rattle.mc_world.specs.Worlds.{WorldState}
+use Rattle.mc_seats.specs.Worlds.{WorldState}
 use Rattle.mc_app.specs.declared.summing.Summed.TheVariants.{Whole, Bad}
 use Rattle.mc_app.proofs.RunFacts.{MayTally, SoFar, may_end, nothing_tallied, nothing_yet, progress_map, progress_more}
-use Rattle.mc_world.specs.Keepers.{Tally}
+use Rattle.mc_seats.specs.Keepers.{Tally}
 
 -- where the loop over the lines of a generated script stands
 pub record IsSumming (Frame : Type 0) (First : WorldState → Type 0) (base : Tally) (script ahead : List ℕ)

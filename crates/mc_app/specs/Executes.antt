@@ -3,10 +3,10 @@ use Rattle.std.specs.Prelude.{◌≡◌, ◌⊎◌, ℕ, Bool, true, List, Optio
 use Rattle.std.specs.Io.KnownBytes.{Appends}
 use Rattle.mc_base.specs.Told.{AppendsPart}
 use Rattle.mc_script.specs.declared.command.Command.{Command}
-use Rattle.mc_world.specs.Keepers.{IsPaid, Tally}
+use Rattle.mc_seats.specs.Keepers.{IsPaid, Tally}
 use Rattle.mc_runs.specs.Runs.{Answer, LineStep, arms_of, fault_of, owns_none, text_of_answer}
-use Rattle.mc_world.specs.Step.{LeavesStep}
-use Rattle.mc_world.specs.Worlds.{WorldState}
+use Rattle.mc_seats.specs.Step.{LeavesStep}
+use Rattle.mc_seats.specs.Worlds.{WorldState}
 
 -- From one tally to the next, over an answer to what was read of a line: its fault is paid; what is calm stays so, and
 -- then the answer's entry names no keeper and no desk that failed by itself.

@@ -5,7 +5,7 @@ use Rattle.mc_base.specs.Told.{AppendsPart}
 use Rattle.mc_gen.specs.Summary.{summary_text}
 use Rattle.mc_app.specs.Progress.{Progress, MeetsBadLine, bad_line_text}
 use Rattle.mc_runs.specs.Runs.{Answer, text_of_answer}
-use Rattle.mc_world.specs.Worlds.{WorldState}
+use Rattle.mc_seats.specs.Worlds.{WorldState}
 use Rattle.mc_app.specs.declared.status.Status.{Status}
 use Rattle.mc_app.specs.declared.status.Status.TheVariants.{Done, Usage, BadLine, ReadFault, WriteFault, KeeperFault}
 use Rattle.mc_app.specs.declared.status.Status.TheVariants.{Memory}

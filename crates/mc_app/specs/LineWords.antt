@@ -5,11 +5,11 @@ use Rattle.mc_keep.specs.Calls.{Members}
 use Rattle.mc_keep.specs.declared.keeper.Keeper as keeper
 use Rattle.mc_script.specs.declared.command.Command.{Command}
 use Rattle.mc_script.specs.declared.reply.Reply.{Reply}
-use Rattle.mc_world.specs.declared.world.World.{World}
+use Rattle.mc_seats.specs.declared.world.World.{World}
 use Rattle.mc_app.specs.Executes.{CutsShort, Executes, ExecutesPart, IsAnswered, LineShort}
 use Rattle.mc_runs.specs.Runs.{Answer, MayAnswer}
-use Rattle.mc_world.specs.Words.{state, tally}
-use Rattle.mc_world.specs.Keepers.{Tally}
+use Rattle.mc_seats.specs.Words.{state, tally}
+use Rattle.mc_seats.specs.Keepers.{Tally}
 
 -- what may be answered to some lines from a tally on, where the count is this at the end: no more faults than it rose
 -- by and fuses were armed, in the lines or before them; and where all was calm, no entry names a keeper or a desk that

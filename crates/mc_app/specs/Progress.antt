@@ -4,12 +4,12 @@ use Rattle.std.specs.Prelude.{All, codes}
 use Rattle.std.specs.Fmt.{decimal}
 use Rattle.mc_script.specs.Line.{line_of}
 use Rattle.mc_script.specs.declared.command.Command.{Command}
-use Rattle.mc_world.specs.Asks.{is_there}
+use Rattle.mc_seats.specs.Asks.{is_there}
 use Rattle.mc_app.specs.Lines.{lines_of, line_max, script_max, IsTooLong}
 use Rattle.mc_app.specs.Taking.{TakesLine}
 use Rattle.mc_runs.specs.Runs.{Answer, Runs}
-use Rattle.mc_world.specs.Step.{LeavesStep}
-use Rattle.mc_world.specs.Worlds.{WorldState}
+use Rattle.mc_seats.specs.Step.{LeavesStep}
+use Rattle.mc_seats.specs.Worlds.{WorldState}
 
 -- the first lines of a script, which keep the limits, with their answers and the world after them, from a first world;
 -- `May` says what may be answered

@@ -6,10 +6,10 @@ use Rattle.mc_script.specs.declared.command.Command.{Command}
 use Rattle.mc_app.specs.Executes.{IsAnswered}
 use Rattle.mc_app.specs.Generating.{IsAllAnswered, IsStoppedBad, replies_of}
 use Rattle.mc_runs.specs.Runs.{Answer, text_of_answer}
-use Rattle.mc_world.specs.Worlds.{WorldState}
+use Rattle.mc_seats.specs.Worlds.{WorldState}
 use Rattle.mc_app.specs.declared.summing.Summed.{Summed}
 use Rattle.mc_app.specs.declared.summing.Summed.TheVariants.{Whole, Bad, Short}
-use Rattle.mc_world.specs.Keepers.{Tally}
+use Rattle.mc_seats.specs.Keepers.{Tally}
 
 -- a line of which this was read was done, and its reply was taken into the summary
 pub record SumsLine (old : WorldState) (before : Tally) (read : Option (Option Command)) (new : WorldState)

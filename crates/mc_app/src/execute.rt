@@ -6,7 +6,7 @@ ghost use Rattle.mc_base.specs.Told.{AppendsPart};
 ghost use Rattle.mc_script.specs.Limits.{IsInLimits};
 ghost use Rattle.mc_script.specs.Line.{line_of};
 ghost use Rattle.mc_script.specs.ReplyText.{reply_text};
-ghost use Rattle.mc_world.specs.Asks.{is_there};
+ghost use Rattle.mc_seats.specs.Asks.{is_there};
 ghost use Rattle.mc_app.specs.LineWords.{
   AnswersIn,
   CutsShortIn,
@@ -16,8 +16,8 @@ ghost use Rattle.mc_app.specs.LineWords.{
   SameWorld,
 };
 ghost use Rattle.mc_app.specs.Progress.{IsBadCommand};
-ghost use Rattle.mc_world.specs.Record.{IsLonger};
-ghost use Rattle.mc_world.specs.Words.{state};
+ghost use Rattle.mc_seats.specs.Record.{IsLonger};
+ghost use Rattle.mc_seats.specs.Words.{state};
 ghost use Rattle.mc_app.specs.declared.execute.ExecuteError.TheVariants.{Failed as WriteFailed, Memory};
 
 use crate::write::write_text;

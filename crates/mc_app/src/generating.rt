@@ -6,13 +6,13 @@ ghost use Rattle.mc_gen.specs.Script.{script_text};
 ghost use Rattle.mc_gen.specs.Summary.{Sums, summary_text};
 ghost use Rattle.mc_keep.specs.declared.keepers.KeeperPlan.TheVariants.{Memory as InMemory};
 ghost use Rattle.mc_app.specs.Generating.{EndsSummary, Generates};
-ghost use Rattle.mc_world.specs.Keepers.{armed_in, counted_in, is_calm};
+ghost use Rattle.mc_seats.specs.Keepers.{armed_in, counted_in, is_calm};
 ghost use Rattle.mc_app.specs.LineWords.{MayEnd};
-ghost use Rattle.mc_world.specs.Openings.{AreFresh, are_calm, counted_of, owns_of, starts_of};
+ghost use Rattle.mc_seats.specs.Openings.{AreFresh, are_calm, counted_of, owns_of, starts_of};
 ghost use Rattle.mc_app.specs.Outcome.{CountsKeepers, EndsAt, TakesSome, contents_of, starts_from};
 ghost use Rattle.mc_runs.specs.Runs.{MayAnswer};
-ghost use Rattle.mc_world.specs.Words.{state, tally};
-ghost use Rattle.mc_world.specs.Starts.{IsFirst};
+ghost use Rattle.mc_seats.specs.Words.{state, tally};
+ghost use Rattle.mc_seats.specs.Starts.{IsFirst};
 
 use crate::Status;
 use crate::keeping::{give_back, make_parts};

@@ -5,8 +5,8 @@ ghost use Rattle.mc_base.specs.Causes.{Rose};
 ghost use Rattle.mc_keep.specs.Causes.{CountGoes};
 ghost use Rattle.mc_keep.specs.Plan.{is_fault};
 ghost use Rattle.mc_keep.specs.declared.keepers.KeeperPlan.{KeeperPlan as MadeBy};
-ghost use Rattle.mc_world.specs.Keepers.{is_calm_keeper};
-ghost use Rattle.mc_world.specs.Openings.{AreFresh, IsFresh, are_calm, counted_of, owns_of, starts_of};
+ghost use Rattle.mc_seats.specs.Keepers.{is_calm_keeper};
+ghost use Rattle.mc_seats.specs.Openings.{AreFresh, IsFresh, are_calm, counted_of, owns_of, starts_of};
 ghost use Rattle.mc_app.specs.Outcome.{TakenFrom, TakesSome, starts_from};
 
 use mc_base::List;

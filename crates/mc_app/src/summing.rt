@@ -2,11 +2,11 @@
 ghost use Rattle.std.specs.Prelude.{◌≡◌, ℕ, [], OnOk, IsErrOf};
 ghost use Rattle.mc_gen.specs.Summary.{Sums};
 ghost use Rattle.mc_script.specs.Line.{line_of};
-ghost use Rattle.mc_world.specs.Keepers.{counted_in};
+ghost use Rattle.mc_seats.specs.Keepers.{counted_in};
 ghost use Rattle.mc_app.specs.LineWords.{MayEnd, SameWorld};
 ghost use Rattle.mc_app.specs.Progress.{IsBadCommand};
 ghost use Rattle.mc_app.specs.Summing.{SumsLine, SumsUp};
-ghost use Rattle.mc_world.specs.Words.{state, tally};
+ghost use Rattle.mc_seats.specs.Words.{state, tally};
 
 use crate::execute::{ExecuteError, execute_and_clear};
 use crate::line_reader::{LineReader, ReadError};

@@ -1,6 +1,5 @@
 -- Calls of a replica, one after another.
-use Rattle.std.proofs.Common.{◌≡◌, ◌∙◌, ap, subst, sym, refl, ℕ, Bool, true, false, ◌||◌, Option, None, Err}
-use Rattle.std.specs.Prelude.{⊤}
+use Rattle.std.proofs.Common.{◌≡◌, ◌∙◌, ap, subst, sym, refl, ℕ, Bool, true, false, ◌||◌, Option, None}
 use Rattle.mc_model.specs.Kept.{Kept}
 use Rattle.mc_keep.specs.Plan.{Schedule}
 use Rattle.mc_base.specs.declared.counted.Counted as counted
@@ -9,12 +8,10 @@ use Rattle.mc_keep.specs.declared.keeper.Keeper as keeper
 use Rattle.mc_keep.specs.Causes.{is_fault_kind}
 use Rattle.mc_keep.specs.Causes.{fires}
 use Rattle.mc_keep.specs.Frame.{ReadsAt, CommitsAt, GoesAt}
-use Rattle.mc_keep.specs.Plan.{CommitsAsPlanned, is_fault as keeper_failed}
-use Rattle.mc_keep.specs.declared.error.KeepError.{KeepError}
-use Rattle.mc_keep.specs.declared.error.KeepError.TheVariants.{Failed, Memory}
-use Rattle.mc_keep.proofs.Frames.{goes_commit, goes_itself, goes_more, goes_reads, read_itself, read_well}
-use Rattle.mc_core.specs.Refusals.{OfKeeper, kind_of, stops}
-use Rattle.mc_core.specs.declared.error.CoreError.{CoreError}
+use Rattle.mc_keep.specs.Plan.{CommitsAsPlanned}
+use Rattle.mc_keep.proofs.Frames.{goes_commit, goes_itself, goes_more, goes_reads}
+use Rattle.mc_plan.specs.Refusals.{kind_of, stops}
+use Rattle.mc_plan.specs.declared.error.CoreError.{CoreError}
 use Rattle.mc_core.specs.declared.replica.Replica.{Replica}
 use Rattle.mc_core.specs.Exact.{RestSame}
 use Rattle.mc_core.specs.Words.{ContinuesAt, CommitKeepsAt}
@@ -65,16 +62,6 @@ module _ {K D : Type 0} {g : keeper.Ghosts K D} {h : counted.Ghosts K} {i : coun
   pub commit_itself : (now : Replica K D g h i) → CommitKeepsAt told fuse own faults quiet schedule false now now
   commit_itself now = record { rest_same = record { walk_same = refl; batch_same = refl; whole_same = refl }; continues = still_on refl refl refl }
 
--- a keeper's error is a fault exactly where the replica's is
-pub same_fault : (keep : KeepError) (error : CoreError) → OfKeeper keep error → keeper_failed {T = ⊤} (Err keep) ≡ is_fault_kind (kind_of error)
-same_fault Failed error of = ap (λ e. is_fault_kind (kind_of e)) (sym of)
-same_fault Memory error of = ap (λ e. is_fault_kind (kind_of e)) (sym of)
-
 -- a replica that ran, and has stopped where the keeper failed
 pub stops_once : (error : CoreError) (stop stop_new : Bool) → stop ≡ false → stop_new ≡ stops error false → stop_new ≡ (is_fault_kind (kind_of error) || stop)
 stops_once error stop stop_new up is = is ∙ ap (λ b. is_fault_kind (kind_of error) || b) (sym up)
-
--- nothing was read
-pub reads_nothing : {K : Type 0} {told : K → Option Kept} {fuse : K → Option Fuse} {spare own faults : K → ℕ} {quiet : K → Bool} {schedule : K → Option Schedule} {failed : Bool} (now : K) → failed ≡ false
-    → ReadsAt told fuse spare own faults quiet schedule failed now now
-reads_nothing now well = read_well (read_itself now) (sym well)

@@ -7,8 +7,8 @@ use Rattle.mc_model.specs.Wanted.{Queue, no_queue}
 use Rattle.mc_keep.specs.declared.fuse.Fuse.{Fuse}
 use Rattle.mc_keep.specs.declared.rows.Summary.{Summary}
 use Rattle.mc_keep.specs.Tables.{IsSummary}
-use Rattle.mc_core.specs.Events.{state_of}
-use Rattle.mc_core.specs.Counted.{run_of}
+use Rattle.mc_plan.specs.Events.{state_of}
+use Rattle.mc_plan.specs.Counted.{run_of}
 use Rattle.mc_core.specs.Replica.{opened_state}
 
 abbrev fresh : Queue → Summary → Running

@@ -9,8 +9,8 @@ use Rattle.mc_base.specs.declared.counted.Counted as counted
 use Rattle.mc_keep.specs.declared.fuse.Fuse.{Fuse}
 use Rattle.mc_keep.specs.declared.keeper.Keeper as keeper
 use Rattle.mc_core.specs.declared.replica.Replica.{Replica}
-use Rattle.mc_core.specs.Counted.{run_of}
-use Rattle.mc_core.specs.Events.{ReplicaState, state_of}
+use Rattle.mc_plan.specs.Counted.{run_of}
+use Rattle.mc_plan.specs.Events.{ReplicaState, state_of}
 
 -- what is lost at a stop: the wanted set, the walk, the batch, and whether every gap is wanted
 abbrev pub running_of : {K D : Type 0} {g : keeper.Ghosts K D} {h : counted.Ghosts K} {i : counted.Ghosts D} →

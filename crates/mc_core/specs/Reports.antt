@@ -1,19 +1,10 @@
--- The numbers that a replica keeps beside its keeper, and its report.
-use Rattle.std.specs.Prelude.{◌≡◌, ◌+◌, ℕ, Bool, length, unwrap_or}
+-- The report of a replica.
+use Rattle.std.specs.Prelude.{◌≡◌, Bool, length}
 use Rattle.mc_model.specs.Kept.{Kept}
 use Rattle.mc_model.specs.Wanted.{Queue}
 use Rattle.mc_queue.specs.declared.queue.Counts.{Counts}
-use Rattle.mc_keep.specs.declared.changes.Changes.{Changes}
-use Rattle.mc_core.specs.declared.report.Numbers.{Numbers}
 use Rattle.mc_core.specs.declared.report.Report.{Report}
-use Rattle.mc_core.specs.Counted.{capped}
-
--- the numbers after these changes, which leave so many gaps
-pub record IsAfter (numbers : Numbers) (changes : Changes) (gaps : ℕ) (new : Numbers) : Type 0 where
-  pub processed : new.processed ≡ capped (numbers.processed + length changes.marks)
-  pub stored : new.stored ≡ capped (numbers.stored + length changes.store)
-  pub gaps_left : new.gaps ≡ gaps
-  pub mark : new.mark ≡ unwrap_or changes.mark numbers.mark
+use Rattle.mc_plan.specs.Counted.{capped}
 
 -- the report is that of what is told, and says whether every gap is wanted
 pub record IsReport (kept : Kept) (whole : Bool) (report : Report) : Type 0 where

@@ -11,16 +11,16 @@ use Rattle.mc_keep.specs.Frame.{GoesAt}
 use Rattle.mc_keep.specs.Plan.{Schedule, without_desks}
 use Rattle.mc_keep.specs.declared.fuse.Fuse.{Fuse}
 use Rattle.mc_keep.specs.declared.keeper.Keeper as keeper
-use Rattle.mc_core.specs.declared.error.CoreError.{CoreError}
+use Rattle.mc_plan.specs.declared.error.CoreError.{CoreError}
 use Rattle.mc_core.specs.declared.replica.Replica.{Replica}
-use Rattle.mc_core.specs.Calls.{Call, Stays}
-use Rattle.mc_core.specs.Events.{ReplicaState, HappensIn}
+use Rattle.mc_plan.specs.Calls.{Call, Stays}
+use Rattle.mc_plan.specs.Events.{ReplicaState, HappensIn}
 use Rattle.mc_core.specs.Exact.{RestSame, StillTellsAt, TellsSameAt}
-use Rattle.mc_core.specs.Reads.{OnlyReads, read_refusal}
-use Rattle.mc_core.specs.Refusals.{Is}
+use Rattle.mc_plan.specs.Reads.{OnlyReads, read_refusal}
+use Rattle.mc_plan.specs.Refusals.{Is}
 use Rattle.mc_core.specs.Replica.{replica_state}
-use Rattle.mc_core.specs.Walks.{StepsAt}
-use Rattle.mc_core.specs.declared.walks.WalkStep.{WalkStep}
+use Rattle.mc_core.specs.Steps.{StepsAt}
+use Rattle.mc_plan.specs.declared.walks.WalkStep.{WalkStep}
 
 -- What every call leaves of a replica: only the last call of its keeper may have failed, and then the replica has
 -- stopped, as one has that had stopped before.

@@ -1,30 +1,24 @@
 // The calls of a replica on its batch.
-ghost use Rattle.mc_keep.specs.Calls.{Reads};
 ghost use Rattle.std.specs.Prelude.{◌≡◌, ◌≤◌, ◌++◌, ◌∷◌, [], false, None, Some, IfOk, IfSome, IfErr, is_some};
 ghost use Rattle.std.specs.Option.{option_map};
-ghost use Rattle.mc_keep.specs.Causes.{IfTold};
 ghost use Rattle.mc_model.specs.Batch.{batch_put, empty_batch};
 ghost use Rattle.mc_model.specs.Events.{Batch as Closed};
-ghost use Rattle.mc_core.specs.declared.error.CoreError.{CoreError as Refused};
-ghost use Rattle.mc_core.specs.Batches.{AddsBatch, BeginEvents, BatchDeleteEvents, BatchPutEvents, CommitEvents};
-ghost use Rattle.mc_core.specs.Batches.{batch_once};
-ghost use Rattle.mc_core.specs.Batches.{batch_delete_refusal, batch_made_refusal, batch_put_refusal, begin_refusal};
-ghost use Rattle.mc_core.specs.Batches.{commit_refusal, delta_of_batch};
-ghost use Rattle.mc_core.specs.Calls.{Stays};
-ghost use Rattle.mc_core.specs.Events.{Part};
+ghost use Rattle.mc_plan.specs.declared.error.CoreError.{CoreError as Refused};
+ghost use Rattle.mc_plan.specs.Batches.{AddsBatch, BeginEvents, BatchDeleteEvents, BatchPutEvents, CommitEvents};
+ghost use Rattle.mc_plan.specs.Batches.{batch_once};
+ghost use Rattle.mc_plan.specs.Batches.{batch_delete_refusal, batch_put_refusal, begin_refusal};
+ghost use Rattle.mc_plan.specs.Batches.{commit_refusal};
+ghost use Rattle.mc_plan.specs.Calls.{Stays};
+ghost use Rattle.mc_plan.specs.Events.{Part};
 ghost use Rattle.mc_core.specs.Exact.{IfRefusedOrShort, NoMemory, front_of, put_front, stop_front};
-ghost use Rattle.mc_core.specs.Uptakes.{IsShaped, IsSomeUptake, uptake_events, uptake_rows};
-ghost use Rattle.mc_core.specs.Puts.{IsPlanned, next_links};
-ghost use Rattle.mc_core.specs.Refusals.{Is, IsDue, is_fault, key_refusal, no_batch_refusal, open_batch_refusal};
+ghost use Rattle.mc_plan.specs.Uptakes.{IsShaped, IsSomeUptake, uptake_events, uptake_rows};
+ghost use Rattle.mc_plan.specs.Refusals.{Is, is_fault, key_refusal, no_batch_refusal, open_batch_refusal};
 ghost use Rattle.mc_core.specs.Words.{Acts, Becomes, Continues, TellsSame};
 
-use crate::commits::is_sound;
-use crate::error::stops;
-use crate::made::{Planned, Written, next_block, plan_made};
-use crate::puts::{check_key, check_value};
-use crate::{CoreError, Replica};
+use crate::Replica;
 use mc_keep::{Keeper, changes_fit, commits_are_events};
 use mc_model::kept_is_durable;
+use mc_plan::{CoreError, Planned, Written, check_key, check_value, is_sound, plan_batch, stops};
 use mc_write::Batch;
 use std::alloc::Global;
 
@@ -170,30 +164,4 @@ impl<K: Keeper> Replica<K> {
             Err(error) => Err(error),
         }
     }
-}
-
-// Plans to take up the block of a batch, and takes all the memory that it needs.
-fn plan_batch<K: Keeper>(
-    keeper: &mut K,
-    alloc: Global,
-    batch: &Batch,
-    whole: bool,
-) -> Result<Planned, CoreError>
-    ensures allowed { IfTold (K.told keeper.old) result (λ kept planned. batch_made_refusal kept batch.now ≡ None) }
-    ensures planned { IfTold (K.told keeper.old) result (λ kept planned.
-        IsPlanned kept whole (next_links kept) (delta_of_batch kept batch.now) planned) }
-    ensures front { front_of result ≡ None }
-    ensures refused { IfSome (K.told keeper.old) (λ kept.
-        IfErr result (IsDue (Is (batch_made_refusal kept batch.now)))) }
-    ensures shape { IfOk result (λ planned. IsShaped planned.uptake) }
-    ensures links { IfOk result (λ planned. planned.uptake.after.links ≡ []) }
-    ensures same { IfOk result (λ planned. planned.uptake.after.cid ≡ planned.written.cid) }
-    ensures room { IfOk result (λ planned. uptake_rows planned.uptake ≤ K.spare keeper.new) }
-    ensures reads { Reads K.Keeper (is_fault result) keeper.old keeper.new }
-{
-    is_sound(keeper);
-    kept_is_durable();
-    let next = next_block(keeper, alloc)?;
-    let delta = batch.delta(alloc, next.priority)?;
-    plan_made(keeper, alloc, next.links, delta, whole)
 }

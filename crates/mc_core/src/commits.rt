@@ -3,23 +3,20 @@ ghost use Rattle.std.specs.Prelude.{◌≡◌, ◌≤◌, ◌+◌, false, [], �
 ghost use Rattle.std.specs.Result.{is_err};
 ghost use Rattle.mc_base.specs.Told.{Told};
 ghost use Rattle.mc_model.specs.Events.{Store, Process};
-ghost use Rattle.mc_model.specs.Kept.{IsKept};
 ghost use Rattle.mc_model.specs.State.{vertices};
 ghost use Rattle.mc_keep.specs.Changes.{changed, row_count};
 ghost use Rattle.mc_keep.specs.Tables.{ChangesFit};
-ghost use Rattle.mc_core.specs.Events.{Part};
+ghost use Rattle.mc_plan.specs.Events.{Part};
 ghost use Rattle.mc_model.specs.Wanted.{without};
 ghost use Rattle.mc_queue.specs.Views.{shown, spare};
-ghost use Rattle.mc_core.specs.Uptakes.{IsReady, IsShaped, IsSomeUptake, uptake_rows, uptake_events, wants};
+ghost use Rattle.mc_plan.specs.Uptakes.{IsReady, IsShaped, IsSomeUptake, uptake_rows, uptake_events, wants};
 ghost use Rattle.mc_core.specs.Words.{Becomes, CommitKeeps};
 
-use crate::replica::Replica;
-use crate::report::numbers_after;
-use crate::uptake::{After, Uptake};
-use crate::wanting::want_links;
+use crate::Replica;
 use mc_base::Failed;
 use mc_keep::{Changes, Keeper, changes_fit, commits_are_events};
 use mc_model::{kept_changes_are_events, kept_is_durable};
+use mc_plan::{After, Uptake, is_sound, numbers_after, want_links};
 
 impl<K: Keeper> Replica<K> {
     // Stores blocks.
@@ -135,8 +132,3 @@ impl<K: Keeper> Replica<K> {
         }
     }
 }
-
-// What the keeper tells is sound.
-pub(crate) fn is_sound<K: Keeper>(keeper: &K)
-    ensures { IfSome (K.told keeper.now) IsKept }
-{}

@@ -1,14 +1,15 @@
 // Desks: places from which other threads read blocks of a replica's keeper.
 ghost use Rattle.std.specs.Prelude.{◌≡◌, ⊤, true, false, None, IfOk};
 ghost use Rattle.mc_keep.specs.Plan.{DeskAsPlanned};
-ghost use Rattle.mc_core.specs.Desks.{kept_result};
+ghost use Rattle.mc_plan.specs.Desks.{kept_result};
 ghost use Rattle.mc_core.specs.Exact.{RestSame, front_of, stop_front};
-ghost use Rattle.mc_core.specs.Refusals.{is_fault};
+ghost use Rattle.mc_plan.specs.Refusals.{is_fault};
 ghost use Rattle.mc_core.specs.Words.{Answers, ContinuesApart, TellsSame};
 
-use crate::{CoreError, Replica};
+use crate::Replica;
 use mc_keep::{KeepError, Keeper};
 use mc_model::kept_is_durable;
+use mc_plan::CoreError;
 use std::alloc::Global;
 
 impl<K: Keeper> Replica<K> {

@@ -1,29 +1,24 @@
 // The jobs of a replica: the wanted blocks that are to be fetched.
 ghost use Rattle.std.specs.Prelude.{◌≡◌, ◌∷◌, [], None, IfOk, IfSome, option_map, cond};
-ghost use Rattle.mc_keep.specs.Calls.{Reads};
-ghost use Rattle.mc_keep.specs.Causes.{IfTold};
-ghost use Rattle.mc_keep.specs.Plan.{is_fault as keeper_failed};
 ghost use Rattle.mc_fetch.specs.Offers.{HasDigest};
 ghost use Rattle.mc_fetch.specs.declared.job.Job.{Job as Begun};
 ghost use Rattle.mc_model.specs.Draining.{all_given_back};
 ghost use Rattle.mc_model.specs.Events.{GiveBack, Requeue};
 ghost use Rattle.mc_model.specs.Graph.{has};
-ghost use Rattle.mc_model.specs.Kept.{bytes_at};
 ghost use Rattle.mc_model.specs.Wanted.{give_back, requeue, recall};
 ghost use Rattle.mc_queue.specs.Tickets.{first_of};
 ghost use Rattle.mc_queue.specs.Views.{shown};
 ghost use Rattle.mc_core.specs.Exact.{RestSame, front_of, stop_front};
-ghost use Rattle.mc_core.specs.Jobs.{NextEvents, NextShort, NextWants};
-ghost use Rattle.mc_core.specs.Reads.{read_refusal};
-ghost use Rattle.mc_core.specs.Refusals.{Is, is_fault};
+ghost use Rattle.mc_plan.specs.Jobs.{NextEvents, NextShort, NextWants};
+ghost use Rattle.mc_plan.specs.Reads.{read_refusal};
+ghost use Rattle.mc_plan.specs.Refusals.{Is, is_fault};
 ghost use Rattle.mc_core.specs.Words.{Acts, Continues, HappensTo, StillTells};
 
-use crate::commits::is_sound;
-use crate::{CoreError, Replica};
-use mc_base::{Bytes, Cid};
+use crate::Replica;
 use mc_fetch::Job;
 use mc_keep::{KeepError, Keeper};
 use mc_model::{kept_is_durable, recall_gives_back};
+use mc_plan::{CoreError, own_bytes};
 use std::alloc::Global;
 
 impl<K: Keeper> Replica<K> {
@@ -98,37 +93,5 @@ impl<K: Keeper> Replica<K> {
     {
         recall_gives_back();
         self.queue.recall();
-    }
-}
-
-// The stored bytes of a block, where they have its digest.
-fn own_bytes<K: Keeper>(
-    keeper: &mut K,
-    alloc: Global,
-    cid: &Cid,
-) -> Result<Option<Bytes>, KeepError>
-    ensures own { IfTold (K.told keeper.old) result (λ kept own. own ≡ bytes_at kept.graph cid.now) }
-    ensures digest { IfOk result (λ own. IfSome own (HasDigest cid.now)) }
-    ensures reads { Reads K.Keeper (keeper_failed result) keeper.old keeper.new }
-{
-    is_sound(keeper);
-    let stored = keeper.block(alloc, cid)?;
-    Ok(with_digest(stored, cid))
-}
-
-// Bytes that have the digest of the block, or none.
-fn with_digest(stored: Option<Bytes>, cid: &Cid) -> Option<Bytes>
-    ensures kept { IfSome stored (HasDigest cid.now) → result ≡ stored }
-    ensures digest { IfSome result (HasDigest cid.now) }
-{
-    match stored {
-        Some(bytes) => {
-            if Cid::of(bytes.as_slice()) == *cid {
-                Some(bytes)
-            } else {
-                None
-            }
-        }
-        None => None,
     }
 }

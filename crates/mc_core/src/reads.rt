@@ -1,6 +1,6 @@
 // The calls of a replica that only read.
 ghost use Rattle.std.specs.Prelude.{◌≡◌, None, false, is_some, map, slice_get, IfErr, IfOk, IfSome};
-ghost use Rattle.mc_core.specs.declared.error.CoreError.{CoreError as Refused};
+ghost use Rattle.mc_plan.specs.declared.error.CoreError.{CoreError as Refused};
 ghost use Rattle.std.specs.List.{position};
 ghost use Rattle.mc_key.specs.Prefix.{is_under};
 ghost use Rattle.mc_model.specs.Answers as answers;
@@ -11,14 +11,14 @@ ghost use Rattle.mc_model.specs.Live.{value};
 ghost use Rattle.mc_keep.specs.Changes.{heads_in_rows};
 ghost use Rattle.mc_query.specs.Places.{pair_of};
 ghost use Rattle.mc_core.specs.Exact.{NoMemory, RestSame, front_of, stop_front};
-ghost use Rattle.mc_core.specs.Refusals.{is_fault};
+ghost use Rattle.mc_plan.specs.Refusals.{is_fault};
 ghost use Rattle.mc_core.specs.Words.{Answers, Continues, TellsSame};
 
-use crate::error::stops;
-use crate::{CoreError, Replica};
+use crate::Replica;
 use mc_base::{Bytes, Cid, List};
 use mc_keep::{HeadRow, Keeper};
 use mc_model::kept_is_durable;
+use mc_plan::{CoreError, stops};
 use mc_query::Pair;
 use std::alloc::Global;
 

@@ -1,14 +1,13 @@
 // One replica.
 ghost use Rattle.std.specs.Prelude.{◌≡◌, true, false, None, IfOk, IfErr};
-ghost use Rattle.mc_core.specs.Counted.{is_counted, AreSound};
+ghost use Rattle.mc_plan.specs.Counted.{is_counted, AreSound};
 ghost use Rattle.mc_model.specs.State.{HasSoundMark, IsSound};
 ghost use Rattle.mc_queue.specs.Views.{shown};
 
-use crate::commits::is_sound;
-use crate::report::{Numbers, numbers_of};
 use mc_base::Failed;
 use mc_keep::Keeper;
 use mc_model::kept_is_durable;
+use mc_plan::{Numbers, is_sound, numbers_of};
 use mc_queue::Queue;
 use mc_walk::Walk;
 use mc_write::Batch;

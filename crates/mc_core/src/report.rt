@@ -1,21 +1,13 @@
 // The numbers of a replica, without a look at its keeper.
 ghost use Rattle.std.specs.Prelude.{◌≡◌, IfOk, IfErr, IfSome, true};
-ghost use Rattle.mc_core.specs.declared.error.CoreError.{CoreError as Refused};
+ghost use Rattle.mc_plan.specs.declared.error.CoreError.{CoreError as Refused};
 ghost use Rattle.mc_queue.specs.Views.{shown};
-ghost use Rattle.mc_core.specs.Reports.{AreCounts, IsAfter, IsReport};
+ghost use Rattle.mc_core.specs.Reports.{AreCounts, IsReport};
 
-use crate::{CoreError, Replica};
-use mc_keep::{Changes, Keeper, Summary};
+use crate::Replica;
+use mc_keep::Keeper;
+use mc_plan::CoreError;
 use mc_queue::Counts;
-
-// How many blocks are processed and stored, at most `u64::MAX`, how many gaps there are, and the dirty mark.
-#[derive(Clone, Copy)]
-pub(crate) struct Numbers {
-    pub(crate) processed: u64,
-    pub(crate) stored: u64,
-    pub(crate) gaps: u64,
-    pub(crate) mark: bool,
-}
 
 /// The numbers of a replica.
 #[derive(Clone, Copy, Debug, PartialEq, Eq)]
@@ -53,34 +45,5 @@ impl<K: Keeper> Replica<K> {
             mark: self.numbers.mark,
             whole: self.whole,
         })
-    }
-}
-
-// The numbers of what a keeper sums up.
-pub(crate) fn numbers_of(summary: Summary) -> Numbers
-    ensures { (result.processed ≡ summary.processed) × (result.stored ≡ summary.stored)
-        × (result.gaps ≡ summary.gaps) × (result.mark ≡ summary.mark) }
-{
-    Numbers {
-        processed: summary.processed,
-        stored: summary.stored,
-        gaps: summary.gaps,
-        mark: summary.mark,
-    }
-}
-
-// The numbers after these changes, which leave so many gaps.
-pub(crate) fn numbers_after(numbers: Numbers, changes: &Changes, gaps: u64) -> Numbers
-    ensures { IsAfter numbers changes.now gaps result }
-{
-    Numbers {
-        processed: numbers
-            .processed
-            .saturating_add(changes.marks.as_slice().len() as u64),
-        stored: numbers
-            .stored
-            .saturating_add(changes.store.as_slice().len() as u64),
-        gaps,
-        mark: changes.mark.unwrap_or(numbers.mark),
     }
 }

@@ -2,23 +2,20 @@
 ghost use Rattle.std.specs.Prelude.{◌≡◌, ◌≤◌, ◌∷◌, [], false, None, IfOk, IfErr, IfSome};
 ghost use Rattle.mc_model.specs.Wanted.{without};
 ghost use Rattle.mc_queue.specs.Views.{shown};
-ghost use Rattle.mc_core.specs.declared.error.CoreError.{CoreError as Refused};
-ghost use Rattle.mc_core.specs.Calls.{Stays};
-ghost use Rattle.mc_core.specs.Events.{Part};
+ghost use Rattle.mc_plan.specs.declared.error.CoreError.{CoreError as Refused};
+ghost use Rattle.mc_plan.specs.Calls.{Stays};
+ghost use Rattle.mc_plan.specs.Events.{Part};
 ghost use Rattle.mc_core.specs.Exact.{IfRefusedOrShort, RestSame, front_of, put_front, stop_front};
-ghost use Rattle.mc_core.specs.Uptakes.{IsShaped, IsSomeUptake, uptake_events, uptake_rows};
-ghost use Rattle.mc_core.specs.Puts.{AddsPut, PutEvents, put_refusal};
-ghost use Rattle.mc_core.specs.Refusals.{Is, is_fault};
+ghost use Rattle.mc_plan.specs.Uptakes.{IsShaped, IsSomeUptake, uptake_events, uptake_rows};
+ghost use Rattle.mc_plan.specs.Puts.{AddsPut, PutEvents, put_refusal};
+ghost use Rattle.mc_plan.specs.Refusals.{Is, is_fault};
 ghost use Rattle.mc_core.specs.Words.{Acts, Becomes, CommitKeeps, Continues, TellsSame};
 
-use crate::commits::is_sound;
-use crate::error::stops;
-use crate::made::{Planned, Written};
-use crate::puts::plan_put;
-use crate::{CoreError, Replica};
+use crate::Replica;
 use mc_base::Failed;
 use mc_keep::{Keeper, changes_fit, commits_are_events};
 use mc_model::kept_is_durable;
+use mc_plan::{CoreError, Planned, Written, is_sound, plan_put, stops};
 use std::alloc::Global;
 
 impl<K: Keeper> Replica<K> {

@@ -21,7 +21,7 @@ use Rattle.mc_model.specs.Kept.{bytes_at}
 use Rattle.mc_model.specs.Offer.{Damage, offer}
 use Rattle.mc_model.specs.State.{Durable, IsSound, Running, State, stored_of}
 use Rattle.mc_model.proofs.Prefix.{goes_on_then}
-use Rattle.mc_core.specs.declared.error.CoreError.{CoreError}
+use Rattle.mc_core.specs.declared.CoreError.{CoreError}
 use Rattle.mc_core.specs.Calls.{Call, Faults, IsRefused}
 use Rattle.mc_core.specs.Events.{ReplicaState, Goes, HappensIn}
 use Rattle.mc_core.specs.Jobs.{DeliverEvents, DeliverShort, DeliversIn, NextEvents, NextShort}

@@ -9,7 +9,7 @@ use Rattle.mc_model.specs.Kept.{IsKept, Kept, processed}
 use Rattle.mc_model.specs.State.{Running, durable_of, kept_of}
 use Rattle.mc_core.specs.Events.{ReplicaState, state_of}
 use Rattle.mc_core.specs.Walks.{IsClean, gap_count, settled_with}
-use Rattle.mc_core.specs.declared.walks.Settled.TheVariants as settled
+use Rattle.mc_core.specs.declared.Settled.TheVariants as settled
 use Rattle.mc_drain.specs.Reached.{AreReached}
 
 -- what is processed is reached where what is settled is clean

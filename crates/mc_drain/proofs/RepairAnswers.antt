@@ -3,8 +3,8 @@ use Rattle.std.proofs.Common.{◌≡◌, ◌≢◌, ℕ, Bool, true, false, [], 
 use Rattle.std.proofs.lemmas.Bool.{false≢true}
 use Rattle.mc_model.specs.Wanted.{Queue}
 use Rattle.mc_core.specs.Events.{ReplicaState}
-use Rattle.mc_core.specs.declared.walks.Settled.{Settled}
-use Rattle.mc_core.specs.declared.walks.Settled.TheVariants as settled
+use Rattle.mc_core.specs.declared.Settled.{Settled}
+use Rattle.mc_core.specs.declared.Settled.TheVariants as settled
 use Rattle.mc_drain.specs.declared.end.DrainEnd.{DrainEnd}
 use Rattle.mc_drain.specs.declared.end.DrainEnd.TheVariants as end
 use Rattle.mc_drain.specs.declared.repairing.Repaired.{Repaired}

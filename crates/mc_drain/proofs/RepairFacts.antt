@@ -19,8 +19,8 @@ use Rattle.mc_core.specs.Counted.{capped, run_of}
 use Rattle.mc_core.specs.Events.{ReplicaState, state_of}
 use Rattle.mc_core.proofs.GrowthFacts.{same_goes}
 use Rattle.mc_core.specs.Walks.{gap_count, settled_with}
-use Rattle.mc_core.specs.declared.walks.Settled.{Settled}
-use Rattle.mc_core.specs.declared.walks.Settled.TheVariants as settled
+use Rattle.mc_core.specs.declared.Settled.{Settled}
+use Rattle.mc_core.specs.declared.Settled.TheVariants as settled
 use Rattle.mc_drain.specs.declared.end.DrainEnd.{DrainEnd}
 use Rattle.mc_drain.specs.declared.end.DrainEnd.TheVariants as end
 use Rattle.mc_drain.specs.declared.repairing.Repaired.{Repaired}

@@ -23,7 +23,7 @@ use Rattle.mc_model.specs.Wanted.{Queue}
 use Rattle.mc_model.specs.Kept.{Kept}
 use Rattle.mc_model.specs.State.{Durable, IsSound, Running, durable_of}
 use Rattle.mc_worker.specs.Lookups.{LooksUp, bytes_of}
-use Rattle.mc_core.specs.declared.error.CoreError.{CoreError}
+use Rattle.mc_core.specs.declared.CoreError.{CoreError}
 use Rattle.mc_core.specs.declared.report.Report.{Report}
 use Rattle.mc_core.specs.Calls.{Call}
 use Rattle.mc_core.specs.Counted.{capped, run_of}

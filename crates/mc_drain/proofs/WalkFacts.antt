@@ -15,9 +15,9 @@ use Rattle.mc_model.specs.Repairing.{HasRepaired, is_of_walk, with_gaps}
 use Rattle.mc_model.specs.State.{Durable, IsSound, Running, State}
 use Rattle.mc_model.specs.Wanted.{Queue, wanted}
 use Rattle.mc_model.proofs.Prefix.{goes_on_then}
-use Rattle.mc_core.specs.declared.error.CoreError.{CoreError}
-use Rattle.mc_core.specs.declared.walks.WalkStep.{WalkStep}
-use Rattle.mc_core.specs.declared.walks.WalkStep.TheVariants.{Idle, Begun, Visited, Ended}
+use Rattle.mc_core.specs.declared.CoreError.{CoreError}
+use Rattle.mc_core.specs.declared.WalkStep.{WalkStep}
+use Rattle.mc_core.specs.declared.WalkStep.TheVariants.{Idle, Begun, Visited, Ended}
 use Rattle.mc_core.specs.Calls.{Call, Faults, IsRefused, Stays}
 use Rattle.mc_core.specs.Events.{Breaks, CommitBreaks, Goes, IsCutShort, MayHappen, ReplicaState, all_happen, burnt_by, fires_by, goes_on, stopped}
 use Rattle.mc_core.specs.Reads.{read_refusal}

@@ -1,6 +1,6 @@
 -- The first offer that decides, place by place.
 use Rattle.std.proofs.Common.{◌≡◌, ℕ, suc, zero, ◌+◌, ◌≤◌, arith, true, false, cond, List, [], ◌∷◌, Option, Some, None, refl, sym, ap, ◌∙◌, length, drop}
-use Rattle.std.specs.Prelude.{slice_get, IfSome}
+use Rattle.std.specs.Prelude.{slice_get, ⊤, IfSome}
 use Rattle.std.specs.Option.{option_map}
 use Rattle.mc_base.specs.declared.cid.Cid.{Cid}
 use Rattle.mc_fetch.specs.Offers.{Offered, names, matching, first_offer}
@@ -60,3 +60,14 @@ module _ (cid : Cid) where
   first_is_none None places place placed past so_far = tt
   first_is_none (Some offered) places place placed past so_far =
       sym (so_far ∙ ap (first_offer cid) (dropped (offered cid) place (omega (arith, placed cid, past))))
+
+-- the offer of a place, matched
+pub match_found : (told : Option Offered) (cid : Cid) (place : ℕ) (offer found : Option (List ℕ)) → IfSome told (λ offered. slice_get (offered cid) place ≡ Some offer) → found ≡ matching cid offer
+    → IfSome told (λ offered. option_map (matching cid) (slice_get (offered cid) place) ≡ Some found)
+match_found None cid place offer found at is = tt
+match_found (Some offered) cid place offer found at is = ap (option_map (matching cid)) at ∙ ap (λ (m : Option (List ℕ)). Some m) (sym is)
+
+-- of a refusal nothing is said
+pub none_said : (told : Option Offered) → IfSome told (λ offered. ⊤)
+none_said None = tt
+none_said (Some offered) = tt

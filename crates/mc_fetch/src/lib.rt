@@ -20,6 +20,3 @@ pub use laws::{peers_offer_in_order, plants_replace};
 pub use naming::Naming;
 pub use peers::{PeerFetch, PeerView};
 pub use plants::{Planted, Plants};
-
-#[cfg(test)]
-mod tests;

@@ -1,29 +1,18 @@
 // Blocks and damages by vectors that were computed outside.
+use crate::texts::bytes_of;
 use mc_base::{Bytes, Cid, List, Text};
 use mc_block::{BlockError, Damage, read_block, write_block};
 use mc_dagpb::{NodeFault, NodeFaultKind};
 use mc_delta::{DeltaFault, DeltaFaultKind};
-use mc_model::{Delta, Element, id_of};
+use mc_model::{Block, Delta, Element, id_of};
 use mc_wire::WireFault;
-use std::alloc::{AllocError, AllocFailed, Global};
+use std::alloc::{AllocError, Global};
 use std::test::Fail;
 
-// The 36 bytes of the empty block's identifier.
-const EMPTY: [u8; 36] = [
-    0x01, 0x70, 0x12, 0x20, 0xe3, 0xb0, 0xc4, 0x42, 0x98, 0xfc, 0x1c, 0x14, 0x9a, 0xfb, 0xf4, 0xc8,
-    0x99, 0x6f, 0xb9, 0x24, 0x27, 0xae, 0x41, 0xe4, 0x64, 0x9b, 0x93, 0x4c, 0xa4, 0x95, 0x99, 0x1b,
-    0x78, 0x52, 0xb8, 0x55,
-];
-
 // The block of a first put of the byte 01 at /a, and its SHA-256.
-const PUT: [u8; 13] = [
-    0x0a, 0x0b, 0x0a, 0x07, 0x0a, 0x02, 0x2f, 0x61, 0x1a, 0x01, 0x01, 0x18, 0x01,
-];
+const PUT: &str = "0a0b0a070a022f611a01011801";
 
-const PUT_DIGEST: [u8; 32] = [
-    0xf6, 0x5f, 0xfe, 0x16, 0x44, 0x0b, 0x1a, 0x31, 0xe8, 0x60, 0xea, 0xc9, 0x6a, 0x08, 0x3b, 0xc5,
-    0xd3, 0x9c, 0xf3, 0xbe, 0x77, 0x92, 0x05, 0x01, 0x76, 0xb9, 0x92, 0xfd, 0x09, 0x42, 0xc0, 0xc2,
-];
+const PUT_DIGEST: &str = "f65ffe16440b1a31e860eac96a083bc5d39cf3be7792050176b992fd0942c0c2";
 
 fn node_damage(kind: NodeFaultKind) -> Damage {
     Damage::NotDagPb {
@@ -50,138 +39,109 @@ fn damage(alloc: Global, cid: &Cid, bytes: &[u8]) -> Result<Option<Damage>, Allo
     }
 }
 
+// The same under their own identifier.
+fn own_damage(alloc: Global, text: &str) -> Result<Option<Damage>, Fail> {
+    let bytes = bytes_of(alloc, text)?;
+    Ok(damage(alloc, &Cid::of(bytes.as_slice()), bytes.as_slice())?)
+}
+
 #[test]
 fn damages_are_the_first_by_the_vectors(rt: HostRuntime) -> Result<(), Fail> {
-    let rows: [(&[u8], Damage, u8); 9] = [
-        (b"abc", node_damage(NodeFaultKind::BadField), 3),
-        (&[0x80; 10], node_damage(NodeFaultKind::LongVarint), 3),
-        (&[0x0a, 0xff, 0x7f], node_damage(NodeFaultKind::Short), 3),
+    let rows = [
+        ("616263", node_damage(NodeFaultKind::BadField), 3),
         (
-            &[0x12, 0x03, 0x0a, 0x01, 0x00],
-            Damage::BadLink { index: 0 },
-            4,
+            "80808080808080808080",
+            node_damage(NodeFaultKind::LongVarint),
+            3,
         ),
-        (&[0x12, 0x02, 0x0a, 0x00], Damage::BadLink { index: 0 }, 4),
+        ("0aff7f", node_damage(NodeFaultKind::Short), 3),
+        ("12030a0100", Damage::BadLink { index: 0 }, 4),
+        ("12020a00", Damage::BadLink { index: 0 }, 4),
+        ("1226 H 12020a00", Damage::BadLink { index: 1 }, 4),
+        ("0a011b", delta_damage(wire(WireFault::WireType), 0), 5),
+        ("0a021b00", delta_damage(wire(WireFault::WireType), 0), 5),
         (
-            &[0x0a, 0x01, 0x1b],
-            delta_damage(wire(WireFault::WireType), 0),
-            5,
-        ),
-        (
-            &[0x0a, 0x02, 0x1b, 0x00],
-            delta_damage(wire(WireFault::WireType), 0),
-            5,
-        ),
-        (
-            &[0x0a, 0x05, 0x0a, 0x03, 0x0a, 0x01, 0xff],
+            "0a050a030a01ff",
             delta_damage(DeltaFaultKind::TextFault, 2),
             5,
         ),
         (
-            &[
-                0x0a, 0x0b, 0x18, 0xff, 0xff, 0xff, 0xff, 0xff, 0xff, 0xff, 0xff, 0xff, 0xff,
-            ],
+            "0a0b18ffffffffffffffffffff",
             delta_damage(wire(WireFault::LongVarint), 0),
             5,
         ),
     ];
-    for (bytes, want, number) in rows {
-        assert_eq!(rt; damage(rt.alloc(), &Cid::of(bytes), bytes)?, Some(want));
-        assert_eq!(rt; want.number(), number);
+    for (text, want, number) in rows {
+        assert!(rt; own_damage(rt.alloc(), text)? == Some(want), "{text}");
+        assert!(rt; want.number() == number, "{text}");
     }
     Ok(())
 }
 
 #[test]
 fn size_and_digest_are_looked_at_first(rt: HostRuntime) -> Result<(), Fail> {
+    let alloc = rt.alloc();
     let empty = Cid::of(&[]);
     let found = Cid::of(&[0]);
     let wrong = Damage::WrongDigest { found };
-    assert_eq!(rt; damage(rt.alloc(), &empty, &[0])?, Some(wrong));
-    assert_eq!(rt; wrong.number(), 2);
-    let zeros = vec![in rt.alloc(); 0_u8; 1_048_577]?;
+    assert!(rt; damage(alloc, &empty, &[0])? == Some(wrong) && wrong.number() == 2);
+    let zeros = vec![in alloc; 0_u8; 1_048_577]?;
+    let all = zeros.as_slice();
     let large = Damage::TooLarge { len: 1_048_577 };
-    let cid = Cid::of(zeros.as_slice());
-    assert_eq!(rt; damage(rt.alloc(), &cid, zeros.as_slice())?, Some(large));
-    assert_eq!(rt; damage(rt.alloc(), &empty, zeros.as_slice())?, Some(large));
-    assert_eq!(rt; large.number(), 1);
-    let most = &zeros.as_slice()[1..];
+    assert!(rt; damage(alloc, &Cid::of(all), all)? == Some(large) && large.number() == 1);
+    assert!(rt; damage(alloc, &empty, all)? == Some(large));
+    let most = &all[1..];
     let zero = node_damage(NodeFaultKind::BadField);
-    assert_eq!(rt; damage(rt.alloc(), &Cid::of(most), most)?, Some(zero));
+    assert!(rt; damage(alloc, &Cid::of(most), most)? == Some(zero));
     Ok(())
 }
 
-// A good block by the number of its links and its priority.
-#[derive(Drop)]
-struct Row<'a> {
-    bytes: &'a [u8],
-    links: usize,
-    priority: u64,
+// Whether a block without elements and tombstones has so many links, each to the empty block, and this priority.
+fn is_bare(block: &Block, links: usize, priority: u64) -> bool {
+    for link in block.links.as_slice() {
+        if *link != Cid::of(&[]) {
+            return false;
+        }
+    }
+    block.links.len() == links
+        && block.delta.elements.len() == 0
+        && block.delta.tombstones.len() == 0
+        && block.delta.priority == priority
+}
+
+fn is_read(alloc: Global, text: &str, links: usize, priority: u64) -> Result<bool, Fail> {
+    let bytes = bytes_of(alloc, text)?;
+    let cid = Cid::of(bytes.as_slice());
+    match read_block(alloc, &cid, bytes.as_slice()) {
+        Ok(block) => Ok(block.cid == cid && is_bare(&block, links, priority)),
+        Err(_) => Ok(false),
+    }
 }
 
 #[test]
 fn blocks_without_elements_are_read(rt: HostRuntime) -> Result<(), Fail> {
-    let mut twice = Bytes::new(rt.alloc());
-    for _ in 0..2 {
-        twice.extend_from_slice(&[0x12, 0x26, 0x0a, 0x24])?;
-        twice.extend_from_slice(&EMPTY)?;
-    }
+    // the block, the number of its links, and its priority
     let rows = [
-        Row {
-            bytes: &[],
-            links: 0,
-            priority: 0,
-        },
-        Row {
-            bytes: &[0x0a, 0x00],
-            links: 0,
-            priority: 0,
-        },
-        Row {
-            bytes: &[0x0a, 0x04, 0x28, 0x07, 0x18, 0x02],
-            links: 0,
-            priority: 2,
-        },
-        Row {
-            bytes: twice.as_slice(),
-            links: 2,
-            priority: 0,
-        },
+        ("", 0, 0),
+        ("0a00", 0, 0),
+        ("0a0428071802", 0, 2),
+        ("1226 H 1226 H", 2, 0),
     ];
-    for row in &rows {
-        let cid = Cid::of(row.bytes);
-        let Ok(block) = read_block(rt.alloc(), &cid, row.bytes) else {
-            return Err(Fail::new("a block is read"));
-        };
-        assert_eq!(rt; block.cid, cid);
-        assert_eq!(rt; block.links.len(), row.links);
-        for link in block.links.as_slice() {
-            assert_eq!(rt; *link, Cid::of(&[]));
-        }
-        assert_eq!(rt; block.delta.elements.len(), 0);
-        assert_eq!(rt; block.delta.tombstones.len(), 0);
-        assert_eq!(rt; block.delta.priority, row.priority);
+    for (text, links, priority) in rows {
+        assert!(rt; is_read(rt.alloc(), text, links, priority)?, "{text}");
     }
     Ok(())
 }
 
-#[test]
-fn the_second_bad_link_has_index_1(rt: HostRuntime) -> Result<(), Fail> {
-    let mut bytes = Bytes::new(rt.alloc());
-    bytes.extend_from_slice(&[0x12, 0x26, 0x0a, 0x24])?;
-    bytes.extend_from_slice(&EMPTY)?;
-    bytes.extend_from_slice(&[0x12, 0x02, 0x0a, 0x00])?;
-    let cid = Cid::of(bytes.as_slice());
-    let want = Damage::BadLink { index: 1 };
-    assert_eq!(rt; damage(rt.alloc(), &cid, bytes.as_slice())?, Some(want));
-    Ok(())
+fn element(alloc: Global) -> Result<Element, AllocError> {
+    let key = Text::from_text(alloc, "/a")?;
+    let value = Bytes::from_slice(alloc, &[1])?;
+    Ok(Element { key, value })
 }
 
 fn put(alloc: Global) -> Result<Delta, AllocError> {
     let mut elements = List::new(alloc);
-    let key = Text::from_text(alloc, "/a")?;
-    let value = Bytes::from_slice(alloc, &[1])?;
-    elements.push(Element { key, value })?;
+    elements.push(element(alloc)?)?;
     Ok(Delta {
         elements,
         tombstones: List::new(alloc),
@@ -189,27 +149,35 @@ fn put(alloc: Global) -> Result<Delta, AllocError> {
     })
 }
 
+// Whether a block is read with these links, and written as the same again.
+fn is_read_back(alloc: Global, cid: &Cid, bytes: &[u8], links: &[Cid]) -> Result<bool, Fail> {
+    match read_block(alloc, cid, bytes) {
+        Ok(block) => {
+            let again = write_block(alloc, block.links.as_slice(), &block.delta)?;
+            Ok(
+                block.links.as_slice() == links
+                    && block.delta.priority == 1
+                    && again.cid == *cid
+                    && again.bytes.as_slice() == bytes,
+            )
+        }
+        Err(_) => Ok(false),
+    }
+}
+
 #[test]
 fn a_put_is_made_and_read_back(rt: HostRuntime) -> Result<(), Fail> {
+    let alloc = rt.alloc();
     let empty = Cid::of(&[]);
-    let id = id_of(rt.alloc(), &empty)?;
-    assert_eq!(rt;
-        id.as_str(),
-        "/CIQOHMGEIKMPYHAUTL57JSEZN64SIJ5OIHSGJG4TJSSJLGI3PBJLQVI"
-    );
-    let delta = put(rt.alloc())?;
-    let first = write_block(rt.alloc(), &[], &delta)?;
-    assert_eq!(rt; first.bytes.as_slice(), PUT.as_slice());
-    assert_eq!(rt; first.cid, Cid(PUT_DIGEST));
-    let next = write_block(rt.alloc(), &[first.cid, empty], &delta)?;
-    assert_eq!(rt; next.bytes.len(), 101);
-    let Ok(block) = read_block(rt.alloc(), &next.cid, next.bytes.as_slice()) else {
-        return Err(Fail::new("a made block is read"));
-    };
-    assert_eq!(rt; block.links.as_slice(), [first.cid, empty].as_slice());
-    assert_eq!(rt; block.delta.priority, 1);
-    let again = write_block(rt.alloc(), block.links.as_slice(), &block.delta)?;
-    assert_eq!(rt; again.cid, next.cid);
-    assert_eq!(rt; again.bytes.as_slice(), next.bytes.as_slice());
+    let id = id_of(alloc, &empty)?;
+    assert!(rt; id.as_str() == "/CIQOHMGEIKMPYHAUTL57JSEZN64SIJ5OIHSGJG4TJSSJLGI3PBJLQVI");
+    let delta = put(alloc)?;
+    let first = write_block(alloc, &[], &delta)?;
+    assert!(rt; first.bytes.as_slice() == bytes_of(alloc, PUT)?.as_slice());
+    assert!(rt; first.cid.0.as_slice() == bytes_of(alloc, PUT_DIGEST)?.as_slice());
+    let links = [first.cid, empty];
+    let next = write_block(alloc, &links, &delta)?;
+    assert!(rt; next.bytes.len() == 101);
+    assert!(rt; is_read_back(alloc, &next.cid, next.bytes.as_slice(), &links)?);
     Ok(())
 }

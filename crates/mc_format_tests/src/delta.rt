@@ -1,199 +1,149 @@
 // Deltas by the vectors of the format.
+use crate::texts::bytes_of;
 use mc_base::{Bytes, List, Text};
 use mc_delta::{DeltaError, DeltaFault, DeltaFaultKind, len_delta, read_delta, write_delta};
 use mc_model::{Delta, Element, Tomb};
 use mc_wire::WireFault;
+use std::alloc::{AllocError, Global};
 use std::test::Fail;
 
-// A delta of at most one element (its key and value) and one tombstone (its key and id).
-#[derive(Drop)]
-struct Row<'a> {
-    bytes: &'a [u8],
-    element: Option<(&'a str, &'a [u8])>,
-    tomb: Option<(&'a str, &'a str)>,
-    priority: u64,
+// What a delta says: its one element by key and value, its one tombstone by key and id, and its priority.
+type Said<'a> = (Option<(&'a str, &'a [u8])>, Option<(&'a str, &'a str)>, u64);
+
+fn has_element(elements: &[Element], wanted: Option<(&str, &[u8])>) -> bool {
+    match (elements, wanted) {
+        ([element], Some((key, value))) => {
+            element.key.as_str() == key && element.value.as_slice() == value
+        }
+        ([], None) => true,
+        _ => false,
+    }
+}
+
+fn has_tomb(tombs: &[Tomb], wanted: Option<(&str, &str)>) -> bool {
+    match (tombs, wanted) {
+        ([tomb], Some((key, id))) => tomb.key.as_str() == key && tomb.id.as_str() == id,
+        ([], None) => true,
+        _ => false,
+    }
+}
+
+fn says(delta: &Delta, said: Said<'_>) -> bool {
+    let (element, tomb, priority) = said;
+    has_element(delta.elements.as_slice(), element)
+        && has_tomb(delta.tombstones.as_slice(), tomb)
+        && delta.priority == priority
+}
+
+fn is_read(alloc: Global, text: &str, said: Said<'_>) -> Result<bool, Fail> {
+    let bytes = bytes_of(alloc, text)?;
+    match read_delta(alloc, bytes.as_slice()) {
+        Ok(delta) => Ok(says(&delta, said)),
+        Err(_) => Ok(false),
+    }
 }
 
 #[test]
 fn deltas_are_read_by_the_vectors(rt: HostRuntime) -> Result<(), Fail> {
-    let rows = [
-        Row {
-            bytes: &[],
-            element: None,
-            tomb: None,
-            priority: 0,
-        },
-        Row {
-            bytes: &[
-                0x0a, 0x07, 0x0a, 0x02, 0x2f, 0x61, 0x1a, 0x01, 0x01, 0x18, 0x01,
-            ],
-            element: Some(("/a", &[1])),
-            tomb: None,
-            priority: 1,
-        },
-        Row {
-            bytes: &[0x18, 0x01, 0x18, 0x02],
-            element: None,
-            tomb: None,
-            priority: 2,
-        },
-        Row {
-            bytes: &[0x28, 0x07, 0x18, 0x02],
-            element: None,
-            tomb: None,
-            priority: 2,
-        },
-        Row {
-            bytes: &[0x08, 0x01],
-            element: None,
-            tomb: None,
-            priority: 0,
-        },
-        Row {
-            bytes: &[
-                0x18, 0x05, 0x12, 0x09, 0x0a, 0x01, 0x61, 0x12, 0x01, 0x62, 0x0a, 0x01, 0x63,
-            ],
-            element: None,
-            tomb: Some(("c", "b")),
-            priority: 5,
-        },
-        Row {
-            bytes: &[
-                0x0a, 0x0b, 0x1a, 0x01, 0x01, 0x1a, 0x01, 0x02, 0x12, 0x01, 0x78, 0x28, 0x00,
-            ],
-            element: Some(("", &[2])),
-            tomb: None,
-            priority: 0,
-        },
+    let rows: [(&str, Said<'static>); 7] = [
+        ("", (None, None, 0)),
+        ("0a070a022f611a01011801", (Some(("/a", b"\x01")), None, 1)),
+        ("18011802", (None, None, 2)),
+        ("28071802", (None, None, 2)),
+        ("0801", (None, None, 0)),
+        ("180512090a01611201620a0163", (None, Some(("c", "b")), 5)),
+        ("0a0b1a01011a01021201782800", (Some(("", b"\x02")), None, 0)),
     ];
-    for row in &rows {
-        let Ok(delta) = read_delta(rt.alloc(), row.bytes) else {
-            return Err(Fail::new("a delta is read"));
-        };
-        assert_eq!(rt; delta.priority, row.priority);
-        match (delta.elements.as_slice(), row.element) {
-            ([element], Some((key, value))) => {
-                assert_eq!(rt; element.key.as_str(), key);
-                assert_eq!(rt; element.value.as_slice(), value);
-            }
-            ([], None) => {}
-            _ => return Err(Fail::new("an element stands or doesn't")),
-        }
-        match (delta.tombstones.as_slice(), row.tomb) {
-            ([tomb], Some((key, id))) => {
-                assert_eq!(rt; tomb.key.as_str(), key);
-                assert_eq!(rt; tomb.id.as_str(), id);
-            }
-            ([], None) => {}
-            _ => return Err(Fail::new("a tombstone stands or doesn't")),
-        }
+    for (text, said) in rows {
+        assert!(rt; is_read(rt.alloc(), text, said)?, "{text}");
     }
     Ok(())
 }
 
-#[derive(Drop)]
-struct BadRow<'a> {
-    bytes: &'a [u8],
-    kind: DeltaFaultKind,
-    at: usize,
+fn fault_of(alloc: Global, text: &str) -> Result<Option<DeltaFault>, Fail> {
+    let bytes = bytes_of(alloc, text)?;
+    match read_delta(alloc, bytes.as_slice()) {
+        Err(DeltaError::Fault(fault)) => Ok(Some(fault)),
+        _ => Ok(None),
+    }
+}
+
+fn wire(fault: WireFault) -> DeltaFaultKind {
+    DeltaFaultKind::Wire { fault }
 }
 
 #[test]
 fn faults_are_the_first_by_the_vectors(rt: HostRuntime) -> Result<(), Fail> {
-    let long = [
-        0x18, 0xff, 0xff, 0xff, 0xff, 0xff, 0xff, 0xff, 0xff, 0xff, 0xff,
-    ];
     let rows = [
-        BadRow {
-            bytes: &[0x0a, 0x03, 0x0a, 0x01, 0xff],
-            kind: DeltaFaultKind::TextFault,
-            at: 2,
-        },
-        BadRow {
-            bytes: &[0x1b],
-            kind: DeltaFaultKind::Wire {
-                fault: WireFault::WireType,
-            },
-            at: 0,
-        },
-        BadRow {
-            bytes: &[0x1b, 0x00],
-            kind: DeltaFaultKind::Wire {
-                fault: WireFault::WireType,
-            },
-            at: 0,
-        },
-        BadRow {
-            bytes: &[0x00],
-            kind: DeltaFaultKind::Wire {
-                fault: WireFault::FieldZero,
-            },
-            at: 0,
-        },
-        BadRow {
-            bytes: &[0x18],
-            kind: DeltaFaultKind::Wire {
-                fault: WireFault::Short,
-            },
-            at: 0,
-        },
-        BadRow {
-            bytes: &long,
-            kind: DeltaFaultKind::Wire {
-                fault: WireFault::LongVarint,
-            },
-            at: 0,
-        },
-        BadRow {
-            bytes: &[0x18, 0x01, 0x12, 0x02, 0x12, 0x05, 0x18],
-            kind: DeltaFaultKind::Wire {
-                fault: WireFault::Short,
-            },
-            at: 4,
-        },
+        ("0a030a01ff", DeltaFaultKind::TextFault, 2),
+        ("1b", wire(WireFault::WireType), 0),
+        ("1b00", wire(WireFault::WireType), 0),
+        ("00", wire(WireFault::FieldZero), 0),
+        ("18", wire(WireFault::Short), 0),
+        ("18ffffffffffffffffffff", wire(WireFault::LongVarint), 0),
+        ("18011202120518", wire(WireFault::Short), 4),
     ];
-    for row in &rows {
-        let fault = DeltaFault {
-            kind: row.kind,
-            at: row.at,
-        };
-        match read_delta(rt.alloc(), row.bytes) {
-            Err(error) => assert_eq!(rt; error, DeltaError::Fault(fault)),
-            Ok(_) => return Err(Fail::new("a fault is found")),
-        }
+    for (text, kind, at) in rows {
+        let found = fault_of(rt.alloc(), text)?;
+        assert!(rt; found == Some(DeltaFault { kind, at }), "{text}");
     }
     Ok(())
 }
 
+fn push_element(
+    alloc: Global,
+    elements: &mut List<Element>,
+    number: u64,
+) -> Result<(), AllocError> {
+    let key = Text::from_string(format!(in alloc; "/k/{number}")?);
+    let value = Bytes::from_slice(alloc, &number.to_be_bytes())?;
+    elements.push(Element { key, value })?;
+    Ok(())
+}
+
+fn one_tomb(alloc: Global, key: &str, id: &str) -> Result<List<Tomb>, AllocError> {
+    let key = Text::from_text(alloc, key)?;
+    let id = Text::from_text(alloc, id)?;
+    let mut tombs = List::new(alloc);
+    tombs.push(Tomb { key, id })?;
+    Ok(tombs)
+}
+
+// A delta of so many elements and one tombstone.
+fn long_delta(alloc: Global, count: u64) -> Result<Delta, AllocError> {
+    let mut elements = List::new(alloc);
+    for number in 0..count {
+        push_element(alloc, &mut elements, number)?;
+    }
+    Ok(Delta {
+        elements,
+        tombstones: one_tomb(alloc, "/k", "/ID")?,
+        priority: 300,
+    })
+}
+
+// Whether a text is read as a delta of so many elements, which is written as this text again.
+fn is_read_back(alloc: Global, written: &[u8], count: usize) -> Result<bool, Fail> {
+    match read_delta(alloc, written) {
+        Ok(delta) => Ok(
+            delta.elements.len() == count
+                && delta.priority == 300
+                && write_delta(alloc, &delta)?.as_slice() == written,
+        ),
+        Err(_) => Ok(false),
+    }
+}
+
 #[test]
 fn a_delta_of_ten_thousand_elements_is_read_back(rt: HostRuntime) -> Result<(), Fail> {
-    let mut elements = List::new(rt.alloc());
-    for number in 0..10_000_u64 {
-        let key = Text::from_string(format!(in rt.alloc(); "/k/{number}")?);
-        let value = Bytes::from_slice(rt.alloc(), &number.to_be_bytes())?;
-        elements.push(Element { key, value })?;
-    }
-    let mut tombstones = List::new(rt.alloc());
-    let key = Text::from_text(rt.alloc(), "/k")?;
-    let id = Text::from_text(rt.alloc(), "/ID")?;
-    tombstones.push(Tomb { key, id })?;
-    let delta = Delta {
-        elements,
-        tombstones,
-        priority: 300,
-    };
-    let written = write_delta(rt.alloc(), &delta)?;
-    assert_eq!(rt; written.len() as u64, len_delta(&delta));
-    let tail = [
-        0x12, 0x09, 0x0a, 0x02, 0x2f, 0x6b, 0x12, 0x03, 0x2f, 0x49, 0x44, 0x18, 0xac, 0x02,
-    ];
-    assert_eq!(rt; written.as_slice().ends_with(&tail), true);
-    let Ok(read) = read_delta(rt.alloc(), written.as_slice()) else {
-        return Err(Fail::new("a written delta is read"));
-    };
-    assert_eq!(rt; read.elements.len(), 10_000);
-    assert_eq!(rt; read.priority, 300);
-    let again = write_delta(rt.alloc(), &read)?;
-    assert_eq!(rt; again.as_slice(), written.as_slice());
+    let alloc = rt.alloc();
+    let delta = long_delta(alloc, 10_000)?;
+    let length = len_delta(&delta);
+    let written = write_delta(alloc, &delta)?;
+    let bytes = written.as_slice();
+    assert!(rt; bytes.len() as u64 == length);
+    let tail = bytes_of(alloc, "12090a022f6b12032f494418ac02")?;
+    assert!(rt; bytes.ends_with(tail.as_slice()));
+    assert!(rt; is_read_back(alloc, bytes, 10_000)?);
     Ok(())
 }

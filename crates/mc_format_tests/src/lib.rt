@@ -23,4 +23,6 @@ mod key;
 #[cfg(test)]
 mod script;
 #[cfg(test)]
+mod texts;
+#[cfg(test)]
 mod wire;

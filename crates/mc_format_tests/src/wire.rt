@@ -1,148 +1,89 @@
 // Fields and faults, by the Protocol Buffers encoding.
+use crate::texts::bytes_of;
 use mc_base::Bytes;
 use mc_wire::{
     Content, Field, WireFault, WireFaultAt, next_field, put_part_field, put_varint_field,
     varint_len,
 };
+use std::alloc::Global;
 use std::test::Fail;
 
-#[derive(Drop)]
-struct Row<'a> {
-    bytes: &'a [u8],
+// What stands at a place of these bytes.
+fn answer_at(
+    alloc: Global,
+    text: &str,
     at: usize,
-    answer: Result<Option<Field>, WireFaultAt>,
-}
-
-fn field(number: u64, content: Content, next: usize) -> Result<Option<Field>, WireFaultAt> {
-    Ok(Some(Field {
-        number,
-        content,
-        next,
-    }))
-}
-
-fn fault(kind: WireFault, at: usize) -> Result<Option<Field>, WireFaultAt> {
-    Err(WireFaultAt { kind, at })
+) -> Result<Result<Option<Field>, WireFaultAt>, Fail> {
+    let bytes = bytes_of(alloc, text)?;
+    if at > bytes.len() {
+        return Err(Fail::new("a place past the end"));
+    }
+    Ok(next_field(bytes.as_slice(), at))
 }
 
 #[test]
 fn fields_are_read_by_the_table(rt: HostRuntime) -> Result<(), Fail> {
-    let high = [0x80; 10];
-    let greatest = [
-        0x08, 0xff, 0xff, 0xff, 0xff, 0xff, 0xff, 0xff, 0xff, 0xff, 0x01,
-    ];
-    let too_great = [
-        0x08, 0xff, 0xff, 0xff, 0xff, 0xff, 0xff, 0xff, 0xff, 0xff, 0x02,
-    ];
-    let long_part = [
-        0x0a, 0xff, 0xff, 0xff, 0xff, 0xff, 0xff, 0xff, 0xff, 0xff, 0x01,
-    ];
+    // the bytes, the place, and the number, the content and the end of the field there
     let rows = [
-        Row {
-            bytes: &[],
-            at: 0,
-            answer: Ok(None),
-        },
-        Row {
-            bytes: &[0x08, 0x01],
-            at: 2,
-            answer: Ok(None),
-        },
-        Row {
-            bytes: &[0x08, 0xac, 0x02],
-            at: 0,
-            answer: field(1, Content::Varint(300), 3),
-        },
-        Row {
-            bytes: &[0x88, 0x00, 0x81, 0x00],
-            at: 0,
-            answer: field(1, Content::Varint(1), 4),
-        },
-        Row {
-            bytes: &greatest,
-            at: 0,
-            answer: field(1, Content::Varint(u64::MAX), 11),
-        },
-        Row {
-            bytes: &too_great,
-            at: 0,
-            answer: fault(WireFault::LongVarint, 0),
-        },
-        Row {
-            bytes: &[0x11, 1, 2, 3, 4, 5, 6, 7, 8],
-            at: 0,
-            answer: field(2, Content::Fixed64 { from: 1 }, 9),
-        },
-        Row {
-            bytes: &[0x08, 0x00, 0x1a, 0x02, 0x61, 0x62],
-            at: 2,
-            answer: field(3, Content::Part { from: 4, to: 6 }, 6),
-        },
-        Row {
-            bytes: &[0x25, 1, 2, 3, 4],
-            at: 0,
-            answer: field(4, Content::Fixed32 { from: 1 }, 5),
-        },
-        Row {
-            bytes: &[0x25, 1, 2, 3],
-            at: 0,
-            answer: fault(WireFault::Short, 0),
-        },
-        Row {
-            bytes: &[0x11, 1, 2, 3, 4, 5, 6, 7],
-            at: 0,
-            answer: fault(WireFault::Short, 0),
-        },
-        Row {
-            bytes: &[0x08, 0x00, 0x0a, 0x05],
-            at: 2,
-            answer: fault(WireFault::Short, 2),
-        },
-        Row {
-            bytes: &long_part,
-            at: 0,
-            answer: fault(WireFault::Short, 0),
-        },
-        Row {
-            bytes: &high,
-            at: 0,
-            answer: fault(WireFault::LongVarint, 0),
-        },
-        Row {
-            bytes: &high[1..],
-            at: 0,
-            answer: fault(WireFault::Short, 0),
-        },
-        Row {
-            bytes: &[0x1b],
-            at: 0,
-            answer: fault(WireFault::WireType, 0),
-        },
-        Row {
-            bytes: &[0x03],
-            at: 0,
-            answer: fault(WireFault::FieldZero, 0),
-        },
+        ("08ac02", 0, 1, Content::Varint(300), 3),
+        ("88008100", 0, 1, Content::Varint(1), 4),
+        (
+            "08ffffffffffffffffff01",
+            0,
+            1,
+            Content::Varint(u64::MAX),
+            11,
+        ),
+        ("110102030405060708", 0, 2, Content::Fixed64 { from: 1 }, 9),
+        ("08001a026162", 2, 3, Content::Part { from: 4, to: 6 }, 6),
+        ("2501020304", 0, 4, Content::Fixed32 { from: 1 }, 5),
     ];
-    for row in &rows {
-        if row.at <= row.bytes.len() {
-            assert_eq!(rt; next_field(row.bytes, row.at), row.answer);
-        }
+    for (text, at, number, content, next) in rows {
+        let field = Field {
+            number,
+            content,
+            next,
+        };
+        assert!(rt;
+            answer_at(rt.alloc(), text, at)? == Ok(Some(field)),
+            "{text}"
+        );
+    }
+    for (text, at) in [("", 0), ("0801", 2)] {
+        assert!(rt; answer_at(rt.alloc(), text, at)? == Ok(None), "{text}");
+    }
+    Ok(())
+}
+
+#[test]
+fn faults_are_found_by_the_table(rt: HostRuntime) -> Result<(), Fail> {
+    let rows = [
+        ("08ffffffffffffffffff02", 0, WireFault::LongVarint),
+        ("25010203", 0, WireFault::Short),
+        ("1101020304050607", 0, WireFault::Short),
+        ("08000a05", 2, WireFault::Short),
+        ("0affffffffffffffffff01", 0, WireFault::Short),
+        ("80808080808080808080", 0, WireFault::LongVarint),
+        ("808080808080808080", 0, WireFault::Short),
+        ("1b", 0, WireFault::WireType),
+        ("03", 0, WireFault::FieldZero),
+    ];
+    for (text, at, kind) in rows {
+        let fault = WireFaultAt { kind, at };
+        assert!(rt; answer_at(rt.alloc(), text, at)? == Err(fault), "{text}");
     }
     Ok(())
 }
 
 #[test]
 fn fields_are_written_in_as_few_bytes_as_they_need(rt: HostRuntime) -> Result<(), Fail> {
-    let mut out = Bytes::new(rt.alloc());
+    let alloc = rt.alloc();
+    let mut out = Bytes::new(alloc);
     put_varint_field(&mut out, 3, 300)?;
     put_part_field(&mut out, 15, &[0x61, 0x62])?;
     put_varint_field(&mut out, 1, u64::MAX)?;
-    let written = [
-        0x18, 0xac, 0x02, 0x7a, 0x02, 0x61, 0x62, 0x08, 0xff, 0xff, 0xff, 0xff, 0xff, 0xff, 0xff,
-        0xff, 0xff, 0x01,
-    ];
-    assert_eq!(rt; out.as_slice(), written.as_slice());
+    let written = bytes_of(alloc, "18ac02 7a026162 08ffffffffffffffffff01")?;
+    assert!(rt; out.as_slice() == written.as_slice());
     for (value, len) in [
         (0, 1),
         (127, 1),
@@ -151,7 +92,7 @@ fn fields_are_written_in_as_few_bytes_as_they_need(rt: HostRuntime) -> Result<()
         (16384, 3),
         (u64::MAX, 10),
     ] {
-        assert_eq!(rt; varint_len(value), len);
+        assert!(rt; varint_len(value) == len, "{value}");
     }
     Ok(())
 }

@@ -1,12 +1,4 @@
-pub mod Chains
-pub mod Fits
-pub mod Front
-pub mod Graph
-pub mod Listed
-pub mod Plan
-pub mod Tombs
-pub mod Values
-pub mod Faults
 pub mod Desks
-pub mod Holder
-pub mod Places
+pub mod Faults
+pub mod Plan
+pub use Rattle.mc_tables.specs.Fits

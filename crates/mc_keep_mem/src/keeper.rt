@@ -1,14 +1,14 @@
 // The keeper in memory.
 ghost use Rattle.std.specs.Prelude.{◌≡◌, true, false, [], Some, None, IfOk};
 ghost use Rattle.mc_model.specs.Kept.{nothing_kept};
-ghost use Rattle.mc_keep_mem.specs.Fits.{kept_in};
+ghost use Rattle.mc_tables.specs.Fits.{kept_in};
 ghost use Rattle.mc_keep_mem.specs.Plan.{plans_nothing, is_nothing, planned, desk_schedule_of};
 ghost use Rattle.mc_keep_mem.specs.Faults.{fails_never, schedule_of};
 
 use crate::plan::{FaultPlan, Faults, MemDesk};
-use crate::store::Store;
 use mc_base::{Bytes, Cid, Counted, Failed, List, Text};
 use mc_keep::{Changes, ElementRow, HeadRow, KeepError, Keeper, RankedValue, Summary, ValueRow};
+use mc_tables::Store;
 use std::alloc::{AllocError, Global};
 use std::hash::{BuildHasher, BuildHasherDefault, FoldHasher};
 use std::sync::Wait;

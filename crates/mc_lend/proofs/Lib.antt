@@ -1,1 +1,2 @@
 mod LendFacts
+pub mod Firsts

@@ -18,8 +18,8 @@ use Rattle.mc_keep.specs.Causes.{Kind, Refusal, Fault, Shortage, is_fault_kind}
 use Rattle.mc_keep.specs.Plan.{Schedule}
 use Rattle.mc_keep.proofs.Processed.{blocks_still}
 use Rattle.mc_queue.specs.Views.{shown as shown_queue}
-use Rattle.mc_core.specs.declared.error.CoreError.{CoreError}
-use Rattle.mc_core.specs.declared.error.CoreError.TheVariants.{Stopped, Memory}
+use Rattle.mc_core.specs.declared.CoreError.{CoreError}
+use Rattle.mc_core.specs.declared.CoreError.TheVariants.{Stopped, Memory}
 use Rattle.mc_core.specs.declared.replica.Replica.{Replica}
 use Rattle.mc_core.specs.Calls.{Begins, Call, Faults, IsRefused, Stays}
 use Rattle.mc_core.specs.Counted.{capped, run_of}

@@ -3,7 +3,7 @@ use Rattle.std.proofs.Common.{◌≡◌, ◌≤◌, ◌<◌, ◌+◌, ℕ, zero,
 use Rattle.std.proofs.lemmas.List.{map-append}
 use Rattle.mc_base.specs.Told.{Told}
 use Rattle.mc_turn.specs.Lists.{times}
-use Rattle.mc_node.specs.Interleavings.{InTurn}
+use Rattle.mc_storm.specs.Interleavings.{InTurn}
 use Rattle.mc_node.specs.Tooks.{Each, Took, made_places, next_of, width}
 use Rattle.mc_node.proofs.Spread.{AddsAlone, addings, adding_one, each_filter, is_still, is_still_at, spread, spread_end, stills}
 

@@ -10,9 +10,9 @@ use Rattle.mc_turn.specs.declared.view.View.{View}
 use Rattle.mc_turn.specs.Lists.{Begins, places, total}
 use Rattle.mc_turn.specs.Views.{joined_view, left_view}
 use Rattle.mc_turn.proofs.Lists.{begins_length, begins_self, begins_trans}
-use Rattle.mc_node.specs.declared.storming.Stormed.{Stormed}
+use Rattle.mc_storm.specs.declared.outcome.Stormed.{Stormed}
 use Rattle.mc_node.specs.Gathers.{Joined}
-use Rattle.mc_node.specs.Interleavings.{StormCall}
+use Rattle.mc_storm.specs.Interleavings.{StormCall}
 use Rattle.mc_node.specs.Items.{Item}
 use Rattle.mc_node.specs.Tooks.{Took}
 use Rattle.mc_node.specs.Writers.{HasWritten, IsBad, IsGood, WriterRan, both_of, made_of, same_of}

@@ -10,7 +10,7 @@ use Rattle.mc_turn.proofs.Lists.{times_append}
 use Rattle.mc_node.specs.Tooks.{Each, Took, IsRising, made_places, next_of}
 use Rattle.mc_node.specs.Writers.{IsOf, Tooks, WriterRan, calls_in, is_of, made_at, same_at}
 use Rattle.mc_node.specs.Gathers.{Joined, WriterMade, by}
-use Rattle.mc_node.specs.Interleavings.{IsInterleaving, IsPartOfOne, StormCall, Write, calls_by, calls_of, gets_same, is_by, made_in, puts_made, same_in, share_of}
+use Rattle.mc_storm.specs.Interleavings.{IsInterleaving, IsPartOfOne, StormCall, Write, calls_by, calls_of, gets_same, is_by, made_in, puts_made, same_in, share_of}
 use Rattle.mc_node.proofs.Spread.{each_append, each_more, filter_all, filter_map, filter_none, filter_no, filter_yes, made_append, rising_later, rising_more, spread, spread_filter, spread_same, total_append, total_same}
 use Rattle.mc_node.proofs.WriterFacts.{total_in}
 

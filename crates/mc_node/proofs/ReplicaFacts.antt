@@ -16,10 +16,10 @@ use Rattle.mc_keep.specs.declared.keeper.Keeper as keeper
 use Rattle.mc_keep.specs.Causes.{Kind, Refusal, Fault, Shortage}
 use Rattle.mc_keep.specs.Plan.{Schedule}
 use Rattle.mc_turn.specs.Lists.{Begins}
-use Rattle.mc_core.specs.declared.deletes.Deleted.{Deleted}
-use Rattle.mc_core.specs.declared.error.CoreError.{CoreError}
-use Rattle.mc_core.specs.declared.hears.Heard.{Heard as HeardBlocks}
-use Rattle.mc_core.specs.declared.made.Written.{Written}
+use Rattle.mc_core.specs.declared.Deleted.{Deleted}
+use Rattle.mc_core.specs.declared.CoreError.{CoreError}
+use Rattle.mc_core.specs.declared.Heard.{Heard as HeardBlocks}
+use Rattle.mc_core.specs.declared.Written.{Written}
 use Rattle.mc_queue.specs.Views.{shown as shown_queue}
 use Rattle.mc_core.specs.declared.replica.Replica.{Replica}
 use Rattle.mc_core.specs.Calls.{Call, Stays}

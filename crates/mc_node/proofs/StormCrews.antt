@@ -6,17 +6,17 @@ use Rattle.mc_base.specs.declared.counted.Counted as counted
 use Rattle.mc_keep.specs.declared.keeper.Keeper as keeper
 use Rattle.mc_turn.specs.declared.view.View.{View}
 use Rattle.mc_turn.specs.Lists.{places, total}
-use Rattle.mc_core.specs.declared.made.Written.{Written}
-use Rattle.mc_core.specs.declared.error.CoreError.{CoreError}
+use Rattle.mc_core.specs.declared.Written.{Written}
+use Rattle.mc_core.specs.declared.CoreError.{CoreError}
 use Rattle.mc_node.specs.declared.entry.Entry.{Entry}
 use Rattle.mc_node.specs.declared.node.Seen.{Seen}
 use Rattle.mc_keep.specs.Plan.{Schedule}
 use Rattle.mc_keep.specs.declared.fuse.Fuse.{Fuse}
 use Rattle.mc_node.specs.Entries.{is_open, shown_at}
-use Rattle.mc_node.specs.Interleavings.{calls_of}
+use Rattle.mc_storm.specs.Interleavings.{calls_of}
 use Rattle.mc_node.specs.Items.{Item}
 use Rattle.mc_node.specs.Moves.{PutDoes, ReadDoes}
-use Rattle.mc_node.specs.Storms.{storm_key, storm_value}
+use Rattle.mc_storm.specs.Storms.{storm_key, storm_value}
 use Rattle.mc_node.specs.Views.{Turned}
 use Rattle.mc_node.specs.Writers.{HasWritten}
 use Rattle.mc_model.specs.Kept.{Kept, processed}

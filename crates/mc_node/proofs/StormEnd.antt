@@ -6,9 +6,9 @@ use Rattle.mc_base.specs.Causes.{Rose}
 use Rattle.mc_base.specs.Told.{Told}
 use Rattle.mc_turn.specs.Lists.{times}
 use Rattle.mc_core.specs.Events.{ReplicaState}
-use Rattle.mc_node.specs.Interleavings.{StormCall}
+use Rattle.mc_storm.specs.Interleavings.{StormCall}
 use Rattle.mc_node.specs.Items.{Item, has_halted, is_rooted, last, last_state, root, state_in}
-use Rattle.mc_node.specs.Storms.{CallActs, CallFails, CallsRun, StormBreaks, StormEnds, StormPauses}
+use Rattle.mc_storm.specs.Storms.{CallActs, CallFails, CallsRun, StormBreaks, StormEnds, StormPauses}
 use Rattle.mc_node.specs.Tooks.{Each, Took, made_places}
 use Rattle.mc_node.specs.Writers.{IsBad, IsGood, Tooks, calls_in}
 use Rattle.mc_node.proofs.Chains.{runs_all}

@@ -20,14 +20,14 @@ use Rattle.mc_core.specs.Replica.{replica_state}
 use Rattle.mc_core.specs.Words.{ContinuesAt}
 use Rattle.mc_core.specs.declared.replica.Replica.{Replica}
 use Rattle.mc_node.specs.declared.entry.Entry.{Entry}
-use Rattle.mc_node.specs.declared.storming.Stormed.{Stormed}
-use Rattle.mc_node.specs.declared.storming.StormError.{StormError}
-use Rattle.mc_node.specs.declared.storming.StormError.TheVariants as storm
+use Rattle.mc_storm.specs.declared.outcome.Stormed.{Stormed}
+use Rattle.mc_storm.specs.declared.outcome.StormError.{StormError}
+use Rattle.mc_storm.specs.declared.outcome.StormError.TheVariants as storm
 use Rattle.mc_node.specs.Entries.{IsRootLog, items_at, shown_at}
 use Rattle.mc_node.specs.Gathers.{Joined}
-use Rattle.mc_node.specs.Interleavings.{StormCall, calls_of, share_of}
+use Rattle.mc_storm.specs.Interleavings.{StormCall, calls_of, share_of}
 use Rattle.mc_node.specs.Items.{Item, Shown, has_halted, is_sealed, is_sealing, last, last_state, root, state_in}
-use Rattle.mc_node.specs.Storms.{StormBreaks, StormEnds, StormLeads, StormPauses, answer_of, storm_broke}
+use Rattle.mc_storm.specs.Storms.{StormBreaks, StormEnds, StormLeads, StormPauses, answer_of, storm_broke}
 use Rattle.mc_node.specs.Ties.{Goes, IsTied}
 use Rattle.mc_node.specs.Works.{Bounds}
 use Rattle.mc_node.specs.Tooks.{Took}

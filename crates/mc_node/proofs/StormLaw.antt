@@ -8,9 +8,9 @@ use Rattle.mc_turn.specs.Lists.{times}
 use Rattle.mc_core.specs.Events.{ReplicaState}
 use Rattle.mc_node.specs.declared.note.Note.{Note}
 use Rattle.mc_node.specs.declared.note.Note.TheVariants.{Root, Made, Heard, Walked, Cleared, Halted}
-use Rattle.mc_node.specs.Interleavings.{StormCall}
+use Rattle.mc_storm.specs.Interleavings.{StormCall}
 use Rattle.mc_node.specs.Items.{Item, has_halted, has_note, is_halt, is_root, is_rooted, is_sealed, last_state}
-use Rattle.mc_node.specs.Storms.{CallActs}
+use Rattle.mc_storm.specs.Storms.{CallActs}
 use Rattle.mc_node.specs.Tooks.{Each, Took, made_places, next_of, places_if, width}
 use Rattle.mc_node.specs.Writers.{IsBad, IsGood, Tooks}
 use Rattle.mc_node.proofs.Chains.{Fits}

@@ -8,17 +8,17 @@ use Rattle.mc_turn.specs.declared.view.View.{View}
 use Rattle.mc_turn.specs.Lists.{Begins, places}
 use Rattle.mc_turn.proofs.Lists.{begins_length, begins_self, begins_trans}
 use Rattle.mc_keep.specs.Causes.{Kind, Refusal, Fault, Shortage}
-use Rattle.mc_core.specs.declared.error.CoreError.{CoreError}
-use Rattle.mc_core.specs.declared.error.CoreError.TheVariants.{BadKey, ValueTooLong, BlockTooLarge, PriorityFull, Clash, KeeperFault, Stopped, BadCast, NoBatch, BatchOpen, Memory}
-use Rattle.mc_core.specs.declared.made.Written.{Written}
+use Rattle.mc_core.specs.declared.CoreError.{CoreError}
+use Rattle.mc_core.specs.declared.CoreError.TheVariants.{BadKey, ValueTooLong, BlockTooLarge, PriorityFull, Clash, KeeperFault, Stopped, BadCast, NoBatch, BatchOpen, Memory}
+use Rattle.mc_core.specs.declared.Written.{Written}
 use Rattle.mc_core.specs.Refusals.{kind_of}
 use Rattle.mc_node.specs.declared.node.Seen.{Seen}
 use Rattle.mc_node.specs.declared.note.Note.{Note}
 use Rattle.mc_node.specs.declared.note.Note.TheVariants.{Halted, Made}
-use Rattle.mc_node.specs.Interleavings.{StormCall}
+use Rattle.mc_storm.specs.Interleavings.{StormCall}
 use Rattle.mc_node.specs.Items.{Item, Shown, is_first, root}
 use Rattle.mc_node.specs.Moves.{PutDoes, with_entry}
-use Rattle.mc_node.specs.Storms.{is_block_refusal, is_bytes, storm_key, storm_value}
+use Rattle.mc_storm.specs.Storms.{is_block_refusal, is_bytes, storm_key, storm_value}
 use Rattle.mc_node.specs.Tooks.{Took, made_places, next_of, places_if, width}
 use Rattle.mc_node.specs.Views.{Turned}
 use Rattle.mc_node.specs.Writers.{BadOver, GoodOver, IsBad, IsGood, SeatGoes, WriteGoes, WritesOnce, end_of_put}

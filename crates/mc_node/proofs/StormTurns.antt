@@ -8,9 +8,9 @@ use Rattle.mc_model.specs.Events.{Event}
 use Rattle.mc_model.specs.Kept.{Kept, processed}
 use Rattle.mc_model.specs.Live.{value}
 use Rattle.mc_keep.specs.Causes.{Kind, Refusal, Fault, Shortage}
-use Rattle.mc_core.specs.declared.error.CoreError.{CoreError}
-use Rattle.mc_core.specs.declared.error.CoreError.TheVariants.{BadKey, ValueTooLong, BlockTooLarge, PriorityFull, Clash, KeeperFault, Stopped, BadCast, NoBatch, BatchOpen, Memory}
-use Rattle.mc_core.specs.declared.made.Written.{Written}
+use Rattle.mc_core.specs.declared.CoreError.{CoreError}
+use Rattle.mc_core.specs.declared.CoreError.TheVariants.{BadKey, ValueTooLong, BlockTooLarge, PriorityFull, Clash, KeeperFault, Stopped, BadCast, NoBatch, BatchOpen, Memory}
+use Rattle.mc_core.specs.declared.Written.{Written}
 use Rattle.mc_core.specs.Calls.{Call, Faults, Stays}
 use Rattle.mc_core.specs.Counted.{run_of}
 use Rattle.mc_core.specs.Events.{ReplicaState, Breaks, state_of}
@@ -21,10 +21,10 @@ use Rattle.mc_core.specs.Refusals.{ByKind, Is, kind_of}
 use Rattle.mc_node.specs.declared.node.Seen.{Seen}
 use Rattle.mc_node.specs.declared.note.Note.{Note}
 use Rattle.mc_node.specs.declared.note.Note.TheVariants.{Halted, Made}
-use Rattle.mc_node.specs.Interleavings.{Write}
+use Rattle.mc_storm.specs.Interleavings.{Write}
 use Rattle.mc_node.specs.Items.{Item, Shown, has_halted, has_note, is_halt, is_sealed, last, last_state, root, state_in}
 use Rattle.mc_node.specs.Moves.{Adds, PutDoes, ReadDoes, SeenOver, with_entry}
-use Rattle.mc_node.specs.Storms.{Gets, PutMakes, PutRefused, is_block_refusal, is_bytes, storm_key, storm_value}
+use Rattle.mc_storm.specs.Storms.{Gets, PutMakes, PutRefused, is_block_refusal, is_bytes, storm_key, storm_value}
 use Rattle.mc_node.specs.Ties.{Goes, IsMoment}
 use Rattle.mc_node.specs.Writers.{BadOver, GoodOver}
 use Rattle.mc_node.proofs.FrameFacts.{go_more}

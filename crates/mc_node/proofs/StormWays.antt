@@ -1,7 +1,7 @@
 -- How far one write of a writer came.
 use Rattle.std.proofs.Common.{◌≡◌, ◌≤◌, ◌+◌, ℕ, Bool, true, false, [], ◌∷◌, ◌++◌, refl, sym, arith, append-nil, eq-eqb}
 use Rattle.std.proofs.lemmas.Bool.{false≢true}
-use Rattle.mc_node.specs.Interleavings.{StormCall, Write, is_by}
+use Rattle.mc_storm.specs.Interleavings.{StormCall, Write, is_by}
 use Rattle.mc_node.specs.Tooks.{Took, places_if, width}
 use Rattle.mc_node.specs.Writers.{WriteGoes}
 

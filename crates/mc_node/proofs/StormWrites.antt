@@ -3,9 +3,9 @@ use Rattle.std.proofs.Common.{◌≡◌, ◌≤◌, ◌<◌, ℕ, suc, true, fal
 use Rattle.std.proofs.lemmas.Bool.{false≢true}
 use Rattle.mc_turn.specs.declared.view.View.{View}
 use Rattle.mc_turn.proofs.Lists.{begins_self}
-use Rattle.mc_node.specs.declared.storming.Stormed.{Stormed}
+use Rattle.mc_storm.specs.declared.outcome.Stormed.{Stormed}
 use Rattle.mc_node.specs.declared.writing.Wrote.{Wrote}
-use Rattle.mc_node.specs.Interleavings.{StormCall}
+use Rattle.mc_storm.specs.Interleavings.{StormCall}
 use Rattle.mc_node.specs.Items.{Item}
 use Rattle.mc_node.specs.Tooks.{Took}
 use Rattle.mc_node.specs.Writers.{HasWritten, IsBad, IsGood, SeatGoes, WriteGoes, WriterRan, WritesOnce, counted}

@@ -19,7 +19,7 @@ use Rattle.mc_core.specs.Events.{ReplicaState, IsCutShort, all_happen, stopped}
 use Rattle.mc_core.specs.Jobs.{found_in}
 use Rattle.mc_core.specs.Reads.{OnlyReads}
 use Rattle.mc_core.specs.Refusals.{ByKind, is_fault, kind_of}
-use Rattle.mc_core.specs.declared.error.CoreError.{CoreError}
+use Rattle.mc_core.specs.declared.CoreError.{CoreError}
 use Rattle.mc_core.proofs.GrowthFacts.{same_goes}
 use Rattle.mc_drain.specs.Leads.{Always, FuseGoes, Leads, LeadsBy, Never, all_processes, commits_between, count}
 use Rattle.mc_drain.specs.Words.{FoundFor}

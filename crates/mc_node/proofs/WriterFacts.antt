@@ -3,7 +3,7 @@ use Rattle.std.proofs.Common.{◌≡◌, ◌≤◌, ◌<◌, ◌+◌, ◌-◌, �
 use Rattle.std.proofs.lemmas.Bool.{false≢true}
 use Rattle.std.proofs.lemmas.List.{map-append}
 use Rattle.mc_turn.specs.Lists.{places, total}
-use Rattle.mc_node.specs.Interleavings.{StormCall, Write, calls_of, made_in, one_if, same_in}
+use Rattle.mc_storm.specs.Interleavings.{StormCall, Write, calls_of, made_in, one_if, same_in}
 use Rattle.mc_node.specs.Tooks.{Each, Took, IsRising, made_places, next_of}
 use Rattle.mc_node.specs.Writers.{IsOf, Tooks, WriteGoes, WriterRan, calls_in, made_at, same_at}
 use Rattle.mc_node.proofs.Spread.{each_append, each_more, made_append, rising_append, rising_more, total_append}

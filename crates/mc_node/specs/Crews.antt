@@ -1,7 +1,7 @@
 -- The seats of a storm's writers: before they write, and after.
 use Rattle.std.specs.Prelude.{◌≡◌, ℕ, List, [], Option}
 use Rattle.mc_turn.specs.declared.view.View.{View}
-use Rattle.mc_node.specs.declared.storming.Stormed.{Stormed}
+use Rattle.mc_storm.specs.declared.outcome.Stormed.{Stormed}
 use Rattle.mc_node.specs.Items.{Item}
 use Rattle.mc_node.specs.Writers.{HasWritten}
 

@@ -2,7 +2,7 @@
 use Rattle.std.specs.Prelude.{◌≡◌, ◌≤◌, ◌+◌, ◌*◌, ℕ, suc, Bool, true, List, ◌++◌, map}
 use Rattle.std.specs.List.{filter}
 use Rattle.mc_turn.specs.Lists.{Begins, places, times, total}
-use Rattle.mc_node.specs.Interleavings.{StormCall, Write, calls_of, share_of}
+use Rattle.mc_storm.specs.Interleavings.{StormCall, Write, calls_of, share_of}
 use Rattle.mc_node.specs.Tooks.{Each, Took, IsRising, made_places}
 use Rattle.mc_node.specs.Writers.{Tooks, calls_in, is_of, made_at, same_at}
 

@@ -1,12 +1,10 @@
 pub mod Crews
 pub mod Entries
 pub mod Gathers
-pub mod Interleavings
 pub mod Items
 pub mod Jobs
 pub mod Moves
 pub mod Seats
-pub mod Storms
 pub mod Ties
 pub mod Tooks
 pub mod Tries

@@ -6,11 +6,11 @@ use Rattle.mc_base.specs.Told.{Told}
 use Rattle.mc_model.specs.Events.{Event}
 use Rattle.mc_model.specs.Kept.{Kept}
 use Rattle.mc_keep.specs.Causes.{Kind, Refusal, Fault, Shortage}
-use Rattle.mc_core.specs.declared.error.CoreError.{CoreError}
-use Rattle.mc_core.specs.declared.error.CoreError.TheVariants.{Stopped, Memory}
-use Rattle.mc_core.specs.declared.deletes.Deleted.{Deleted}
-use Rattle.mc_core.specs.declared.hears.Heard.{Heard}
-use Rattle.mc_core.specs.declared.made.Written.{Written}
+use Rattle.mc_core.specs.declared.CoreError.{CoreError}
+use Rattle.mc_core.specs.declared.CoreError.TheVariants.{Stopped, Memory}
+use Rattle.mc_core.specs.declared.Deleted.{Deleted}
+use Rattle.mc_core.specs.declared.Heard.{Heard}
+use Rattle.mc_core.specs.declared.Written.{Written}
 use Rattle.mc_core.specs.Calls.{Call, Stays}
 use Rattle.mc_core.specs.Deletes.{AddsDeleted, DeleteEvents, DeleteRefusal, DeleteShort, ShortKeeps}
 use Rattle.mc_core.specs.Puts.{AddsPut, PutEvents, put_refusal}

@@ -1,7 +1,7 @@
 -- What a read that doesn't wait does.
 use Rattle.std.specs.Prelude.{◌≡◌, ◌≢◌, ⊤, [], ◌∷◌, ◌++◌, Result, Ok, Err}
 use Rattle.mc_turn.specs.declared.view.View.{View}
-use Rattle.mc_core.specs.declared.error.CoreError.{CoreError}
+use Rattle.mc_core.specs.declared.CoreError.{CoreError}
 use Rattle.mc_node.specs.declared.error.TryError.{TryError}
 use Rattle.mc_node.specs.declared.error.TryError.TheVariants.{Core, Busy}
 

@@ -5,15 +5,15 @@ use Rattle.mc_base.specs.Causes.{Rose}
 use Rattle.mc_base.specs.Told.{Told}
 use Rattle.mc_turn.specs.declared.view.View.{View}
 use Rattle.mc_turn.specs.Lists.{Begins, places, total}
-use Rattle.mc_node.specs.Interleavings.{StormCall, Write, calls_of, is_by, made_in, one_if, same_in}
+use Rattle.mc_storm.specs.Interleavings.{StormCall, Write, calls_of, is_by, made_in, one_if, same_in}
 use Rattle.mc_node.specs.Items.{Item, Shown, has_halted, is_sealed, last, last_state, root}
-use Rattle.mc_core.specs.declared.error.CoreError.{CoreError}
-use Rattle.mc_core.specs.declared.made.Written.{Written}
-use Rattle.mc_node.specs.Storms.{CallActs, CallFails, is_block_refusal, is_bytes}
+use Rattle.mc_core.specs.declared.CoreError.{CoreError}
+use Rattle.mc_core.specs.declared.Written.{Written}
+use Rattle.mc_storm.specs.Storms.{CallActs, CallFails, is_block_refusal, is_bytes}
 use Rattle.mc_node.specs.declared.node.Seen.{Seen}
 use Rattle.mc_node.specs.Ties.{Goes}
 use Rattle.mc_node.specs.Tooks.{Each, Took, IsRising, made_places, next_of}
-use Rattle.mc_node.specs.declared.storming.Stormed.{Stormed}
+use Rattle.mc_storm.specs.declared.outcome.Stormed.{Stormed}
 use Rattle.mc_node.specs.declared.writing.Wrote.{Wrote}
 
 abbrev pub Tooks : Type 0

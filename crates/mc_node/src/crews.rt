@@ -11,9 +11,9 @@ ghost use Rattle.mc_node.specs.Writers.{HasWritten, IsBad, IsGood, both_of, made
 
 use crate::node::{Node, NodeSeat};
 use crate::stored::Stored;
-use crate::storming::Stormed;
 use crate::writing::{Writer, write_all};
 use mc_keep::Keeper;
+use mc_storm::Stormed;
 use std::alloc::Global;
 use std::marker::Brand;
 use std::sync::Wait;

@@ -2,8 +2,6 @@
 //! docs/GLOSSARY.md explains the words of its contracts.
 #![tactic(auto)]
 
-#[cfg(test)]
-mod bare;
 mod crews;
 mod entry;
 mod error;
@@ -12,14 +10,13 @@ mod node;
 mod note;
 mod stored;
 mod storming;
-#[cfg(test)]
-mod tests;
 mod writing;
 
 pub use entry::Entry;
 pub use error::TryError;
 pub use hired::Hired;
+pub use mc_storm::{StormError, Stormed};
 pub use node::{Node, NodeRefused, NodeSeat, Seen};
 pub use note::Note;
 pub use stored::Stored;
-pub use storming::{StormError, Stormed, storm};
+pub use storming::storm;

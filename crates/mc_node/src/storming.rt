@@ -2,41 +2,19 @@
 ghost use Rattle.std.specs.Prelude.{◌≡◌, ◌≤◌, ◌<◌, ◌^◌, ◌↔◌, true, Err};
 ghost use Rattle.mc_core.specs.Exact.{RestSame};
 ghost use Rattle.mc_core.specs.Words.{Becomes, Continues};
-ghost use Rattle.mc_node.specs.Storms.{StormLeads, answer_of, storm_broke};
+ghost use Rattle.mc_storm.specs.Storms.{StormLeads, answer_of, storm_broke};
+ghost use Rattle.mc_storm.specs.declared.outcome.StormError.{StormError};
 
 use crate::crews::{gather, hire, write_beside};
 use crate::node::{Node, NodeRefused};
 use crate::stored::Stored;
 use mc_core::Replica;
 use mc_keep::Keeper;
+use mc_storm::{StormError, Stormed};
 use std::alloc::Global;
 use std::marker::Brand;
 use std::sync::Wait;
 use std::thread::Threads;
-use thiserror::Error;
-
-/// What a storm came to.
-#[derive(Clone, Copy, Debug, PartialEq, Eq)]
-pub struct Stormed {
-    /// How many puts made a block.
-    pub made: u64,
-    /// How many of these had a get after them that gave the bytes of the put.
-    pub same: u64,
-}
-
-/// Why a storm gave no answer.
-#[derive(Clone, Copy, Debug, PartialEq, Eq, Error)]
-pub enum StormError {
-    /// The keeper failed, and the replica has stopped.
-    #[error("a keeper failed")]
-    KeeperFault,
-    /// The replica had stopped.
-    #[error("the replica has stopped")]
-    Stopped,
-    /// Want of memory. The puts that were made stay.
-    #[error("out of memory")]
-    Memory,
-}
 
 /// Lets writers put and get beside one another, each in a thread of its own where one can be made, and gives the
 /// replica back. Each writer, of number w from 1, makes its writes in turn, of number i from 1: it puts the key

@@ -3,15 +3,15 @@ ghost use Rattle.std.specs.Prelude.{◌≡◌, ◌<◌, ◌≤◌, ◌^◌, [], 
 ghost use Rattle.mc_turn.specs.Seats.{IsSeatOf};
 ghost use Rattle.mc_node.specs.Entries.{is_open, items};
 ghost use Rattle.mc_node.specs.Seats.{knows};
-ghost use Rattle.mc_node.specs.Storms.{storm_key, is_block_refusal, is_bytes};
+ghost use Rattle.mc_storm.specs.Storms.{storm_key, is_block_refusal, is_bytes};
 ghost use Rattle.mc_node.specs.Writers.{HasWritten, WritesOnce, counted, end_of_put};
 
 use crate::node::{Node, NodeSeat, Seen};
 use crate::stored::Stored;
-use crate::storming::Stormed;
 use mc_base::Bytes;
 use mc_core::{CoreError, Written};
 use mc_keep::Keeper;
+use mc_storm::Stormed;
 use std::alloc::Global;
 use std::marker::Brand;
 use std::sync::Wait;

@@ -7,7 +7,7 @@ use Rattle.std.proofs.lemmas.Bool.Decides.{nat_tests}
 use Rattle.std.proofs.lemmas.Bool.{and_from, and_parts}
 use Rattle.std.proofs.lemmas.List.Sums.{sum_by-cons}
 use Rattle.mc_base.specs.declared.cid.Cid.{Cid}
-use Rattle.mc_crew.specs.Hands.{FetchLeft, found_first}
+use Rattle.mc_pull.specs.Hands.{FetchLeft, found_first}
 use Rattle.mc_fetch.specs.Calls.{Members as Asked}
 use Rattle.mc_fetch.specs.Fits.{Map}
 use Rattle.mc_fetch.specs.Offers.{found_by}

@@ -1,4 +1,8 @@
 pub mod AnswerFacts
 pub mod DeskFacts
-pub mod RiseFacts
+pub mod Hiring
+pub mod Left
 pub mod PullFacts
+pub mod RiseFacts
+pub mod RoundFacts
+pub mod WorkFacts

@@ -4,7 +4,7 @@ use Rattle.std.specs.Prelude.{Vec, nat_lt}
 use Rattle.std.specs.List.{AllZip}
 use Rattle.std.proofs.lemmas.Bool.Decides.{nat_tests}
 use Rattle.std.proofs.lemmas.Bool.{and_parts}
-use Rattle.mc_crew.specs.Hands.{FetchLeft, SomeRose, found_first}
+use Rattle.mc_pull.specs.Hands.{FetchLeft, SomeRose, found_first}
 use Rattle.mc_fetch.specs.Calls.{Members as Asked}
 use Rattle.mc_fetch.specs.Offers.{found_by}
 use Rattle.mc_fetch.specs.Peers.{faults_of, offers_told}

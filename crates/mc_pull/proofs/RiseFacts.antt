@@ -5,7 +5,7 @@ use Rattle.std.specs.List.{AllZip, sum_by}
 use Rattle.std.proofs.lemmas.Bool.{false≢true}
 use Rattle.std.proofs.lemmas.Bool.Decides.{nat_tests}
 use Rattle.std.proofs.lemmas.List.Sums.{sum_by-cons}
-use Rattle.mc_crew.specs.Hands.{SomeRose}
+use Rattle.mc_pull.specs.Hands.{SomeRose}
 use Rattle.mc_fetch.specs.Peers.{ViewGoes, faults_of}
 use Rattle.mc_fetch.specs.Views.{views_of}
 use Rattle.mc_fetch.specs.declared.peers.PeerFetch.{PeerFetch}

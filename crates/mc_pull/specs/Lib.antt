@@ -1,3 +1,5 @@
 pub mod Answers
+pub mod Bounds
+pub mod Hands
 pub mod Pulls
 pub mod Shows

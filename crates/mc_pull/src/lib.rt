@@ -3,6 +3,7 @@
 #![tactic(auto)]
 
 mod answers;
+pub mod crew;
 mod repairing;
 mod shows;
 mod working;

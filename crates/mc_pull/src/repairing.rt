@@ -19,7 +19,7 @@ use std::alloc::{AllocError, Global};
 use std::sync::Wait;
 use std::thread::Threads;
 
-/// Repairs a replica with so many workers beside one another, as `mc_crew::repair` does, and fetches as `work` does.
+/// Repairs a replica with so many workers beside one another, as `crew::repair` does, and fetches as `work` does.
 ///
 /// Conditions: 1 to 16 workers, and as many desks of each peer.
 pub fn repair<'a, K: Keeper + Send + Sync, G: Gate + Sync, T: Threads + Sync, W: Wait + Sync>(
@@ -59,7 +59,7 @@ where
     };
     let fetches = fetches.into_vec();
     let shows = all_show(fetches.as_slice());
-    let (replica, fetches, drained) = mc_crew::repair(
+    let (replica, fetches, drained) = crate::crew::repair(
         alloc, replica, fetches, budget, gate, threads, wait,
     );
     let fetches = List::from_vec(fetches);

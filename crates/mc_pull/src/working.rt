@@ -21,7 +21,7 @@ use std::thread::Threads;
 
 /// Works through the wanted blocks of a replica with so many workers beside one another, each in a thread of its own,
 /// as
-/// `mc_crew::work` does, and gives the replica back. The workers fetch from the sites that are peers, in order: of each
+/// `crew::work` does, and gives the replica back. The workers fetch from the sites that are peers, in order: of each
 /// its planted offer, and then its stored block, which each worker reads through a desk of its own, the first worker
 /// through the first one. The sites and the lists of their desks are in one order. Each desk comes back to its place.
 /// `PeerFault` comes only where a desk of a peer has failed in this call, and after `Memory`, which may be that of the
@@ -64,7 +64,7 @@ where
     };
     let fetches = fetches.into_vec();
     let shows = all_show(fetches.as_slice());
-    let (replica, fetches, drained) = mc_crew::work(
+    let (replica, fetches, drained) = crate::crew::work(
         alloc, replica, fetches, budget, gate, threads, wait,
     );
     let fetches = List::from_vec(fetches);

@@ -11,6 +11,3 @@ mod range;
 pub use lookup::{get, has};
 pub use pair::Pair;
 pub use range::query;
-
-#[cfg(test)]
-mod tests;

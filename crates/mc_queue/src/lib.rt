@@ -11,6 +11,3 @@ mod store;
 mod ticket;
 
 pub use queue::{Counts, Queue};
-
-#[cfg(test)]
-mod tests;

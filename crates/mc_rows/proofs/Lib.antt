@@ -6,3 +6,5 @@ pub mod Step
 pub mod OnceRows
 pub mod FitAll
 pub mod Held
+pub mod HiddenFacts
+pub mod AboveFacts

@@ -12,24 +12,25 @@ use Rattle.mc_core.specs.Events.{ReplicaState, Goes, MayHappen, all_happen, burn
 use Rattle.mc_drain.specs.Repairs.{RepairLeads}
 use Rattle.mc_drain.specs.Works.{WorkLeads}
 use Rattle.mc_drain.specs.declared.working.WorkError.TheVariants.{PeerFault}
-use Rattle.mc_node.specs.Interleavings.{StormCall, Write}
-use Rattle.mc_node.specs.Storms.{ActsBy, CallsRun, PutActs, StormLeads, storm_key, storm_value}
+use Rattle.mc_storm.specs.Interleavings.{StormCall, Write}
+use Rattle.mc_storm.specs.Storms.{ActsBy, CallsRun, PutActs, StormLeads, storm_key, storm_value}
 use Rattle.mc_script.specs.declared.command.Command.{Command}
-use Rattle.mc_script.specs.declared.command.Command.TheVariants.{Put, Del, Begin, BatchPut, BatchDel, Commit, Get, Has as HasKey, Query, Heads as HeadsOf}
-use Rattle.mc_script.specs.declared.command.Command.TheVariants.{Cast, Wire, Hear, Plant, Link, Step as StepOf, Work, Repair, Storm, State as StateOf, Same as SameOf, Stop, Open, StopAt, StopAfter}
 use Rattle.mc_script.specs.declared.reply.Reply.{Reply}
 use Rattle.mc_script.specs.declared.reply.Reply.TheVariants.{FaultKeeper, FaultPeer}
-use Rattle.mc_world.specs.declared.entry.LineEntry.{LineEntry}
-use Rattle.mc_world.specs.Asks.{focus, is_named, may_fail}
-use Rattle.mc_world.specs.Effects.{DoneAt, Happens}
+use Rattle.mc_seats.specs.declared.entry.LineEntry.{LineEntry}
+use Rattle.mc_seats.specs.Asks.{focus, is_named, may_fail}
+use Rattle.mc_seats.specs.Calling.{Batches, Blocks, Calling, Nothing, Reach}
+use Rattle.mc_seats.specs.Doing.{At, Calls, Casts, Doing, Hears, Repairs, Steps, Storms, Tends, Works, doing}
+use Rattle.mc_seats.specs.Effects.{CallsAt, DoneAt, done_by, events_by, happens_by}
 use Rattle.mc_runs.specs.Promises.{fired_at, fuse_at, tells_at}
-use Rattle.mc_world.specs.Step.{GivesBack, IsFaulted, PeerBreaks, Row, Step, is_fault}
-use Rattle.mc_world.specs.Works.{budget_of, offered_by, repair_budget}
-use Rattle.mc_world.specs.Worlds.{Moved, MovedAt, Place, WorldState, peers_of}
+use Rattle.mc_seats.specs.Step.{GivesBack, IsFaulted, PeerBreaks, Row, Step, breaks_by, is_fault}
+use Rattle.mc_seats.specs.Works.{budget_of, offered_by, repair_budget}
+use Rattle.mc_seats.specs.Worlds.{Moved, MovedAt, Place, WorldState, peers_of}
 use Rattle.mc_runs.proofs.PromiseFacts.{back_is, others_stand}
-use Rattle.mc_runs.proofs.ReplyFacts.{done_plainly, is_plain, refuses_no_fault}
-use Rattle.mc_world.proofs.WorkedFacts.{fuse_stays, pulled_unfired, told_unfired}
-use Rattle.mc_runs.proofs.WrittenFacts.{Done, moved_stands}
+use Rattle.mc_runs.proofs.ReplyFacts.{done_plainly, refuses_no_fault}
+use Rattle.mc_runs.proofs.TendFacts.{IsTended, is_plain, tended}
+use Rattle.mc_seats.proofs.WorkedFacts.{fuse_stays, pulled_unfired, told_unfired}
+use Rattle.mc_runs.proofs.WrittenFacts.{moved_stands}
 
 -- a fault that is answered
 
@@ -98,13 +99,13 @@ goes_alive (event ∷ events) s may is = goes_alive events (goes_on s event) may
 goes_unfired : (events : List Event) (s t : ReplicaState) → Goes events s t → has_fired s.fuse t.fuse ≡ false
 goes_unfired events s t goes = not_fired s.fuse t.fuse (λ is. ap (λ (x : ReplicaState). is_some x.fuse) goes.ends ∙ goes_alive events s goes.may is)
 
-happens_unfired : (w : WorldState) (command : Command) (reply : Reply) (old new : Option Kept) (fuse fuse2 : Option Fuse) (run run2 : Option Running) → is_some old ≡ true → Told (state_of old fuse run) (state_of new fuse2 run2) (Done w command reply) → has_fired fuse fuse2 ≡ false
-happens_unfired w command reply None new fuse fuse2 run run2 tells told = absurd (true≢false (sym tells))
-happens_unfired w command reply (Some old) None fuse fuse2 run run2 tells told = absurd told
-happens_unfired w command reply (Some old) (Some new) fuse fuse2 run run2 tells told = goes_unfired told.0 _ _ told.2
+happens_unfired : (w : WorldState) (d : Doing) (reply : Reply) (old new : Option Kept) (fuse fuse2 : Option Fuse) (run run2 : Option Running) → is_some old ≡ true → Told (state_of old fuse run) (state_of new fuse2 run2) (λ s new. (events : List Event) × events_by w s d events reply × Goes events s new) → has_fired fuse fuse2 ≡ false
+happens_unfired w d reply None new fuse fuse2 run run2 tells told = absurd (true≢false (sym tells))
+happens_unfired w d reply (Some old) None fuse fuse2 run run2 tells told = absurd told
+happens_unfired w d reply (Some old) (Some new) fuse fuse2 run run2 tells told = goes_unfired told.0 _ _ told.2
 
-place_unfired : (w : WorldState) (command : Command) (reply : Reply) (p q : Place) → is_some p.content ≡ true → Happens w command p q reply → has_fired p.fuse q.fuse ≡ false
-place_unfired w command reply p q tells happens = happens_unfired w command reply p.content q.content p.fuse q.fuse p.run q.run tells happens
+place_unfired : (w : WorldState) (d : Doing) (reply : Reply) (p q : Place) → is_some p.content ≡ true → happens_by w d p q reply → has_fired p.fuse q.fuse ≡ false
+place_unfired w d reply p q tells happens = happens_unfired w d reply p.content q.content p.fuse q.fuse p.run q.run tells happens
 
 now_same : (p q : Place) → q ≡ p → has_fired p.fuse q.fuse ≡ false
 now_same p q same = same_fuse p.fuse q.fuse (ap (λ (x : Place). x.fuse) same)
@@ -130,40 +131,29 @@ calls_unfired [] s t same = same_fuse s.fuse t.fuse (ap (λ (x : ReplicaState). 
 calls_unfired (call ∷ calls) s t (mid, acts, run) =
     unfired_then s.fuse mid.fuse t.fuse (call_unfired call.gets (storm_key call.writer) (storm_value call.write.number) call.write s mid acts) (calls_unfired calls mid t run)
 
-done_unfired : (w : WorldState) (command : Command) (reply : Reply) (p q : Place) → is_some p.content ≡ true → DoneAt w command p q reply → has_fired p.fuse q.fuse ≡ false
-done_unfired w (Cast r) reply p q tells h = now_same p q h
-done_unfired w (Plant r cid bytes) reply p q tells h = same_fuse p.fuse q.fuse (ap (λ (x : Place). x.fuse) h.0)
-done_unfired w (StateOf r) reply p q tells h = now_same p q h.0
-done_unfired w (Stop r) reply p q tells h = same_fuse p.fuse q.fuse (ap (λ (x : Place). x.fuse) h.0)
-done_unfired w (Open r) reply p q tells h = same_fuse p.fuse q.fuse h.0.tells.1
-done_unfired w (StopAt r commit) reply p q tells h = not_fired p.fuse q.fuse (λ _. ap (λ (x : Place). is_some x.fuse) h.0)
-done_unfired w (StopAfter r commit) reply p q tells h = not_fired p.fuse q.fuse (λ _. ap (λ (x : Place). is_some x.fuse) h.0)
-done_unfired w (Work r workers budget) reply p q tells h = pulled_unfired _ _ (WorkLeads (budget_of budget) (offered_by (peers_of w r)) (Ok h.value)) (λ s t leads. fuse_stays _ s.fuse t.fuse leads.fuse) p q tells h.works
-done_unfired w (Repair r workers) reply p q tells h = pulled_unfired _ _ (RepairLeads repair_budget (offered_by (peers_of w r)) (Ok h.value)) (λ s t leads. fuse_stays _ s.fuse t.fuse leads.fuse) p q tells h.repairs
-done_unfired w (Storm r writers writes) reply p q tells h = told_unfired (StormLeads writers writes (Ok h.value) ⊥) (λ s t ends. calls_unfired ends.calls s t ends.run) p.content q.content p.fuse q.fuse p.run q.run tells h.told
-done_unfired w (Put r key bytes) reply p q tells h = place_unfired w (Put r key bytes) reply p q tells h.1
-done_unfired w (Del r key) reply p q tells h = place_unfired w (Del r key) reply p q tells h.1
-done_unfired w (Begin r) reply p q tells h = same_fuse p.fuse q.fuse h.0.1.1
-done_unfired w (BatchPut r key bytes) reply p q tells h = same_fuse p.fuse q.fuse h.0.1.1
-done_unfired w (BatchDel r key) reply p q tells h = same_fuse p.fuse q.fuse h.0.1.1
-done_unfired w (Commit r) reply p q tells h = place_unfired w (Commit r) reply p q tells h.1
-done_unfired w (Get r key) reply p q tells h = now_same p q h.0.0
-done_unfired w (HasKey r key) reply p q tells h = now_same p q h.0.0
-done_unfired w (Query r prefix skip take) reply p q tells h = now_same p q h.0.0
-done_unfired w (HeadsOf r) reply p q tells h = now_same p q h.0.0
-done_unfired w (Hear r message) reply p q tells h = same_fuse p.fuse q.fuse h.0.1.1
-done_unfired w (StepOf r) reply p q tells h = place_unfired w (StepOf r) reply p q tells h.1
-done_unfired w (Wire bytes) reply p q tells h = absurd h.0
-done_unfired w (Link r other up) reply p q tells h = absurd h.0
-done_unfired w (SameOf r other) reply p q tells h = absurd h.0
+reach_unfired : (w : WorldState) (d : Doing) (reach : Reach) (call : Calling) (reply : Reply) (p q : Place) → is_some p.content ≡ true → CallsAt reach call p q reply → happens_by w d p q reply → has_fired p.fuse q.fuse ≡ false
+reach_unfired w d Nothing call reply p q tells h happens = now_same p q h.0
+reach_unfired w d (Batches B) call reply p q tells h happens = same_fuse p.fuse q.fuse h.1.1
+reach_unfired w d (Blocks B) call reply p q tells h happens = place_unfired w d reply p q tells happens
+
+done_unfired : (w : WorldState) (d : Doing) (reply : Reply) (p q : Place) → IsTended d → is_some p.content ≡ true → done_by w d p q reply → has_fired p.fuse q.fuse ≡ false
+done_unfired w (At r (Calls call)) reply p q is tells h = reach_unfired w (At r (Calls call)) call.reach call reply p q tells h.0 h.1
+done_unfired w (At r (Tends tending)) reply p q is tells h = not_fired p.fuse q.fuse (is.fuse_kept p q reply h)
+done_unfired w (At r Casts) reply p q is tells h = now_same p q h
+done_unfired w (At r (Hears message)) reply p q is tells h = same_fuse p.fuse q.fuse h.0.1.1
+done_unfired w (At r Steps) reply p q is tells h = place_unfired w (At r Steps) reply p q tells h.1
+done_unfired w (At r (Works budget)) reply p q is tells h = pulled_unfired _ _ (WorkLeads (budget_of budget) (offered_by (peers_of w r)) (Ok h.value)) (λ s t leads. fuse_stays _ s.fuse t.fuse leads.fuse) p q tells h.works
+done_unfired w (At r Repairs) reply p q is tells h = pulled_unfired _ _ (RepairLeads repair_budget (offered_by (peers_of w r)) (Ok h.value)) (λ s t leads. fuse_stays _ s.fuse t.fuse leads.fuse) p q tells h.repairs
+done_unfired w (At r (Storms writers writes)) reply p q is tells h = told_unfired (StormLeads writers writes (Ok h.value) ⊥) (λ s t ends. calls_unfired ends.calls s t ends.run) p.content q.content p.fuse q.fuse p.run q.run tells h.told
+done_unfired w d reply p q is tells h = absurd h.0
 
 back_unfired : (p q : Place) → is_some p.content ≡ true → GivesBack p q → has_fired p.fuse q.fuse ≡ false
 back_unfired p q tells back = same_fuse p.fuse q.fuse (ap (λ (x : Place). x.fuse) (back_is p q back).1)
 
-peer_unfired : (w : WorldState) (command : Command) (p q : Place) → is_some p.content ≡ true → PeerBreaks w command p q → has_fired p.fuse q.fuse ≡ false
-peer_unfired w (Work r workers budget) p q tells breaks = pulled_unfired _ _ (WorkLeads (budget_of budget) (offered_by (peers_of w r)) (Err PeerFault)) (λ s t leads. fuse_stays _ s.fuse t.fuse leads.fuse) p q tells breaks
-peer_unfired w (Repair r workers) p q tells breaks = pulled_unfired _ _ (RepairLeads repair_budget (offered_by (peers_of w r)) (Err PeerFault)) (λ s t leads. fuse_stays _ s.fuse t.fuse leads.fuse) p q tells breaks
-peer_unfired w command p q tells back = back_unfired p q tells back
+peer_unfired : (w : WorldState) (d : Doing) (p q : Place) → is_some p.content ≡ true → breaks_by w d p q → has_fired p.fuse q.fuse ≡ false
+peer_unfired w (At r (Works budget)) p q tells breaks = pulled_unfired _ _ (WorkLeads (budget_of budget) (offered_by (peers_of w r)) (Err PeerFault)) (λ s t leads. fuse_stays _ s.fuse t.fuse leads.fuse) p q tells breaks
+peer_unfired w (At r Repairs) p q tells breaks = pulled_unfired _ _ (RepairLeads repair_budget (offered_by (peers_of w r)) (Err PeerFault)) (λ s t leads. fuse_stays _ s.fuse t.fuse leads.fuse) p q tells breaks
+peer_unfired w d p q tells back = back_unfired p q tells back
 
 -- where one replica of a world changes
 
@@ -190,6 +180,6 @@ fuse_is_fault w command entry reply w2 r step tells fired = over step.row
   where
     over : Row w command (λ r. is_named entry.keepers r ≡ true) (λ r. is_named entry.own r ≡ true) (λ r. is_named entry.desks r ≡ true) reply w2 → reply ≡ FaultKeeper
     over (inl (inl (inl refused))) = absurd (true≢false (sym fired ∙ still w w2 r (ap (λ (x : WorldState). slice_get x.places r) refused.same)))
-    over (inl (inl (inr done))) = absurd (true≢false (sym fired ∙ moved_at_unfired w w2 (focus command) (λ p q. DoneAt w command p q reply) (done_unfired w command reply) done.moved r tells))
+    over (inl (inl (inr done))) = absurd (true≢false (sym fired ∙ moved_at_unfired w w2 (focus command) (λ p q. DoneAt w command p q reply) (λ p q. done_unfired w (doing command) reply p q (tended command)) done.moved r tells))
     over (inl (inr fault)) = fault.says
-    over (inr peer) = absurd (true≢false (sym fired ∙ moved_at_unfired w w2 (focus command) (PeerBreaks w command) (peer_unfired w command) peer.moved r tells))
+    over (inr peer) = absurd (true≢false (sym fired ∙ moved_at_unfired w w2 (focus command) (PeerBreaks w command) (peer_unfired w (doing command)) peer.moved r tells))

@@ -1,4 +1,5 @@
 pub mod StormFacts
+pub mod TendFacts
 pub mod PromiseFacts
 pub mod WrittenFacts
 pub mod StormedFacts

@@ -10,9 +10,9 @@ use Rattle.std.proofs.lemmas.Map.Views.{any-filter_same}
 use Rattle.std.proofs.Math.Bool.{and_comm, or_comm}
 use Rattle.mc_model.proofs.Members.{any_agree}
 use Rattle.mc_runs.specs.Promises.{same_pair}
-use Rattle.mc_world.specs.Step.{with_link}
-use Rattle.mc_world.specs.Worlds.{is_linked, joins}
-use Rattle.mc_world.specs.declared.links.Link.{Link}
+use Rattle.mc_seats.specs.Step.{with_link}
+use Rattle.mc_seats.specs.Worlds.{is_linked, joins}
+use Rattle.mc_seats.specs.declared.links.Link.{Link}
 
 equal_back : (a b : ℕ) → (a == b) ≡ (b == a)
 equal_back a b = both_ways (a == b) (b == a) (λ e. eq-eqb b a (sym (eqb-true a b e))) (λ e. eq-eqb a b (sym (eqb-true b a e)))

@@ -22,22 +22,25 @@ use Rattle.mc_drain.specs.declared.repairing.Repaired.{Repaired}
 use Rattle.mc_drain.specs.declared.working.WorkError.{WorkError}
 use Rattle.mc_drain.specs.declared.working.WorkError.TheVariants.{PeerFault}
 use Rattle.mc_drain.specs.declared.working.Worked.{Worked}
-use Rattle.mc_node.specs.Storms.{StormLeads}
+use Rattle.mc_storm.specs.Storms.{StormLeads}
 use Rattle.mc_script.specs.Line.{line_of}
 use Rattle.mc_script.specs.declared.command.Command.{Command}
-use Rattle.mc_script.specs.declared.command.Command.TheVariants.{Put, Del, Begin, BatchPut, BatchDel, Commit, Get, Has as HasKey, Query, Heads as HeadsOf}
-use Rattle.mc_script.specs.declared.command.Command.TheVariants.{Cast, Wire, Hear, Plant, Link, Step as StepOf, Work, Repair, Storm, State as StateOf, Same, Stop, Open, StopAt, StopAfter}
+use Rattle.mc_script.specs.declared.command.Command.TheVariants.{Get, Has as HasKey, Query, Heads as HeadsOf}
 use Rattle.mc_script.specs.declared.reply.Reply.{Reply}
 use Rattle.mc_script.specs.declared.reply.Reply.TheVariants.{Value, Has, Rows, Heads}
-use Rattle.mc_world.specs.declared.entry.LineEntry.{LineEntry}
-use Rattle.mc_world.specs.Asks.{focus, is_named, may_fail}
-use Rattle.mc_world.specs.Effects.{DoneAt, Happens, EventsOf}
-use Rattle.mc_runs.specs.Promises.{ContentGrows, GrowsAt, OnlyGrows, is_read, read_at}
+use Rattle.mc_seats.specs.declared.entry.LineEntry.{LineEntry}
+use Rattle.mc_seats.specs.Asks.{focus, is_named, may_fail}
+use Rattle.mc_seats.specs.Calling.{Batches, Blocks, Calling, Nothing, Reach}
+use Rattle.mc_seats.specs.Calls.{is_read, reads_by}
+use Rattle.mc_seats.specs.Doing.{At, Calls, Casts, Doing, Hears, Repairs, Steps, Storms, Tends, Works, doing}
+use Rattle.mc_seats.specs.Effects.{CallsAt, DoneAt, EventsOf, done_by, events_by, happens_by}
+use Rattle.mc_runs.specs.Promises.{ContentGrows, GrowsAt, OnlyGrows, read_at}
 use Rattle.mc_runs.specs.Runs.{Answer, LineStep, Runs}
-use Rattle.mc_world.specs.Step.{CutShort, FaultsOf, GivesBack, PeerBreaks, Row, Step}
-use Rattle.mc_world.specs.Works.{RepairsTo, WorksTo, budget_of, offered_by, repair_budget}
-use Rattle.mc_world.specs.Worlds.{IfRuns, Moved, MovedAt, Place, WorldState, peers_of, state_at}
+use Rattle.mc_seats.specs.Step.{CutShort, FaultsOf, GivesBack, PeerBreaks, Row, Step, breaks_by, faults_by}
+use Rattle.mc_seats.specs.Works.{RepairsTo, WorksTo, budget_of, offered_by, repair_budget}
+use Rattle.mc_seats.specs.Worlds.{Moved, MovedAt, Place, WorldState, peers_of, state_at}
 use Rattle.mc_runs.proofs.StormFacts.{calls_grow, storm_breaks_grow}
+use Rattle.mc_runs.proofs.TendFacts.{IsTended, if_runs, tended}
 
 -- what is told only grows
 
@@ -107,11 +110,6 @@ all_then a b c g h = record {
   each = λ r. place_then (slice_get a.places r) (slice_get b.places r) (slice_get c.places r) (g.each r) (h.each r);
 }
 
--- what runs
-pub if_runs : (run : Option Running) (P : Running → Type 0) → IfRuns run P → (now : Running) × P now
-if_runs None P h = absurd h
-if_runs (Some run) P h = (run, h)
-
 -- a job that is given back changes the wanted set alone
 pub back_is : (p q : Place) → GivesBack p q → (run : Running) × (q ≡ record p { run = Some run })
 back_is p q g =
@@ -128,57 +126,46 @@ work_grows peers budget result p q works = told_content (WorkLeads budget (offer
 repair_grows : (peers : List Place) (result : Result Repaired WorkError) (p q : Place) → RepairsTo peers result p q → ContentGrows p.content q.content
 repair_grows peers result p q repairs = told_content (RepairLeads repair_budget (offered_by peers) result) (λ s t leads. leads.grows) p.content q.content p.fuse q.fuse p.run q.run repairs.silent repairs.told
 
-peer_grows : (w : WorldState) (command : Command) (p q : Place) → PeerBreaks w command p q → ContentGrows p.content q.content
-peer_grows w (Work r workers budget) p q breaks = work_grows (peers_of w r) (budget_of budget) (Err PeerFault) p q breaks
-peer_grows w (Repair r workers) p q breaks = repair_grows (peers_of w r) (Err PeerFault) p q breaks
-peer_grows w command p q back = back_grows p q back
+peer_grows : (w : WorldState) (d : Doing) (p q : Place) → breaks_by w d p q → ContentGrows p.content q.content
+peer_grows w (At r (Works budget)) p q breaks = work_grows (peers_of w r) (budget_of budget) (Err PeerFault) p q breaks
+peer_grows w (At r Repairs) p q breaks = repair_grows (peers_of w r) (Err PeerFault) p q breaks
+peer_grows w d p q back = back_grows p q back
 
 module _ (law : GrowLaw) where
-  happens_grows : (w : WorldState) (command : Command) (p q : Place) (reply : Reply) → (p.content ≡ None → q.content ≡ None) → Happens w command p q reply → ContentGrows p.content q.content
-  happens_grows w command p q reply silent happens =
-      told_content (λ s new. (events : List Event) × EventsOf w s command events reply × Goes events s new) (λ s t h. goes_grows law h.0 s t h.2) p.content q.content p.fuse q.fuse p.run q.run silent happens
+  happens_grows : (w : WorldState) (d : Doing) (p q : Place) (reply : Reply) → (p.content ≡ None → q.content ≡ None) → happens_by w d p q reply → ContentGrows p.content q.content
+  happens_grows w d p q reply silent happens =
+      told_content (λ s new. (events : List Event) × events_by w s d events reply × Goes events s new) (λ s t h. goes_grows law h.0 s t h.2) p.content q.content p.fuse q.fuse p.run q.run silent happens
 
-  done_grows : (w : WorldState) (command : Command) (reply : Reply) (p q : Place) → DoneAt w command p q reply → ContentGrows p.content q.content
-  done_grows w (Cast r) reply p q h = content_is p.content q.content (ap (λ (x : Place). x.content) h)
-  done_grows w (Plant r cid bytes) reply p q h = content_is p.content q.content (ap (λ (x : Place). x.content) h.0)
-  done_grows w (StateOf r) reply p q h = content_is p.content q.content (ap (λ (x : Place). x.content) h.0)
-  done_grows w (Stop r) reply p q h = content_is p.content q.content (ap (λ (x : Place). x.content) h.0)
-  done_grows w (Open r) reply p q h = content_is p.content q.content h.0.tells.0
-  done_grows w (Work r workers budget) reply p q h = work_grows (peers_of w r) (budget_of budget) (Ok h.value) p q h.works
-  done_grows w (Repair r workers) reply p q h = repair_grows (peers_of w r) (Ok h.value) p q h.repairs
-  done_grows w (Storm r writers writes) reply p q h = told_content (StormLeads writers writes (Ok h.value) ⊥) (λ s t ends. calls_grow law ends.calls s t ends.run) p.content q.content p.fuse q.fuse p.run q.run h.runs.silent h.told
-  done_grows w (StopAt r commit) reply p q h = content_is p.content q.content (ap (λ (x : Place). x.content) h.0)
-  done_grows w (StopAfter r commit) reply p q h = content_is p.content q.content (ap (λ (x : Place). x.content) h.0)
-  done_grows w (Put r key bytes) reply p q h = happens_grows w (Put r key bytes) p q reply h.0.0.silent h.1
-  done_grows w (Del r key) reply p q h = happens_grows w (Del r key) p q reply h.0.0.silent h.1
-  done_grows w (Begin r) reply p q h = happens_grows w (Begin r) p q reply h.0.0.silent h.1
-  done_grows w (BatchPut r key bytes) reply p q h = happens_grows w (BatchPut r key bytes) p q reply h.0.0.silent h.1
-  done_grows w (BatchDel r key) reply p q h = happens_grows w (BatchDel r key) p q reply h.0.0.silent h.1
-  done_grows w (Commit r) reply p q h = happens_grows w (Commit r) p q reply h.0.0.silent h.1
-  done_grows w (Get r key) reply p q h = content_is p.content q.content (ap (λ (x : Place). x.content) h.0.0)
-  done_grows w (HasKey r key) reply p q h = content_is p.content q.content (ap (λ (x : Place). x.content) h.0.0)
-  done_grows w (Query r prefix skip take) reply p q h = content_is p.content q.content (ap (λ (x : Place). x.content) h.0.0)
-  done_grows w (HeadsOf r) reply p q h = content_is p.content q.content (ap (λ (x : Place). x.content) h.0.0)
-  done_grows w (Hear r message) reply p q h = happens_grows w (Hear r message) p q reply h.0.0.silent h.1
-  done_grows w (StepOf r) reply p q h = happens_grows w (StepOf r) p q reply h.0.0.silent h.1
-  done_grows w (Wire bytes) reply p q h = absurd h.0
-  done_grows w (Link r other up) reply p q h = absurd h.0
-  done_grows w (Same r other) reply p q h = absurd h.0
+  reach_grows : (w : WorldState) (d : Doing) (reach : Reach) (call : Calling) (reply : Reply) (p q : Place) → CallsAt reach call p q reply → happens_by w d p q reply → ContentGrows p.content q.content
+  reach_grows w d Nothing call reply p q h happens = content_is p.content q.content (ap (λ (x : Place). x.content) h.0)
+  reach_grows w d (Batches B) call reply p q h happens = content_is p.content q.content h.1.0
+  reach_grows w d (Blocks B) call reply p q h happens = happens_grows w d p q reply h.0.silent happens
 
-  faults_grow : (w : WorldState) (command : Command) (own : Type 0) (s t : ReplicaState) → FaultsOf w command own s t → GoesOn s.state.durable t.state.durable
-  faults_grow w (Work r workers budget) own s t leads = leads.grows
-  faults_grow w (Repair r workers) own s t leads = leads.grows
-  faults_grow w (Storm r writers writes) own s t breaks = storm_breaks_grow law writers writes own s t breaks
-  faults_grow w command own s t f = breaks_grows law f.events own s t f.breaks
+  done_grows : (w : WorldState) (d : Doing) (reply : Reply) (p q : Place) → IsTended d → done_by w d p q reply → ContentGrows p.content q.content
+  done_grows w (At r (Calls call)) reply p q tended h = reach_grows w (At r (Calls call)) call.reach call reply p q h.0 h.1
+  done_grows w (At r (Tends tending)) reply p q tended h = content_is p.content q.content (tended.content_same p q reply h)
+  done_grows w (At r Casts) reply p q tended h = content_is p.content q.content (ap (λ (x : Place). x.content) h)
+  done_grows w (At r (Hears message)) reply p q tended h = happens_grows w (At r (Hears message)) p q reply h.0.0.silent h.1
+  done_grows w (At r Steps) reply p q tended h = happens_grows w (At r Steps) p q reply h.0.0.silent h.1
+  done_grows w (At r (Works budget)) reply p q tended h = work_grows (peers_of w r) (budget_of budget) (Ok h.value) p q h.works
+  done_grows w (At r Repairs) reply p q tended h = repair_grows (peers_of w r) (Ok h.value) p q h.repairs
+  done_grows w (At r (Storms writers writes)) reply p q tended h = told_content (StormLeads writers writes (Ok h.value) ⊥) (λ s t ends. calls_grow law ends.calls s t ends.run) p.content q.content p.fuse q.fuse p.run q.run h.runs.silent h.told
+  done_grows w d reply p q tended h = absurd h.0
+
+  faults_grow : (w : WorldState) (d : Doing) (own : Type 0) (s t : ReplicaState) → faults_by w d own s t → GoesOn s.state.durable t.state.durable
+  faults_grow w (At r (Works budget)) own s t leads = leads.grows
+  faults_grow w (At r Repairs) own s t leads = leads.grows
+  faults_grow w (At r (Storms writers writes)) own s t breaks = storm_breaks_grow law writers writes own s t breaks
+  faults_grow w d own s t f = breaks_grows law f.events own s t f.breaks
 
   cut_grows : (w : WorldState) (command : Command) (own : Type 0) (p q : Place) → CutShort w command own p q → ContentGrows p.content q.content
-  cut_grows w command own p q cut = told_content (FaultsOf w command own) (faults_grow w command own) p.content q.content p.fuse q.fuse p.run q.run cut.silent cut.told
+  cut_grows w command own p q cut = told_content (FaultsOf w command own) (faults_grow w (doing command) own) p.content q.content p.fuse q.fuse p.run q.run cut.silent cut.told
 
   row_grows : (w : WorldState) (command : Command) (named own desk : ℕ → Type 0) (reply : Reply) (w2 : WorldState) → Row w command named own desk reply w2 → OnlyGrows w w2
   row_grows w command named own desk reply w2 (inl (inl (inl refused))) = world_grows w w2 (ap (λ (x : WorldState). x.places) refused.same)
-  row_grows w command named own desk reply w2 (inl (inl (inr done))) = moved_at_grows w w2 (focus command) (λ p q. DoneAt w command p q reply) (done_grows w command reply) done.moved
+  row_grows w command named own desk reply w2 (inl (inl (inr done))) = moved_at_grows w w2 (focus command) (λ p q. DoneAt w command p q reply) (λ p q. done_grows w (doing command) reply p q (tended command)) done.moved
   row_grows w command named own desk reply w2 (inl (inr fault)) = moved_grows w w2 fault.at (CutShort w command (own fault.at)) (cut_grows w command (own fault.at)) fault.moved
-  row_grows w command named own desk reply w2 (inr peer) = moved_at_grows w w2 (focus command) (PeerBreaks w command) (peer_grows w command) peer.moved
+  row_grows w command named own desk reply w2 (inr peer) = moved_at_grows w w2 (focus command) (PeerBreaks w command) (peer_grows w (doing command)) peer.moved
 
   pub step_grows : (w : WorldState) (command : Command) (entry : LineEntry) (reply : Reply) (w2 : WorldState) → Step w command entry reply w2 → OnlyGrows w w2
   step_grows w command entry reply w2 step = row_grows w command _ _ _ reply w2 step.row
@@ -244,23 +231,17 @@ after_told : (P : ReplicaState → ReplicaState → Type 0) (s : ReplicaState) (
 after_told P s a None is told = absurd (subst (λ x. Told x None P) is told)
 after_told P s a (Some t) is told = (t, subst (λ x. Told x (Some t) P) is told)
 
-happened : (w : WorldState) (command : Command) (p q : Place) (reply : Reply) → is_read command ≡ true → DoneAt w command p q reply → Happens w command p q reply
-happened w (Get r key) p q reply read done = done.1
-happened w (HasKey r key) p q reply read done = done.1
-happened w (Query r prefix skip take) p q reply read done = done.1
-happened w (HeadsOf r) p q reply read done = done.1
-happened w command p q reply read done = absurd (true≢false (sym read))
+happened : (w : WorldState) (d : Doing) (p q : Place) (reply : Reply) → reads_by d ≡ true → done_by w d p q reply → happens_by w d p q reply
+happened w (At r (Calls call)) p q reply read done = done.1
+happened w d p q reply read done = absurd (true≢false (sym read))
 
 reads_still : (command : Command) (other : ℕ) → is_read command ≡ true → is_read (read_at other command) ≡ true
-reads_still (Get r key) other read = refl
-reads_still (HasKey r key) other read = refl
-reads_still (Query r prefix skip take) other read = refl
-reads_still (HeadsOf r) other read = refl
-reads_still command other read = absurd (true≢false (sym read))
+reads_still (Get r key) other read = read
+reads_still command other read = read
 
 pub equal_answers : (law : AnswersLaw) (heads_law : HeadsLaw) (w w2 : WorldState) (p p2 q q2 : Place) (s t : ReplicaState) (command : Command) (other : ℕ) (reply said : Reply) → is_read command ≡ true
     → state_at p ≡ Some s → state_at q ≡ Some t → SameMembers (blocks_of s.state.durable) (blocks_of t.state.durable) → DoneAt w command p p2 reply → DoneAt w2 (read_at other command) q q2 said → reply ≡ said
 equal_answers law heads_law w w2 p p2 q q2 s t command other reply said read at_p at_q same done done2 =
-    let first = after_told (λ s new. (events : List Event) × EventsOf w s command events reply × Goes events s new) s (state_at p) (state_at p2) at_p (happened w command p p2 reply read done) in
-    let second = after_told (λ s new. (events : List Event) × EventsOf w2 s (read_at other command) events said × Goes events s new) t (state_at q) (state_at q2) at_q (happened w2 (read_at other command) q q2 said (reads_still command other read) done2) in
+    let first = after_told (λ s new. (events : List Event) × EventsOf w s command events reply × Goes events s new) s (state_at p) (state_at p2) at_p (happened w (doing command) p p2 reply read done) in
+    let second = after_told (λ s new. (events : List Event) × EventsOf w2 s (read_at other command) events said × Goes events s new) t (state_at q) (state_at q2) at_q (happened w2 (doing (read_at other command)) q q2 said (reads_still command other read) done2) in
     planned_equal law heads_law w w2 s t command other first.1.0 second.1.0 reply said read same first.1.1 second.1.1

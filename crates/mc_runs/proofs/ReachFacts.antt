@@ -8,8 +8,8 @@ use Rattle.mc_model.specs.Front.{gaps}
 use Rattle.mc_model.specs.Kept.{Kept, processed}
 use Rattle.mc_model.specs.State.{Running, durable_of, kept_of}
 use Rattle.mc_core.specs.Events.{state_of}
-use Rattle.mc_core.specs.declared.error.CoreError.{CoreError}
-use Rattle.mc_core.specs.declared.error.CoreError.TheVariants as core
+use Rattle.mc_core.specs.declared.CoreError.{CoreError}
+use Rattle.mc_core.specs.declared.CoreError.TheVariants as core
 use Rattle.mc_core.proofs.SettledFacts.{clean_gaps}
 use Rattle.mc_drain.specs.Repairs.{RepairLeads}
 use Rattle.mc_drain.specs.declared.repairing.Repaired.{Repaired}
@@ -19,16 +19,16 @@ use Rattle.mc_script.specs.declared.command.Command.{Command}
 use Rattle.mc_script.specs.declared.command.Command.TheVariants.{Repair}
 use Rattle.mc_script.specs.declared.reply.Reply.{Reply}
 use Rattle.mc_script.specs.declared.reply.Reply.TheVariants.{Clean}
-use Rattle.mc_world.specs.declared.acting.ActError.{ActError}
-use Rattle.mc_world.specs.declared.entry.LineEntry.{LineEntry}
-use Rattle.mc_world.specs.Asks.{is_named}
-use Rattle.mc_world.specs.Effects.{IsReply, RefusedAt}
+use Rattle.mc_seats.specs.declared.error.ActError.{ActError}
+use Rattle.mc_seats.specs.declared.entry.LineEntry.{LineEntry}
+use Rattle.mc_seats.specs.Asks.{is_named}
+use Rattle.mc_seats.specs.Effects.{IsReply, RefusedAt}
 use Rattle.mc_runs.specs.Promises.{AfterLine, HasSettled, IsLineAt, IsSettled}
 use Rattle.mc_runs.specs.Runs.{Answer, LineStep, Runs}
-use Rattle.mc_world.specs.Step.{IsDone, Row, Step}
-use Rattle.mc_world.specs.Works.{RepairsTo, offered_by, repair_budget, repaired_reply}
-use Rattle.mc_world.specs.Worlds.{Place, WorldState, peers_of}
-use Rattle.mc_world.proofs.OpeningFacts.{none_of_length}
+use Rattle.mc_seats.specs.Step.{IsDone, Row, Step}
+use Rattle.mc_seats.specs.Works.{RepairsTo, offered_by, repair_budget, repaired_reply}
+use Rattle.mc_seats.specs.Worlds.{Place, WorldState, peers_of}
+use Rattle.mc_seats.proofs.OpeningFacts.{none_of_length}
 use Rattle.mc_runs.proofs.WrittenFacts.{at_there, moved_stands}
 
 -- nothing else is answered by `clean`

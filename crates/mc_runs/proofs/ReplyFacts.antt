@@ -1,34 +1,28 @@
 -- What is answered where a command is done, and where it is refused.
-use Rattle.std.proofs.Common.{◌≡◌, ℕ, Bool, true, false, true≢false, List, length, Option, Some, None, refl, sym, ◌∙◌, ap, nat_lt}
-use Rattle.std.specs.Prelude.{slice_get, ⊤}
+use Rattle.std.proofs.Common.{◌≡◌, ℕ, Bool, true, false, List, length, Option, Some, None, refl, sym, ◌∙◌, ap, nat_lt}
+use Rattle.std.specs.Prelude.{slice_get}
 use Rattle.std.specs.Option.{option_or}
 use Rattle.mc_model.specs.State.{Running}
-use Rattle.mc_core.specs.declared.error.CoreError.{CoreError}
-use Rattle.mc_core.specs.declared.error.CoreError.TheVariants as core
+use Rattle.mc_core.specs.declared.CoreError.{CoreError}
+use Rattle.mc_core.specs.declared.CoreError.TheVariants as core
 use Rattle.mc_drain.specs.declared.repairing.Repaired.{Repaired}
 use Rattle.mc_drain.specs.declared.repairing.Repaired.TheVariants as repaired
 use Rattle.mc_drain.specs.declared.working.Worked.{Worked}
 use Rattle.mc_drain.specs.declared.working.Worked.TheVariants as worked
 use Rattle.mc_script.specs.declared.command.Command.{Command}
-use Rattle.mc_script.specs.declared.command.Command.TheVariants.{Put, Del, Begin, BatchPut, BatchDel, Commit, Get, Has as HasKey, Query, Heads as HeadsOf}
-use Rattle.mc_script.specs.declared.command.Command.TheVariants.{Cast, Wire, Hear, Plant, Link, Step as StepOf, Work, Repair, Storm, State as StateOf, Same as SameOf, Stop, Open, StopAt, StopAfter}
 use Rattle.mc_script.specs.declared.reply.Reply.{Reply}
-use Rattle.mc_script.specs.declared.reply.Reply.TheVariants.{Idle, Processed, Missing, Bad, Stopped, FaultKeeper, FaultPeer}
-use Rattle.mc_world.specs.Asks.{focus, has_message, is_among, is_there}
-use Rattle.mc_world.specs.Effects.{HasNumbers, HearsSome, IsIdle, IsReply, RefusedAt, open_reply, stop_reply}
-use Rattle.mc_world.specs.Step.{IsDone, Refuses, RefusedOf, answers_fault, either_reply, is_fault}
-use Rattle.mc_world.specs.Works.{repaired_reply, worked_reply}
-use Rattle.mc_world.specs.Worlds.{Place, WorldState}
-use Rattle.mc_runs.proofs.PromiseFacts.{if_runs}
-use Rattle.mc_world.proofs.SeatFacts.{first}
+use Rattle.mc_script.specs.declared.reply.Reply.TheVariants.{Idle, Processed, Missing, Bad}
+use Rattle.mc_seats.specs.Asks.{among_by, focus_by, has_message, is_there}
+use Rattle.mc_seats.specs.Calling.{Batches, Blocks, Calling, Nothing, Reach}
+use Rattle.mc_seats.specs.Doing.{Act, At, Calls, Casts, Compares, Doing, Hears, Links, Repairs, Sends, Steps, Storms, Tends, Works, doing}
+use Rattle.mc_seats.specs.Effects.{CallsAt, HearsSome, IsIdle, IsReply, done_by, open_reply, refused_by, stop_reply}
+use Rattle.mc_seats.specs.Step.{IsDone, Refuses, answers_fault, either_reply, is_fault, refuses_by, says_by, sets_by}
+use Rattle.mc_seats.specs.Tending.{Either, Rests, Rule, Runs, rule_reply}
+use Rattle.mc_seats.specs.Works.{repaired_reply, worked_reply}
+use Rattle.mc_seats.specs.Worlds.{MovedAt, Place, WorldState}
+use Rattle.mc_runs.proofs.TendFacts.{IsTended, SaysPlainly, is_plain, says_plainly, tended}
+use Rattle.mc_seats.proofs.SeatFacts.{first}
 use Rattle.mc_runs.proofs.WrittenFacts.{at_there}
-
--- neither `stopped` nor a fault
-abbrev pub is_plain : Reply → Bool
-is_plain Stopped = false
-is_plain FaultKeeper = false
-is_plain FaultPeer = false
-is_plain reply = true
 
 hears_plainly : (old new : Option Running) (reply : Reply) → HearsSome old new reply → is_plain reply ≡ true
 hears_plainly None new reply h = absurd h
@@ -52,45 +46,27 @@ repairs_plainly (repaired.Open gaps) = refl
 repairs_plainly (repaired.Again processed) = refl
 
 -- a command that is done is answered so
+reach_plainly : (reach : Reach) (call : Calling) (p q : Place) (reply : Reply) → ((value : call.Answer) → is_plain (call.says value) ≡ true) → CallsAt reach call p q reply → is_plain reply ≡ true
+reach_plainly Nothing call p q reply plain h = ap is_plain h.1.1 ∙ plain h.1.0
+reach_plainly (Batches B) call p q reply plain h = ap is_plain h.2.1 ∙ plain h.2.0
+reach_plainly (Blocks B) call p q reply plain h = ap is_plain h.1.1 ∙ plain h.1.0
+
+plainly : (w : WorldState) (d : Doing) (reply : Reply) (w2 : WorldState) → SaysPlainly d → IsTended d → MovedAt (focus_by d) w.places w2.places (λ p q. done_by w d p q reply) → says_by w d reply → sets_by w d reply w2.around
+    → is_plain reply ≡ true
+plainly w (At r (Calls call)) reply w2 plain is moved says around = reach_plainly call.reach call moved.old moved.new reply plain moved.holds.0
+plainly w (At r (Tends tending)) reply w2 plain is moved says around = is.plain moved.old moved.new reply moved.holds
+plainly w (At r Casts) reply w2 plain is moved says around = ap is_plain around.numbered
+plainly w (At r (Hears message)) reply w2 plain is moved says around = hears_plainly moved.old.run moved.new.run reply moved.holds.0.2
+plainly w (At r Steps) reply w2 plain is moved says around = idles_plainly moved.old.run reply moved.holds.0.1
+plainly w (At r (Works budget)) reply w2 plain is moved says around = ap is_plain moved.holds.says ∙ works_plainly moved.holds.value
+plainly w (At r Repairs) reply w2 plain is moved says around = ap is_plain moved.holds.says ∙ repairs_plainly moved.holds.value
+plainly w (At r (Storms writers writes)) reply w2 plain is moved says around = ap is_plain moved.holds.says
+plainly w (Sends bytes) reply w2 plain is moved says around = ap is_plain around.numbered
+plainly w (Links r other up) reply w2 plain is moved says around = ap is_plain around.0
+plainly w (Compares r other) reply w2 plain is moved says around = ap is_plain says.1
+
 pub done_plainly : (w : WorldState) (command : Command) (reply : Reply) (w2 : WorldState) → IsDone w command reply w2 → is_plain reply ≡ true
-done_plainly w (Put r key bytes) reply w2 done = ap is_plain done.moved.holds.0.1.1
-done_plainly w (Del r key) reply w2 done = ap is_plain done.moved.holds.0.1.1
-done_plainly w (Begin r) reply w2 done = ap is_plain done.moved.holds.0.2
-done_plainly w (BatchPut r key bytes) reply w2 done = ap is_plain done.moved.holds.0.2
-done_plainly w (BatchDel r key) reply w2 done = ap is_plain done.moved.holds.0.2
-done_plainly w (Commit r) reply w2 done = ap is_plain done.moved.holds.0.1.1
-done_plainly w (Get r key) reply w2 done = ap is_plain done.moved.holds.0.1.1
-done_plainly w (HasKey r key) reply w2 done = ap is_plain done.moved.holds.0.1.1
-done_plainly w (Query r prefix skip take) reply w2 done = ap is_plain done.moved.holds.0.1.1
-done_plainly w (HeadsOf r) reply w2 done = ap is_plain done.moved.holds.0.1.1
-done_plainly w (Cast r) reply w2 done = ap is_plain done.around.numbered
-done_plainly w (Wire bytes) reply w2 done = ap is_plain done.around.numbered
-done_plainly w (Hear r message) reply w2 done = hears_plainly done.moved.old.run done.moved.new.run reply done.moved.holds.0.2
-done_plainly w (Plant r cid bytes) reply w2 done = ap is_plain done.moved.holds.1
-done_plainly w (Link r other up) reply w2 done = ap is_plain done.around.0
-done_plainly w (StepOf r) reply w2 done = idles_plainly done.moved.old.run reply done.moved.holds.0.1
-done_plainly w (StateOf r) reply w2 done =
-    ap is_plain (if_runs done.moved.old.run (λ run. HasNumbers done.moved.old.content run reply) done.moved.holds.1).1.says
-done_plainly w (SameOf r other) reply w2 done = ap is_plain done.says.1
-done_plainly w (Stop r) reply w2 done = ap is_plain done.moved.holds.1
-done_plainly w (Open r) reply w2 done = ap is_plain done.moved.holds.1
-done_plainly w (Work r workers budget) reply w2 done = ap is_plain done.moved.holds.says ∙ works_plainly done.moved.holds.value
-done_plainly w (Repair r workers) reply w2 done = ap is_plain done.moved.holds.says ∙ repairs_plainly done.moved.holds.value
-done_plainly w (Storm r writers writes) reply w2 done = ap is_plain done.moved.holds.says
-done_plainly w (StopAt r commit) reply w2 done = ap is_plain done.moved.holds.1
-done_plainly w (StopAfter r commit) reply w2 done = ap is_plain done.moved.holds.1
-
--- the replica that a command works on is there
-abbrev pub IsWithin : Option ℕ → ℕ → Type 0
-IsWithin None count = ⊤
-IsWithin (Some r) count = nat_lt r count ≡ true
-
-pub focus_within : (count : ℕ) (bag : List (List ℕ)) (command : Command) → is_among count bag command ≡ true → IsWithin (focus command) count
-focus_within count bag (Wire bytes) there = tt
-focus_within count bag (Hear r message) there = first (nat_lt r count) (has_message bag message) there
-focus_within count bag (Link r other up) there = tt
-focus_within count bag (SameOf r other) there = tt
-focus_within count bag command there = there
+done_plainly w command reply w2 done = plainly w (doing command) reply w2 (says_plainly command) (tended command) done.moved done.says done.around
 
 -- no refusal is a fault
 
@@ -124,21 +100,25 @@ either_no_fault (Some p) (Some q) = both p.run q.run
     both (Some a) None = refl
     both (Some a) (Some b) = refl
 
-refused_no_fault : (w : WorldState) (command : Command) (reply : Reply) (p : Place) → RefusedAt w p command (Some reply) → is_fault reply ≡ false
-refused_no_fault w (Plant r cid bytes) reply p h = due_no_fault None reply refl h
-refused_no_fault w (StateOf r) reply p h = due_no_fault (stop_reply p.run) reply (stop_no_fault p.run) h
-refused_no_fault w (Stop r) reply p h = due_no_fault (stop_reply p.run) reply (stop_no_fault p.run) h
-refused_no_fault w (Open r) reply p h = due_no_fault (open_reply p.run) reply (open_no_fault p.run) h
-refused_no_fault w (StopAt r commit) reply p h = due_no_fault None reply refl h
-refused_no_fault w (StopAfter r commit) reply p h = due_no_fault None reply refl h
-refused_no_fault w command reply p h = error_no_fault h.0 reply h.3
+rule_no_fault : (rule : Rule) (run : Option Running) → due_fault (rule_reply rule run) ≡ false
+rule_no_fault Runs run = stop_no_fault run
+rule_no_fault Rests run = open_no_fault run
+rule_no_fault Either run = refl
 
-of_no_fault : (w : WorldState) (command : Command) (reply : Reply) (at : Option ℕ) → IsWithin at (length w.places) → RefusedOf w command at (Some reply) → is_fault reply ≡ false
-of_no_fault w command reply None within h = due_no_fault None reply refl h
-of_no_fault w command reply (Some r) within h =
-    let found = at_there w r (λ p. RefusedAt w p command (Some reply)) within h in
-    refused_no_fault w command reply found.0 found.2
+refused_no_fault : (w : WorldState) (d : Doing) (reply : Reply) (p : Place) → refused_by w p d (Some reply) → is_fault reply ≡ false
+refused_no_fault w (At r (Tends tending)) reply p h = due_no_fault (rule_reply tending.rule p.run) reply (rule_no_fault tending.rule p.run) h
+refused_no_fault w d reply p h = error_no_fault h.0 reply h.3
+
+within : (count : ℕ) (bag : List (List ℕ)) (r : ℕ) (act : Act) → among_by count bag (At r act) ≡ true → nat_lt r count ≡ true
+within count bag r (Hears message) there = first (nat_lt r count) (has_message bag message) there
+within count bag r act there = there
+
+no_fault_by : (w : WorldState) (d : Doing) (reply : Reply) → among_by (length w.places) w.around.bag d ≡ true → refuses_by w d (Some reply) → is_fault reply ≡ false
+no_fault_by w (At r act) reply there h =
+    let found = at_there w r (λ p. refused_by w p (At r act) (Some reply)) (within (length w.places) w.around.bag r act there) h in
+    refused_no_fault w (At r act) reply found.0 found.2
+no_fault_by w (Compares r other) reply there h = due_no_fault (either_reply (slice_get w.places r) (slice_get w.places other)) reply (either_no_fault (slice_get w.places r) (slice_get w.places other)) h
+no_fault_by w d reply there h = due_no_fault None reply refl h
 
 pub refuses_no_fault : (w : WorldState) (command : Command) (reply : Reply) → is_there w command ≡ true → Refuses w command (Some reply) → is_fault reply ≡ false
-refuses_no_fault w (SameOf r other) reply there h = due_no_fault (either_reply (slice_get w.places r) (slice_get w.places other)) reply (either_no_fault (slice_get w.places r) (slice_get w.places other)) h
-refuses_no_fault w command reply there h = of_no_fault w command reply (focus command) (focus_within (length w.places) w.around.bag command there) h
+refuses_no_fault w command = no_fault_by w (doing command)

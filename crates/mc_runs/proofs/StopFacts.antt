@@ -1,6 +1,6 @@
 -- `stopped` is answered exactly where a replica that a command works on doesn't run.
-use Rattle.std.proofs.Common.{◌≡◌, ℕ, Bool, true, false, true≢false, [], ◌∷◌, length, Option, Some, None, Result, Ok, Err, refl, sym, ◌∙◌, ap, subst, inl, inr, nat_lt}
-use Rattle.std.specs.Prelude.{◌||◌, ◌↔◌, is_some, slice_get, unwrap_or, if◌then◌else◌}
+use Rattle.std.proofs.Common.{◌≡◌, ℕ, Bool, true, false, true≢false, List, [], ◌∷◌, length, Option, Some, None, Result, Ok, Err, refl, sym, ◌∙◌, ap, subst, inl, inr, nat_lt}
+use Rattle.std.specs.Prelude.{◌||◌, ◌↔◌, cond, is_some, slice_get, if◌then◌else◌}
 use Rattle.std.specs.Option.{option_map, option_or}
 use Rattle.std.proofs.lemmas.Bool.{ltb-true, or_left}
 use Rattle.mc_key.specs.KeyRule.{key_fault}
@@ -8,23 +8,26 @@ use Rattle.mc_key.specs.declared.fault.KeyFault.{KeyFault}
 use Rattle.mc_model.specs.State.{OpenBatch, Running}
 use Rattle.mc_core.specs.Exact.{seen_of, stop_front}
 use Rattle.mc_core.specs.Refusals.{value_max}
-use Rattle.mc_core.specs.declared.error.CoreError.{CoreError}
-use Rattle.mc_core.specs.declared.error.CoreError.TheVariants as core
+use Rattle.mc_core.specs.declared.CoreError.{CoreError}
+use Rattle.mc_core.specs.declared.CoreError.TheVariants as core
 use Rattle.mc_script.specs.declared.command.Command.{Command}
 use Rattle.mc_script.specs.declared.command.Command.TheVariants.{Put, Del, Begin, BatchPut, BatchDel, Commit}
-use Rattle.mc_script.specs.declared.command.Command.TheVariants.{Wire, Hear, Plant, Link, State as StateOf, Same as SameOf, Stop, Open, StopAt, StopAfter}
+use Rattle.mc_script.specs.declared.command.Command.TheVariants.{Hear, Same as SameOf}
 use Rattle.mc_script.specs.declared.reply.Reply.{Reply}
 use Rattle.mc_script.specs.declared.reply.Reply.TheVariants.{Stopped}
-use Rattle.mc_world.specs.declared.acting.ActError.{ActError}
-use Rattle.mc_world.specs.declared.entry.LineEntry.{LineEntry}
-use Rattle.mc_world.specs.Asks.{focus, has_message, is_named, is_there}
-use Rattle.mc_world.specs.Effects.{AsksAt, IsReply, RefusedAt, batch_in, call_front, front_at, open_reply, stop_reply}
-use Rattle.mc_runs.specs.Promises.{asks_running, has_stopped, some_stopped}
-use Rattle.mc_world.specs.Step.{Asks, Refuses, Row, Step, either_reply, is_fault}
-use Rattle.mc_world.specs.Words.{has_some}
-use Rattle.mc_world.specs.Worlds.{Place, WorldState, is_down}
-use Rattle.mc_runs.proofs.ReplyFacts.{done_plainly, is_plain}
-use Rattle.mc_world.proofs.SeatFacts.{first, rest}
+use Rattle.mc_seats.specs.declared.error.ActError.{ActError}
+use Rattle.mc_seats.specs.declared.entry.LineEntry.{LineEntry}
+use Rattle.mc_seats.specs.Asks.{among_by, has_message, is_named, is_there}
+use Rattle.mc_seats.specs.Doing.{Act, At, Compares, Doing, Hears, Tends, doing}
+use Rattle.mc_seats.specs.Effects.{IsReply, asks_by, batch_in, call_front, front_by, refused_by, seen_by, stop_reply}
+use Rattle.mc_runs.specs.Promises.{asks_running, has_stopped, running_by, some_stopped}
+use Rattle.mc_seats.specs.Step.{Refuses, Row, Step, asked_by, either_reply, is_fault, refuses_by}
+use Rattle.mc_seats.specs.Tending.{Either, Rests, Rule, Runs, is_runs, rule_reply}
+use Rattle.mc_seats.specs.Words.{has_some}
+use Rattle.mc_seats.specs.Worlds.{Place, WorldState, is_down}
+use Rattle.mc_runs.proofs.ReplyFacts.{done_plainly}
+use Rattle.mc_runs.proofs.TendFacts.{is_plain}
+use Rattle.mc_seats.proofs.SeatFacts.{first, rest}
 use Rattle.mc_runs.proofs.WrittenFacts.{at_there, of_place, stands_within}
 
 -- the refusal of a replica that doesn't run, among all
@@ -87,62 +90,62 @@ down_by : (down : Bool) (due : Option CoreError) → is_stop due ≡ false → s
 down_by true due runs e = refl
 down_by false due runs e = absurd (true≢false (sym (ap is_stop e) ∙ runs))
 
-front_of_down : (w : WorldState) (p : Place) (command : Command) → is_down p.run ≡ true → front_at w p command ≡ Some core.Stopped
-front_of_down w p command down = ap (λ b. stop_front b (call_front w (batch_in p.run) command)) down
+seen_of_down : (w : WorldState) (p : Place) (d : Doing) → is_down p.run ≡ true → seen_by w p d ≡ Some core.Stopped
+seen_of_down w p d down = ap (λ b. stop_front b (front_by w (batch_in p.run) d)) down
 
 -- what is due at a replica
 
-stop_due : (run : Option Running) → Some Stopped ≡ stop_reply run → is_down run ≡ true
-stop_due None e = refl
-stop_due (Some run) e = absurd (true≢false (ap is_some e))
+-- `stopped` is the refusal of a replica that doesn't run, by the rule of a place
+rule_stopped : (rule : Rule) (run : Option Running) → Some Stopped ≡ rule_reply rule run → (is_runs rule ≡ true) × (is_down run ≡ true)
+rule_stopped Runs None e = (refl, refl)
+rule_stopped Runs (Some run) e = absurd (true≢false (ap is_some e))
+rule_stopped Rests None e = absurd (true≢false (ap is_some e))
+rule_stopped Rests (Some run) e = absurd (true≢false (ap due_stop e))
+rule_stopped Either run e = absurd (true≢false (ap is_some e))
 
-open_due : (run : Option Running) → Some Stopped ≡ open_reply run → is_down run ≡ true
-open_due None e = absurd (true≢false (ap is_some e))
-open_due (Some run) e = absurd (true≢false (ap due_stop e))
-
-due_of_down : (run : Option Running) → is_down run ≡ true → stop_reply run ≡ Some Stopped
-due_of_down None down = refl
-due_of_down (Some run) down = absurd (true≢false (sym down))
+rule_of_down : (rule : Rule) (run : Option Running) → is_runs rule ≡ true → is_down run ≡ true → rule_reply rule run ≡ Some Stopped
+rule_of_down Runs None is down = refl
+rule_of_down Runs (Some run) is down = absurd (true≢false (sym down))
+rule_of_down Rests run is down = absurd (true≢false (sym is))
+rule_of_down Either run is down = absurd (true≢false (sym is))
 
 same_reply : (reply other : Reply) → Some reply ≡ Some other → reply ≡ other
 same_reply reply other e = cc
 
--- `stopped` is the refusal of a replica that doesn't run
-stopped_is_down : (w : WorldState) (command : Command) (p : Place) → RefusedAt w p command (Some Stopped) → is_down p.run ≡ true
-stopped_is_down w (Plant r cid bytes) p h = absurd (true≢false (ap is_some h))
-stopped_is_down w (StateOf r) p h = stop_due p.run h
-stopped_is_down w (Stop r) p h = stop_due p.run h
-stopped_is_down w (Open r) p h = open_due p.run h
-stopped_is_down w (StopAt r commit) p h = absurd (true≢false (ap is_some h))
-stopped_is_down w (StopAfter r commit) p h = absurd (true≢false (ap is_some h))
-stopped_is_down w command p h = down_by (is_down p.run) (call_front w (batch_in p.run) command) (front_runs w (batch_in p.run) command) (sym h.1 ∙ stopped_error h.0 h.3)
+-- whether a replica is asked to run, and the one that is
+runs_some : (b : Bool) (r : ℕ) → has_some (cond b (r ∷ []) []) ≡ true → b ≡ true
+runs_some true r is = refl
+runs_some false r is = absurd (true≢false (sym is))
+
+is_asked : (r : ℕ) (act : Act) → has_some (running_by (At r act)) ≡ true → running_by (At r act) ≡ r ∷ []
+is_asked r (Tends tending) is = ap (λ b. cond b (r ∷ []) []) (runs_some (is_runs tending.rule) r is)
+is_asked r act is = refl
+
+abbrev FrontRuns : WorldState → Doing → Type 0
+FrontRuns w d = (batch : Option OpenBatch) → is_stop (front_by w batch d) ≡ false
+
+stopped_is_down : (w : WorldState) (r : ℕ) (act : Act) (p : Place) → FrontRuns w (At r act) → refused_by w p (At r act) (Some Stopped) → (is_down p.run ≡ true) × (running_by (At r act) ≡ r ∷ [])
+stopped_is_down w r (Tends tending) p runs h =
+    let stopped = rule_stopped tending.rule p.run h in
+    (stopped.1, ap (λ b. cond b (r ∷ []) []) stopped.0)
+stopped_is_down w r act p runs h = (down_by (is_down p.run) (front_by w (batch_in p.run) (At r act)) (runs (batch_in p.run)) (sym h.1 ∙ stopped_error h.0 h.3), refl)
 
 -- one that doesn't run refuses with `stopped`
-down_is_stopped : (w : WorldState) (command : Command) (reply : Reply) (p : Place) → has_some (asks_running command) ≡ true → is_down p.run ≡ true → RefusedAt w p command (Some reply) → reply ≡ Stopped
-down_is_stopped w (Plant r cid bytes) reply p asks down h = absurd (true≢false (sym asks))
-down_is_stopped w (StateOf r) reply p asks down h = same_reply reply Stopped (h ∙ due_of_down p.run down)
-down_is_stopped w (Stop r) reply p asks down h = same_reply reply Stopped (h ∙ due_of_down p.run down)
-down_is_stopped w (Open r) reply p asks down h = absurd (true≢false (sym asks))
-down_is_stopped w (StopAt r commit) reply p asks down h = absurd (true≢false (sym asks))
-down_is_stopped w (StopAfter r commit) reply p asks down h = absurd (true≢false (sym asks))
-down_is_stopped w command reply p asks down h = stopped_says h.0 reply (h.1 ∙ front_of_down w p command down) h.3
+down_is_stopped : (w : WorldState) (r : ℕ) (act : Act) (reply : Reply) (p : Place) → has_some (running_by (At r act)) ≡ true → is_down p.run ≡ true → refused_by w p (At r act) (Some reply) → reply ≡ Stopped
+down_is_stopped w r (Tends tending) reply p asks down h = same_reply reply Stopped (h ∙ rule_of_down tending.rule p.run (runs_some (is_runs tending.rule) r asks) down)
+down_is_stopped w r act reply p asks down h = stopped_says h.0 reply (h.1 ∙ seen_of_down w p (At r act) down) h.3
 
 -- and is not asked
 none_is_stop : None ≡ Some core.Stopped → ⊥
 none_is_stop e = true≢false (sym (ap is_some e))
 
-down_not_allowed : (w : WorldState) (command : Command) (p : Place) → has_some (asks_running command) ≡ true → is_down p.run ≡ true → RefusedAt w p command None → ⊥
-down_not_allowed w (Plant r cid bytes) p asks down h = true≢false (sym asks)
-down_not_allowed w (StateOf r) p asks down h = true≢false (sym (ap is_some (h ∙ due_of_down p.run down)))
-down_not_allowed w (Stop r) p asks down h = true≢false (sym (ap is_some (h ∙ due_of_down p.run down)))
-down_not_allowed w (Open r) p asks down h = true≢false (sym asks)
-down_not_allowed w (StopAt r commit) p asks down h = true≢false (sym asks)
-down_not_allowed w (StopAfter r commit) p asks down h = true≢false (sym asks)
-down_not_allowed w command p asks down h = none_is_stop (sym h.0 ∙ front_of_down w p command down)
+down_not_allowed : (w : WorldState) (r : ℕ) (act : Act) (p : Place) → has_some (running_by (At r act)) ≡ true → is_down p.run ≡ true → refused_by w p (At r act) None → ⊥
+down_not_allowed w r (Tends tending) p asks down h = true≢false (sym (ap is_some (h ∙ rule_of_down tending.rule p.run (runs_some (is_runs tending.rule) r asks) down)))
+down_not_allowed w r act p asks down h = none_is_stop (sym h.0 ∙ seen_of_down w p (At r act) down)
 
-down_not_asked : (w : WorldState) (command : Command) (p : Place) → has_some (asks_running command) ≡ true → is_down p.run ≡ true → AsksAt w command p → ⊥
-down_not_asked w (Open r) p asks down h = true≢false (sym asks)
-down_not_asked w command p asks down h = none_is_stop (sym h ∙ front_of_down w p command down)
+down_not_asked : (w : WorldState) (r : ℕ) (act : Act) (p : Place) → has_some (running_by (At r act)) ≡ true → is_down p.run ≡ true → asks_by w (At r act) p → ⊥
+down_not_asked w r (Tends tending) p asks down h = true≢false (ap is_some (sym (rule_of_down tending.rule p.run (runs_some (is_runs tending.rule) r asks) down) ∙ h))
+down_not_asked w r act p asks down h = none_is_stop (sym h ∙ seen_of_down w p (At r act) down)
 
 -- the replicas of a command
 
@@ -192,79 +195,63 @@ module _ (w : WorldState) (r other : ℕ) (there : is_there w (SameOf r other) �
 
 -- in a world
 
-refuses_stopped : (w : WorldState) (command : Command) → is_there w command ≡ true → Refuses w command (Some Stopped) → some_stopped w (asks_running command) ≡ true
-refuses_stopped w (Wire bytes) there h = absurd (true≢false (ap is_some h))
-refuses_stopped w (Link r other up) there h = absurd (true≢false (ap is_some h))
-refuses_stopped w (SameOf r other) there h = due_same w r other there h
-refuses_stopped w (Plant r cid bytes) there h = absurd (true≢false (ap is_some (at_there w r (λ p. RefusedAt w p (Plant r cid bytes) (Some Stopped)) there h).2))
-refuses_stopped w (StopAt r commit) there h = absurd (true≢false (ap is_some (at_there w r (λ p. RefusedAt w p (StopAt r commit) (Some Stopped)) there h).2))
-refuses_stopped w (StopAfter r commit) there h = absurd (true≢false (ap is_some (at_there w r (λ p. RefusedAt w p (StopAfter r commit) (Some Stopped)) there h).2))
-refuses_stopped w (Open r) there h = never_stopped (at_there w r (λ p. RefusedAt w p (Open r) (Some Stopped)) there h)
-  where
-    open_never : (run : Option Running) → Some Stopped ≡ open_reply run → ⊥
-    open_never None e = true≢false (ap is_some e)
-    open_never (Some run) e = true≢false (ap due_stop e)
+-- the replica of a command is there
+within : (count : ℕ) (bag : List (List ℕ)) (r : ℕ) (act : Act) → among_by count bag (At r act) ≡ true → nat_lt r count ≡ true
+within count bag r (Hears message) there = first (nat_lt r count) (has_message bag message) there
+within count bag r act there = there
 
-    never_stopped : (p : Place) × (slice_get w.places r ≡ Some p) × (Some Stopped ≡ open_reply p.run) → false ≡ true
-    never_stopped found = absurd (open_never found.0.run found.2)
-refuses_stopped w (Hear r message) there h =
-    let found = at_there w r (λ p. RefusedAt w p (Hear r message) (Some Stopped)) (first (nat_lt r (length w.places)) (has_message w.around.bag message) there) h in
-    one_down w r found.0 found.1 (stopped_is_down w (Hear r message) found.0 found.2)
-refuses_stopped w command there h =
-    let found = at_there w (unwrap_or (focus command) 0) (λ p. RefusedAt w p command (Some Stopped)) there h in
-    one_down w (unwrap_or (focus command) 0) found.0 found.1 (stopped_is_down w command found.0 found.2)
+refuses_stopped : (w : WorldState) (d : Doing) → FrontRuns w d → among_by (length w.places) w.around.bag d ≡ true → refuses_by w d (Some Stopped) → some_stopped w (running_by d) ≡ true
+refuses_stopped w (At r act) runs there h =
+    let found = at_there w r (λ p. refused_by w p (At r act) (Some Stopped)) (within (length w.places) w.around.bag r act there) h in
+    let stopped = stopped_is_down w r act found.0 runs found.2 in
+    ap (some_stopped w) stopped.1 ∙ one_down w r found.0 found.1 stopped.0
+refuses_stopped w (Compares r other) runs there h = due_same w r other there h
+refuses_stopped w d runs there h = absurd (true≢false (ap is_some h))
+
+has_of_some : (w : WorldState) (numbers : List ℕ) → some_stopped w numbers ≡ true → has_some numbers ≡ true
+has_of_some w [] is = absurd (true≢false (sym is))
+has_of_some w (r ∷ numbers) is = refl
 
 module _ (w : WorldState) where
-  stopped_refuses : (command : Command) (reply : Reply) → is_there w command ≡ true → some_stopped w (asks_running command) ≡ true → Refuses w command (Some reply) → reply ≡ Stopped
-  stopped_refuses (Wire bytes) reply there is h = absurd (true≢false (sym is))
-  stopped_refuses (Link r other up) reply there is h = absurd (true≢false (sym is))
-  stopped_refuses (Plant r cid bytes) reply there is h = absurd (true≢false (sym is))
-  stopped_refuses (Open r) reply there is h = absurd (true≢false (sym is))
-  stopped_refuses (StopAt r commit) reply there is h = absurd (true≢false (sym is))
-  stopped_refuses (StopAfter r commit) reply there is h = absurd (true≢false (sym is))
-  stopped_refuses (SameOf r other) reply there is h = same_reply reply Stopped (h ∙ same_due w r other there is)
-  stopped_refuses command reply there is h =
-      let found = down_one w (unwrap_or (focus command) 0) is in
-      down_is_stopped w command reply found.0 refl found.2 (of_place w (unwrap_or (focus command) 0) (λ p. RefusedAt w p command (Some reply)) found.0 found.1 h)
+  -- the replica that is asked to run, and doesn't
+  asked_down : (r : ℕ) (act : Act) → some_stopped w (running_by (At r act)) ≡ true → (p : Place) × (slice_get w.places r ≡ Some p) × (is_down p.run ≡ true)
+  asked_down r act is = down_one w r (ap (some_stopped w) (sym (is_asked r act (has_of_some w (running_by (At r act)) is))) ∙ is)
 
-  stopped_not_allowed : (command : Command) → is_there w command ≡ true → some_stopped w (asks_running command) ≡ true → Refuses w command None → ⊥
-  stopped_not_allowed (Wire bytes) there is h = true≢false (sym is)
-  stopped_not_allowed (Link r other up) there is h = true≢false (sym is)
-  stopped_not_allowed (Plant r cid bytes) there is h = true≢false (sym is)
-  stopped_not_allowed (Open r) there is h = true≢false (sym is)
-  stopped_not_allowed (StopAt r commit) there is h = true≢false (sym is)
-  stopped_not_allowed (StopAfter r commit) there is h = true≢false (sym is)
-  stopped_not_allowed (SameOf r other) there is h = true≢false (sym (ap is_some (h ∙ same_due w r other there is)))
-  stopped_not_allowed command there is h =
-      let found = down_one w (unwrap_or (focus command) 0) is in
-      down_not_allowed w command found.0 refl found.2 (of_place w (unwrap_or (focus command) 0) (λ p. RefusedAt w p command None) found.0 found.1 h)
+  stopped_refuses : (d : Doing) (reply : Reply) → among_by (length w.places) w.around.bag d ≡ true → some_stopped w (running_by d) ≡ true → refuses_by w d (Some reply) → reply ≡ Stopped
+  stopped_refuses (At r act) reply there is h =
+      let found = asked_down r act is in
+      down_is_stopped w r act reply found.0 (has_of_some w (running_by (At r act)) is) found.2 (of_place w r (λ p. refused_by w p (At r act) (Some reply)) found.0 found.1 h)
+  stopped_refuses (Compares r other) reply there is h = same_reply reply Stopped (h ∙ same_due w r other there is)
+  stopped_refuses d reply there is h = absurd (true≢false (sym is))
 
-  stopped_not_asked : (command : Command) → is_there w command ≡ true → some_stopped w (asks_running command) ≡ true → Asks w command → ⊥
-  stopped_not_asked (Wire bytes) there is h = true≢false (sym is)
-  stopped_not_asked (Link r other up) there is h = true≢false (sym is)
-  stopped_not_asked (Plant r cid bytes) there is h = true≢false (sym is)
-  stopped_not_asked (Open r) there is h = true≢false (sym is)
-  stopped_not_asked (StopAt r commit) there is h = true≢false (sym is)
-  stopped_not_asked (StopAfter r commit) there is h = true≢false (sym is)
-  stopped_not_asked (SameOf r other) there is h = true≢false (ap is_some (sym (same_due w r other there is) ∙ h))
-  stopped_not_asked command there is h =
-      let found = down_one w (unwrap_or (focus command) 0) is in
-      down_not_asked w command found.0 refl found.2 (of_place w (unwrap_or (focus command) 0) (AsksAt w command) found.0 found.1 h)
+  stopped_not_allowed : (d : Doing) → among_by (length w.places) w.around.bag d ≡ true → some_stopped w (running_by d) ≡ true → refuses_by w d None → ⊥
+  stopped_not_allowed (At r act) there is h =
+      let found = asked_down r act is in
+      down_not_allowed w r act found.0 (has_of_some w (running_by (At r act)) is) found.2 (of_place w r (λ p. refused_by w p (At r act) None) found.0 found.1 h)
+  stopped_not_allowed (Compares r other) there is h = true≢false (sym (ap is_some (h ∙ same_due w r other there is)))
+  stopped_not_allowed d there is h = true≢false (sym is)
+
+  stopped_not_asked : (d : Doing) → among_by (length w.places) w.around.bag d ≡ true → some_stopped w (running_by d) ≡ true → asked_by w d → ⊥
+  stopped_not_asked (At r act) there is h =
+      let found = asked_down r act is in
+      down_not_asked w r act found.0 (has_of_some w (running_by (At r act)) is) found.2 (of_place w r (asks_by w (At r act)) found.0 found.1 h)
+  stopped_not_asked (Compares r other) there is h = true≢false (ap is_some (sym (same_due w r other there is) ∙ h))
+  stopped_not_asked d there is h = h
 
   pub stopped_says_so : (command : Command) (entry : LineEntry) (reply : Reply) (w2 : WorldState) → Step w command entry reply w2 → some_stopped w (asks_running command) ≡ true → reply ≡ Stopped
   stopped_says_so command entry reply w2 step is = over step.row
     where
       over : Row w command (λ r. is_named entry.keepers r ≡ true) (λ r. is_named entry.own r ≡ true) (λ r. is_named entry.desks r ≡ true) reply w2 → reply ≡ Stopped
-      over (inl (inl (inl refused))) = stopped_refuses command reply step.there is refused.cause
-      over (inl (inl (inr done))) = absurd (stopped_not_allowed command step.there is done.allowed)
-      over (inl (inr fault)) = absurd (stopped_not_asked command step.there is fault.asked)
-      over (inr peer) = absurd (stopped_not_allowed command step.there is peer.allowed)
+      over (inl (inl (inl refused))) = stopped_refuses (doing command) reply step.there is refused.cause
+      over (inl (inl (inr done))) = absurd (stopped_not_allowed (doing command) step.there is done.allowed)
+      over (inl (inr fault)) = absurd (stopped_not_asked (doing command) step.there is fault.asked)
+      over (inr peer) = absurd (stopped_not_allowed (doing command) step.there is peer.allowed)
 
   pub says_so_stopped : (command : Command) (entry : LineEntry) (reply : Reply) (w2 : WorldState) → Step w command entry reply w2 → reply ≡ Stopped → some_stopped w (asks_running command) ≡ true
   says_so_stopped command entry reply w2 step says = over step.row
     where
       over : Row w command (λ r. is_named entry.keepers r ≡ true) (λ r. is_named entry.own r ≡ true) (λ r. is_named entry.desks r ≡ true) reply w2 → some_stopped w (asks_running command) ≡ true
-      over (inl (inl (inl refused))) = refuses_stopped w command step.there (subst (λ (x : Reply). Refuses w command (Some x)) says refused.cause)
+      over (inl (inl (inl refused))) = refuses_stopped w (doing command) (λ batch. front_runs w batch command) step.there (subst (λ (x : Reply). Refuses w command (Some x)) says refused.cause)
       over (inl (inl (inr done))) = absurd (true≢false (sym (done_plainly w command reply w2 done) ∙ ap is_plain says))
       over (inl (inr fault)) = absurd (true≢false (ap is_fault (sym fault.says ∙ says)))
       over (inr peer) = absurd (true≢false (ap is_fault (sym peer.says ∙ says)))

@@ -4,8 +4,8 @@ use Rattle.mc_model.specs.Events.{GoesOn}
 use Rattle.mc_model.proofs.Prefix.{goes_on_then}
 use Rattle.mc_core.specs.Events.{ReplicaState}
 use Rattle.mc_core.proofs.GrowthFacts.{GrowLaw, breaks_grows, goes_grows, same_goes}
-use Rattle.mc_node.specs.Interleavings.{StormCall, Write}
-use Rattle.mc_node.specs.Storms.{ActsBy, CallsRun, FailsBy, PutActs, StormBreaks, storm_key, storm_value}
+use Rattle.mc_storm.specs.Interleavings.{StormCall, Write}
+use Rattle.mc_storm.specs.Storms.{ActsBy, CallsRun, FailsBy, PutActs, StormBreaks, storm_key, storm_value}
 
 nothing_grows : (s t : ReplicaState) → t ≡ s → GoesOn s.state.durable t.state.durable
 nothing_grows s t same = subst (λ (x : ReplicaState). GoesOn s.state.durable x.state.durable) (sym same) (same_goes s.state.durable)

@@ -10,22 +10,22 @@ use Rattle.mc_model.specs.Made.{made_cid}
 use Rattle.mc_model.specs.State.{Running, kept_of}
 use Rattle.mc_core.specs.Events.{Goes, ReplicaState, state_of}
 use Rattle.mc_core.specs.Puts.{delta_of_put, made_events, next_links}
-use Rattle.mc_core.specs.declared.error.CoreError.{CoreError}
-use Rattle.mc_core.specs.declared.error.CoreError.TheVariants as core
+use Rattle.mc_core.specs.declared.CoreError.{CoreError}
+use Rattle.mc_core.specs.declared.CoreError.TheVariants as core
 use Rattle.mc_core.proofs.GrowthFacts.{GrowLaw}
-use Rattle.mc_node.specs.Interleavings.{StormCall, Write, one_if, puts_made}
-use Rattle.mc_node.specs.Storms.{ActsBy, CallsRun, PutActs, StormEnds, StormLeads, storm_key, storm_value}
+use Rattle.mc_storm.specs.Interleavings.{StormCall, Write, one_if, puts_made}
+use Rattle.mc_storm.specs.Storms.{ActsBy, CallsRun, PutActs, StormEnds, StormLeads, storm_key, storm_value}
 use Rattle.mc_script.specs.declared.command.Command.TheVariants.{Storm}
 use Rattle.mc_script.specs.declared.reply.Reply.{Reply}
 use Rattle.mc_script.specs.declared.reply.Reply.TheVariants.{Stormed}
-use Rattle.mc_world.specs.declared.acting.ActError.{ActError}
-use Rattle.mc_world.specs.declared.entry.LineEntry.{LineEntry}
-use Rattle.mc_world.specs.Asks.{is_named}
-use Rattle.mc_world.specs.Effects.{IsReply, RefusedAt}
+use Rattle.mc_seats.specs.declared.error.ActError.{ActError}
+use Rattle.mc_seats.specs.declared.entry.LineEntry.{LineEntry}
+use Rattle.mc_seats.specs.Asks.{is_named}
+use Rattle.mc_seats.specs.Effects.{IsReply, RefusedAt}
 use Rattle.mc_runs.specs.Promises.{ContentGrows, GrowsAt, HasMore, IsLineAt, OnlyGrows, SinceLine}
 use Rattle.mc_runs.specs.Runs.{Answer, Runs}
-use Rattle.mc_world.specs.Step.{Row, Step}
-use Rattle.mc_world.specs.Worlds.{Place, WorldState, state_at}
+use Rattle.mc_seats.specs.Step.{Row, Step}
+use Rattle.mc_seats.specs.Worlds.{Place, WorldState, state_at}
 use Rattle.mc_runs.proofs.WrittenFacts.{at_there, made_order, moved_stands, said_in, stands_since}
 
 -- how many blocks the calls of a storm add

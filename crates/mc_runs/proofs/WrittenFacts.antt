@@ -21,9 +21,9 @@ use Rattle.mc_core.specs.Exact.{stop_front}
 use Rattle.mc_core.specs.Uptakes.{with_store}
 use Rattle.mc_core.specs.Puts.{made_events, next_links, delta_of_put}
 use Rattle.mc_core.specs.Refusals.{no_batch_refusal}
-use Rattle.mc_core.specs.declared.error.CoreError.{CoreError}
-use Rattle.mc_core.specs.declared.error.CoreError.TheVariants as core
-use Rattle.mc_core.specs.declared.made.Written.{Written}
+use Rattle.mc_core.specs.declared.CoreError.{CoreError}
+use Rattle.mc_core.specs.declared.CoreError.TheVariants as core
+use Rattle.mc_core.specs.declared.Written.{Written}
 use Rattle.mc_core.proofs.EventFacts.{all_happen-append}
 use Rattle.mc_core.proofs.GrowthFacts.{GrowLaw, goes_grows}
 use Rattle.mc_script.specs.Line.{line_of}
@@ -31,16 +31,16 @@ use Rattle.mc_script.specs.declared.command.Command.{Command}
 use Rattle.mc_script.specs.declared.command.Command.TheVariants.{Put, Del, Commit}
 use Rattle.mc_script.specs.declared.reply.Reply.{Reply}
 use Rattle.mc_script.specs.declared.reply.Reply.TheVariants.{Priority, Deleted}
-use Rattle.mc_world.specs.declared.acting.ActError.{ActError}
-use Rattle.mc_world.specs.declared.entry.LineEntry.{LineEntry}
-use Rattle.mc_world.specs.Asks.{is_named}
-use Rattle.mc_world.specs.Effects.{IsReply, EventsOf, RefusedAt, batch_in, batch_priority}
+use Rattle.mc_seats.specs.declared.error.ActError.{ActError}
+use Rattle.mc_seats.specs.declared.entry.LineEntry.{LineEntry}
+use Rattle.mc_seats.specs.Asks.{is_named}
+use Rattle.mc_seats.specs.Effects.{IsReply, EventsOf, RefusedAt, batch_in, batch_priority}
 use Rattle.mc_runs.specs.Promises.{ContentGrows, GrowsAt, HasCommitted, HasDeleted, HasProcessed, IsLineAt, OnlyGrows, SinceLine, batch_at, batch_cid, chain_cids}
 use Rattle.mc_runs.specs.Runs.{Answer, LineStep, Runs}
-use Rattle.mc_world.specs.Step.{Row, Step}
-use Rattle.mc_world.specs.Worlds.{AtPlace, Moved, Place, WorldState, is_down, state_at}
+use Rattle.mc_seats.specs.Step.{Row, Step}
+use Rattle.mc_seats.specs.Worlds.{AtPlace, Moved, Place, WorldState, is_down, state_at}
 use Rattle.mc_runs.proofs.PromiseFacts.{runs_grow}
-use Rattle.mc_world.proofs.SeatFacts.{get_of_set}
+use Rattle.mc_seats.proofs.SeatFacts.{get_of_set}
 
 abbrev pub WrittenLaw : Type 0
 WrittenLaw = (kept : Kept) (links : List Cid) (delta : Delta) (s new : ReplicaState) → kept ≡ kept_of s.state.durable → Goes (made_events kept links delta) s new

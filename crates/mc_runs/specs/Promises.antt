@@ -1,6 +1,6 @@
 -- What is promised of every run.
-use Rattle.std.specs.Prelude.{◌≡◌, ◌≤◌, ⊤, ℕ, ◌+◌, ◌==◌, ◌&&◌, ◌||◌, Bool, true, false, List, [], ◌∷◌, ◌++◌, length}
-use Rattle.std.specs.Prelude.{take, drop, suc, Option, Some, None, IfSome, is_some, slice_get}
+use Rattle.std.specs.Prelude.{◌≡◌, ◌≤◌, ⊤, ℕ, ◌+◌, ◌==◌, ◌&&◌, ◌||◌, Bool, false, List, [], ◌∷◌, ◌++◌, length}
+use Rattle.std.specs.Prelude.{cond, take, drop, suc, Option, Some, None, IfSome, is_some, slice_get}
 use Rattle.std.specs.List.{list_any}
 use Rattle.mc_base.specs.Told.{Told}
 use Rattle.mc_base.specs.declared.cid.Cid.{Cid}
@@ -19,14 +19,14 @@ use Rattle.mc_core.specs.Puts.{next_links}
 use Rattle.mc_drain.specs.Reached.{AreReached}
 use Rattle.mc_script.specs.Line.{line_of}
 use Rattle.mc_script.specs.declared.command.Command.{Command}
-use Rattle.mc_script.specs.declared.command.Command.TheVariants.{Put, Del, Begin, BatchPut, BatchDel, Commit, Get, Has}
-use Rattle.mc_script.specs.declared.command.Command.TheVariants.{Query, Heads}
-use Rattle.mc_script.specs.declared.command.Command.TheVariants.{Cast, Wire, Hear, Plant, Link, Step, Work, Repair}
-use Rattle.mc_script.specs.declared.command.Command.TheVariants.{Storm, State, Same, Stop, Open, StopAt, StopAfter}
+use Rattle.mc_script.specs.declared.command.Command.TheVariants.{Get, Has, Query, Heads}
 use Rattle.mc_script.specs.declared.reply.Reply.{Reply}
-use Rattle.mc_world.specs.Effects.{batch_in}
+pub use Rattle.mc_seats.specs.Calls.{is_read}
+use Rattle.mc_seats.specs.Doing.{At, Compares, Doing, Tends, doing}
+use Rattle.mc_seats.specs.Effects.{batch_in}
+use Rattle.mc_seats.specs.Tending.{is_runs}
 use Rattle.mc_runs.specs.Runs.{Answer, Runs}
-use Rattle.mc_world.specs.Worlds.{Place, WorldState, is_down, state_at}
+use Rattle.mc_seats.specs.Worlds.{Place, WorldState, is_down, state_at}
 
 -- what a keeper tells: none of the processed or stored blocks is lost, and none changes its place or its bytes; and
 -- where it tells nothing, it tells nothing later
@@ -86,14 +86,6 @@ pub record HasCommitted (w : WorldState) (r : ℕ) (w2 : WorldState) : Type 0 wh
   pub batch : OpenBatch
   pub was_open : batch_at (slice_get w.places r) ≡ Some batch
   pub processed : HasProcessed w r (batch_cid batch) w2
-
--- a command that only reads
-abbrev pub is_read : Command → Bool
-is_read (Get r key) = true
-is_read (Has r key) = true
-is_read (Query r prefix skip take) = true
-is_read (Heads r) = true
-is_read command = false
 
 -- the same command to read, at another replica
 abbrev pub read_at : ℕ → Command → Command
@@ -161,32 +153,14 @@ abbrev pub fired_at : WorldState → WorldState → ℕ → Bool
 fired_at w w2 r = has_fired (fuse_at (slice_get w.places r)) (fuse_at (slice_get w2.places r))
 
 -- the replicas that a command is refused at with `stopped` where one of them doesn't run
+abbrev pub running_by : Doing → List ℕ
+running_by (At r (Tends tending)) = cond (is_runs tending.rule) (r ∷ []) []
+running_by (At r act) = r ∷ []
+running_by (Compares r other) = r ∷ other ∷ []
+running_by d = []
+
 abbrev pub asks_running : Command → List ℕ
-asks_running (Put r key bytes) = r ∷ []
-asks_running (Del r key) = r ∷ []
-asks_running (Begin r) = r ∷ []
-asks_running (BatchPut r key bytes) = r ∷ []
-asks_running (BatchDel r key) = r ∷ []
-asks_running (Commit r) = r ∷ []
-asks_running (Get r key) = r ∷ []
-asks_running (Has r key) = r ∷ []
-asks_running (Query r prefix skip take) = r ∷ []
-asks_running (Heads r) = r ∷ []
-asks_running (Cast r) = r ∷ []
-asks_running (Wire bytes) = []
-asks_running (Hear r message) = r ∷ []
-asks_running (Plant r cid bytes) = []
-asks_running (Link r other up) = []
-asks_running (Step r) = r ∷ []
-asks_running (Work r workers budget) = r ∷ []
-asks_running (Repair r workers) = r ∷ []
-asks_running (Storm r writers writes) = r ∷ []
-asks_running (State r) = r ∷ []
-asks_running (Same r other) = r ∷ other ∷ []
-asks_running (Stop r) = r ∷ []
-asks_running (Open r) = []
-asks_running (StopAt r commit) = []
-asks_running (StopAfter r commit) = []
+asks_running command = running_by (doing command)
 
 -- whether a replica is there and doesn't run
 abbrev pub has_stopped : Option Place → Bool

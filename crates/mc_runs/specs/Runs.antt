@@ -6,10 +6,10 @@ use Rattle.mc_script.specs.Line.{line_of}
 use Rattle.mc_script.specs.ReplyText.{reply_text}
 use Rattle.mc_script.specs.declared.command.Command.{Command}
 use Rattle.mc_script.specs.declared.reply.Reply.{Reply}
-use Rattle.mc_world.specs.declared.entry.LineEntry.{LineEntry}
-use Rattle.mc_world.specs.Asks.{arms}
-use Rattle.mc_world.specs.Step.{Step, is_fault}
-use Rattle.mc_world.specs.Worlds.{WorldState}
+use Rattle.mc_seats.specs.declared.entry.LineEntry.{LineEntry}
+use Rattle.mc_seats.specs.Asks.{arms}
+use Rattle.mc_seats.specs.Step.{Step, is_fault}
+use Rattle.mc_seats.specs.Worlds.{WorldState}
 
 -- what a line is answered, and its entry of the record
 pub record Answer : Type 0 where

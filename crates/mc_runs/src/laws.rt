@@ -10,17 +10,17 @@ ghost use Rattle.mc_script.specs.declared.command.Command.TheVariants.{Put, Del,
 ghost use Rattle.mc_script.specs.declared.reply.Reply.{Reply as Said};
 ghost use Rattle.mc_script.specs.declared.reply.Reply.TheVariants.{Priority, Deleted, Stopped, Stormed, Clean};
 ghost use Rattle.mc_script.specs.declared.reply.Reply.TheVariants.{FaultKeeper, FaultPeer};
-ghost use Rattle.mc_world.specs.declared.entry.LineEntry.{LineEntry as Entry};
-ghost use Rattle.mc_world.specs.declared.links.Link.{Link as LinkState};
-ghost use Rattle.mc_world.specs.Asks.{focus, is_named, may_fail};
-ghost use Rattle.mc_world.specs.Effects.{DoneAt};
+ghost use Rattle.mc_seats.specs.declared.entry.LineEntry.{LineEntry as Entry};
+ghost use Rattle.mc_seats.specs.declared.links.Link.{Link as LinkState};
+ghost use Rattle.mc_seats.specs.Asks.{focus, is_named, may_fail};
+ghost use Rattle.mc_seats.specs.Effects.{DoneAt};
 ghost use Rattle.mc_runs.specs.Promises.{AfterLine, HasCommitted, HasDeleted, HasMore, HasProcessed, HasSettled};
 ghost use Rattle.mc_runs.specs.Promises.{IsLineAt, OnlyGrows, SinceLine};
 ghost use Rattle.mc_runs.specs.Promises.{asks_running, fired_at, is_read, read_at, same_pair};
 ghost use Rattle.mc_runs.specs.Promises.{some_stopped, tells_at};
 ghost use Rattle.mc_runs.specs.Runs.{Answer, Runs};
-ghost use Rattle.mc_world.specs.Step.{Step, with_link};
-ghost use Rattle.mc_world.specs.Worlds.{Place, WorldState, is_linked, state_at};
+ghost use Rattle.mc_seats.specs.Step.{Step, with_link};
+ghost use Rattle.mc_seats.specs.Worlds.{Place, WorldState, is_linked, state_at};
 
 use mc_core::written_blocks_stand;
 use mc_model::{order_and_store_grow, same_blocks_same_answers};

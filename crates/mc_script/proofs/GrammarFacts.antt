@@ -451,30 +451,7 @@ is_name (first ∷ rest) = not (first == 35) && is_whole_word (first ∷ rest)
 
 form_has_name : (command : Command) → is_name (form command).0 ≡ true
 form_has_name (Put r key bytes) = refl
-form_has_name (Del r key) = refl
-form_has_name (Begin r) = refl
-form_has_name (BatchPut r key bytes) = refl
-form_has_name (BatchDel r key) = refl
-form_has_name (Commit r) = refl
-form_has_name (Get r key) = refl
-form_has_name (Has r key) = refl
-form_has_name (Query r prefix skip take) = refl
-form_has_name (Heads r) = refl
-form_has_name (Cast r) = refl
-form_has_name (Wire bytes) = refl
-form_has_name (Hear r message) = refl
-form_has_name (Plant r cid bytes) = refl
-form_has_name (Link r other up) = refl
-form_has_name (Step r) = refl
-form_has_name (Work r workers budget) = refl
-form_has_name (Repair r workers) = refl
-form_has_name (Storm r writers writes) = refl
-form_has_name (State r) = refl
-form_has_name (Same r other) = refl
-form_has_name (Stop r) = refl
-form_has_name (Open r) = refl
-form_has_name (StopAt r commit) = refl
-form_has_name (StopAfter r commit) = refl
+form_has_name command = refl
 
 say_whole : (words : List (List ℕ)) (parts : List Part) → Say words parts → (list_all is_word words ≡ true) × (list_all has_no_space words ≡ true)
 say_whole [] [] say = (refl, refl)
@@ -599,30 +576,7 @@ parts_utf8 (part ∷ parts) all = (word_is_utf8 part all.0, parts_utf8 parts all
 
 form_is_plain : (command : Command) → list_all (λ byte. nat_lt byte 128) (form command).0 ≡ true
 form_is_plain (Put r key bytes) = refl
-form_is_plain (Del r key) = refl
-form_is_plain (Begin r) = refl
-form_is_plain (BatchPut r key bytes) = refl
-form_is_plain (BatchDel r key) = refl
-form_is_plain (Commit r) = refl
-form_is_plain (Get r key) = refl
-form_is_plain (Has r key) = refl
-form_is_plain (Query r prefix skip take) = refl
-form_is_plain (Heads r) = refl
-form_is_plain (Cast r) = refl
-form_is_plain (Wire bytes) = refl
-form_is_plain (Hear r message) = refl
-form_is_plain (Plant r cid bytes) = refl
-form_is_plain (Link r other up) = refl
-form_is_plain (Step r) = refl
-form_is_plain (Work r workers budget) = refl
-form_is_plain (Repair r workers) = refl
-form_is_plain (Storm r writers writes) = refl
-form_is_plain (State r) = refl
-form_is_plain (Same r other) = refl
-form_is_plain (Stop r) = refl
-form_is_plain (Open r) = refl
-form_is_plain (StopAt r commit) = refl
-form_is_plain (StopAfter r commit) = refl
+form_is_plain command = refl
 
 pub command_is_read : IsReadAgain → (command : Command) → IsWritable command → line_of (command_text command) ≡ Some (Some command)
 command_is_read again command all = line_is_read command (command_text command) (record {

@@ -501,40 +501,13 @@ line_has_bytes [] rest h = cc h
 line_has_bytes (byte ∷ text) rest h = cc h
 
 has_bytes : (reply : Reply) (rest : List ℕ) → reply_text reply ++ rest ≡ [] → ⊥
-has_bytes Done rest h = cc h
-has_bytes (Priority priority) rest h = cc h
-has_bytes (Deleted blocks) rest h = cc h
 has_bytes (Value (Some bytes)) rest h = line_has_bytes (hex_text bytes) rest h
 has_bytes (Value None) rest h = cc h
 has_bytes (Has true) rest h = cc h
 has_bytes (Has false) rest h = cc h
-has_bytes (Rows rows) rest h = cc h
-has_bytes (Heads heads) rest h = cc h
-has_bytes (Message number) rest h = cc h
-has_bytes (Queued count) rest h = cc h
-has_bytes Processed rest h = cc h
-has_bytes Missing rest h = cc h
-has_bytes (Bad damage) rest h = cc h
-has_bytes Idle rest h = cc h
-has_bytes (Worked processed missing bad) rest h = cc h
-has_bytes (Again processed) rest h = cc h
-has_bytes Clean rest h = cc h
-has_bytes (OpenGaps gaps) rest h = cc h
-has_bytes (Stormed made same) rest h = cc h
-has_bytes (State processed stored waiting missing bad mark whole) rest h = cc h
 has_bytes (Same true) rest h = cc h
 has_bytes (Same false) rest h = cc h
-has_bytes Stopped rest h = cc h
-has_bytes FaultKeeper rest h = cc h
-has_bytes FaultPeer rest h = cc h
-has_bytes (RefusedKey number) rest h = cc h
-has_bytes RefusedValue rest h = cc h
-has_bytes (RefusedSize len) rest h = cc h
-has_bytes RefusedPriority rest h = cc h
-has_bytes (RefusedClash cid) rest h = cc h
-has_bytes RefusedBatch rest h = cc h
-has_bytes RefusedCast rest h = cc h
-has_bytes RefusedOpen rest h = cc h
+has_bytes reply rest h = cc h
 
 pub all_told_apart : (replies others : List Reply) → IsReadAgain → AllByRecursion IsTyped replies → AllByRecursion IsTyped others → flat_map reply_text replies ≡ flat_map reply_text others → replies ≡ others
 all_told_apart [] [] again typed also same = refl

@@ -61,6 +61,14 @@ form (Open r) = (codes "open", Replica r ∷ [])
 form (StopAt r commit) = (codes "stopat", Replica r ∷ UpTo commit_max commit ∷ [])
 form (StopAfter r commit) = (codes "stopafter", Replica r ∷ UpTo commit_max commit ∷ [])
 
+-- the replica that a command names first, and 0 where it names none
+abbrev pub first_replica : List Part → ℕ
+first_replica (Replica r ∷ parts) = r
+first_replica parts = 0
+
+abbrev pub replica_of : Command → ℕ
+replica_of command = first_replica (form command).1
+
 -- at least one byte, and no space
 abbrev pub is_whole_word : List ℕ → Bool
 is_whole_word word = nat_lt 0 (length word) && list_all (λ byte. not (byte == 32)) word

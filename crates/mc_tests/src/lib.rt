@@ -22,18 +22,32 @@ mod given;
 #[cfg(test)]
 mod hand_made;
 #[cfg(test)]
+mod library;
+#[cfg(test)]
 mod makers;
 #[cfg(test)]
 mod memory;
 #[cfg(test)]
 mod nodes;
 #[cfg(test)]
+mod offers;
+#[cfg(test)]
 mod queries;
+#[cfg(test)]
+mod queues;
 #[cfg(test)]
 mod replicas;
 #[cfg(test)]
 mod rows;
 #[cfg(test)]
+mod shops;
+#[cfg(test)]
 mod shown;
 #[cfg(test)]
 mod storms;
+#[cfg(test)]
+mod turns;
+#[cfg(test)]
+mod walks;
+#[cfg(test)]
+mod workers;

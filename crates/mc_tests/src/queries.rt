@@ -84,16 +84,25 @@ fn a_failing_read_fails_the_call(rt: HostRuntime) -> Result<(), Fail> {
     Ok(())
 }
 
-// Four keys with a value, in ascending order of their bytes, of which so many reads are answered.
-fn four_keys(alloc: Global, left: u64) -> Result<HandMade, AllocError> {
+// Keys with a value, of which so many reads are answered.
+fn keys_of(alloc: Global, keys: &[(&str, u8)], left: u64) -> Result<HandMade, AllocError> {
     let mut rows = List::new(alloc);
-    for (key, value) in [("/a", 1), ("/a/b", 3), ("/a/c", 4), ("/ab", 2)] {
+    for (key, value) in keys {
         rows.push(Pair {
             key: Text::from_text(alloc, key)?,
-            value: Bytes::from_slice(alloc, &[value])?,
+            value: Bytes::from_slice(alloc, &[*value])?,
         })?;
     }
     Ok(HandMade::of_values(alloc, rows, left))
+}
+
+// Four keys in ascending order of their bytes.
+fn four_keys(alloc: Global, left: u64) -> Result<HandMade, AllocError> {
+    keys_of(
+        alloc,
+        &[("/a", 1), ("/a/b", 3), ("/a/c", 4), ("/ab", 2)],
+        left,
+    )
 }
 
 // A prefix, how many keys are passed over and how many taken at most, the keys and values that are given, and how many
@@ -156,6 +165,8 @@ fn queries_over_four_keys(rt: HostRuntime) -> Result<(), Fail> {
         query_of("/ab", 0, 9, &[], 1),
         query_of("/a/b", 0, 9, &[], 1),
         query_of("/", 2, 0, &[], 0),
+        query_of("///", 1, 2, &[("/a/b", 3), ("/a/c", 4)], 2),
+        query_of("a b", 0, 9, &[], 1),
     ];
     for case in &cases {
         assert!(rt;
@@ -167,6 +178,31 @@ fn queries_over_four_keys(rt: HostRuntime) -> Result<(), Fail> {
             let fewer = four_keys(alloc, case.reads.saturating_sub(1))?;
             assert!(rt; gives(fewer, alloc, case).is_err(), "{}", case.prefix);
         }
+    }
+    Ok(())
+}
+
+#[test]
+fn queries_end_at_a_key_that_is_not_past_the_last(rt: HostRuntime) -> Result<(), Fail> {
+    let alloc = rt.alloc();
+    let rows: [(&[(&str, u8)], Case); 4] = [
+        (
+            &[("/b", 1), ("/a", 2)],
+            query_of("/", 0, 9, &[("/b", 1)], 9),
+        ),
+        (
+            &[("/b", 1), ("/b", 2)],
+            query_of("/", 0, 9, &[("/b", 1)], 9),
+        ),
+        (&[("b", 1)], query_of("", 0, 9, &[("b", 1)], 9)),
+        (
+            &[("a b", 1), ("a b/c", 2)],
+            query_of("a b", 0, 9, &[("a b/c", 2)], 9),
+        ),
+    ];
+    for (keys, case) in &rows {
+        let keeper = keys_of(alloc, keys, case.reads)?;
+        assert!(rt; gives(keeper, alloc, case)?, "{}", case.prefix);
     }
     Ok(())
 }

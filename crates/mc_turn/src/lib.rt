@@ -4,8 +4,6 @@
 
 mod rule;
 mod story;
-#[cfg(test)]
-mod tests;
 mod turn;
 mod view;
 

@@ -2,8 +2,6 @@
 #![tactic(auto)]
 
 mod laws;
-#[cfg(test)]
-mod tests;
 mod walk;
 
 pub use laws::{walks_are_events, walks_visit_each_once};

@@ -14,6 +14,3 @@ pub use gate::{Gate, Open};
 pub use hands::{Hand, run_workers};
 pub use lookup::look_up;
 pub use shop::Shop;
-
-#[cfg(test)]
-mod tests;

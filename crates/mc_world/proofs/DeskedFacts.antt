@@ -9,13 +9,14 @@ use Rattle.mc_keep.specs.Calls.{Members}
 use Rattle.mc_keep.specs.declared.keeper.Keeper as keeper
 use Rattle.mc_lend.specs.Lending.{HaveAt, HaveDesks}
 use Rattle.mc_pull.specs.Pulls.{DeskListGoes}
-use Rattle.mc_world.specs.declared.links.Link.{Link}
-use Rattle.mc_world.specs.declared.seat.Seat.{Seat}
-use Rattle.mc_world.specs.Desked.{desk_sums, desks_each, is_desked, is_full_list}
+use Rattle.mc_seats.specs.declared.links.Link.{Link}
+use Rattle.mc_seats.specs.declared.seat.Seat.{Seat}
+use Rattle.mc_seats.specs.Desked.{desk_sums, desks_each, is_desked, is_full_list}
 use Rattle.mc_world.specs.Pulling.{AreAsLong}
-use Rattle.mc_world.specs.Words.{place}
-use Rattle.mc_world.specs.Worlds.{Place, peer_row}
-use Rattle.mc_world.proofs.SeatFacts.{replaced, same_length, set_of_get}
+use Rattle.mc_seats.specs.Words.{place}
+use Rattle.mc_seats.specs.Worlds.{Place, peer_row}
+use Rattle.mc_seats.proofs.DeskedFacts.{as_many, map_long}
+use Rattle.mc_seats.proofs.SeatFacts.{replaced, same_length, set_of_get}
 
 none_is : {A P : Type 0} {x : A} → None ≡ Some x → P
 none_is e = absurd (false≢true (ap is_some e))
@@ -23,13 +24,6 @@ none_is e = absurd (false≢true (ap is_some e))
 row_long : (down : List Link) (r number : ℕ) (places : List Place) → length (peer_row down r number places) ≡ length places
 row_long down r number [] = refl
 row_long down r number (p ∷ places) = ap suc (row_long down r (number + 1) places)
-
-map_long : {A B : Type 0} (f : A → B) (xs : List A) → length (map f xs) ≡ length xs
-map_long f [] = refl
-map_long f (x ∷ xs) = ap suc (map_long f xs)
-
-as_many : (n m : ℕ) → nat_eq n m ≡ true → n ≡ m
-as_many n m e = grind (arith, nat_tests, e)
 
 module _ (count : ℕ) (few : count ≤ desks_each) where
   have_at : {D : Type 0} (mark : Bool) (list : List D) → is_full_list list ≡ true → HaveAt count mark list
@@ -114,9 +108,3 @@ desked_again {D = D} seats mid news x y r desks lists left back list desked stan
     subst (λ (l : List (List D)). is_desked (length news) l ≡ true) (sym is)
     (and_from (nat_eq (length news) (length (insert left r list))) (list_all is_full_list (insert left r list))
     (ap (λ n. nat_eq n (length (insert left r list))) (sym (same_length seats mid news r x y stands out again)) ∙ ap (λ n. nat_eq (length seats) n) all.0 ∙ parts.0) all.1)
-
--- there are as many counts as replicas with desks
-pub counts_long : {D : Type 0} (count : D → ℕ) (counts : List ℕ) (n m : ℕ) (desks back : List (List D)) → counts ≡ desk_sums count desks → n ≡ m → is_desked n desks ≡ true → is_desked m back ≡ true → length counts ≡ length back
-counts_long count counts n m desks back are same desked again =
-    ap length are ∙ map_long _ desks ∙ sym (as_many n (length desks) (and_parts (nat_eq n (length desks)) (list_all is_full_list desks) desked).0)
-    ∙ same ∙ as_many m (length back) (and_parts (nat_eq m (length back)) (list_all is_full_list back) again).0

@@ -20,15 +20,15 @@ use Rattle.mc_keep.specs.declared.keeper.Keeper as keeper
 use Rattle.mc_model.specs.Draining.{queue_in}
 use Rattle.mc_model.specs.State.{Running}
 use Rattle.mc_model.specs.Wanted.{Queue}
-use Rattle.mc_world.specs.declared.seat.Held.{Held}
-use Rattle.mc_world.specs.declared.seat.Held.TheVariants.{Up}
-use Rattle.mc_world.specs.Keepers.{keeper_in}
+use Rattle.mc_seats.specs.declared.seat.Held.{Held}
+use Rattle.mc_seats.specs.declared.seat.Held.TheVariants.{Up}
+use Rattle.mc_seats.specs.Keepers.{keeper_in}
 use Rattle.mc_pull.specs.Pulls.{DeskListGoes}
 use Rattle.std.specs.List.{AllZip}
 use Rattle.mc_world.specs.Pulling.{Broken, PullsBy, PullsKeeper}
-use Rattle.mc_world.specs.Works.{Pulled, RepairOn, RunsTo}
-use Rattle.mc_world.specs.Worlds.{Place, is_down, place_with}
-use Rattle.mc_world.proofs.GoesFacts.{keeper_goes}
+use Rattle.mc_seats.specs.Works.{Pulled, RepairOn, RunsTo}
+use Rattle.mc_seats.specs.Worlds.{Place, is_down, place_with}
+use Rattle.mc_seats.proofs.GoesFacts.{keeper_goes}
 
 no_true : {P : Type 0} → false ≡ true → P
 no_true e = absurd (false≢true e)

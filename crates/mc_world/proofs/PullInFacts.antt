@@ -15,18 +15,18 @@ use Rattle.mc_pull.specs.Pulls.{DeskListGoes, DeskRose as ListRose}
 use Rattle.mc_script.specs.declared.command.Command.{Command}
 use Rattle.mc_script.specs.declared.reply.Reply.{Reply}
 use Rattle.mc_script.specs.declared.reply.Reply.TheVariants.{FaultKeeper, FaultPeer}
-use Rattle.mc_world.specs.declared.seat.Seat.{Seat}
-use Rattle.mc_world.specs.declared.world.World.{World}
-use Rattle.mc_world.specs.Asks.{focus, is_named, is_there, may_fail}
-use Rattle.mc_world.specs.Desked.{desks_each, is_full_list}
-use Rattle.mc_world.specs.Keepers.{desk_count, keeper_of}
-use Rattle.mc_world.specs.Effects.{AsksAt, DoneAt, RefusedAt}
-use Rattle.mc_world.specs.Record.{RoseAt, RoseIn}
-use Rattle.mc_world.specs.Step.{Asks, CutShort, LeavesStep, PeerBreaks, Refuses, Row, Says, Sets, ShortIn, asks_peer}
-use Rattle.mc_world.specs.StepParts.{AllDesksGo, DesksGo, PeerFailed}
-use Rattle.mc_world.specs.Words.{DeskRose, KeeperRose, OwnRose, place, state}
-use Rattle.mc_world.specs.Worlds.{AtPlace, Moved, MovedAt, Place, WorldState, is_marked, peer_row}
-use Rattle.mc_world.proofs.SeatFacts.{get_of_set, set_of_get}
+use Rattle.mc_seats.specs.declared.seat.Seat.{Seat}
+use Rattle.mc_seats.specs.declared.world.World.{World}
+use Rattle.mc_seats.specs.Asks.{focus, is_named, is_there, may_fail}
+use Rattle.mc_seats.specs.Desked.{desks_each, is_full_list}
+use Rattle.mc_seats.specs.Keepers.{desk_count, keeper_of}
+use Rattle.mc_seats.specs.Effects.{AsksAt, DoneAt, RefusedAt}
+use Rattle.mc_seats.specs.Record.{RoseAt, RoseIn}
+use Rattle.mc_seats.specs.Step.{Asks, CutShort, LeavesStep, PeerBreaks, Refuses, Row, Says, Sets, ShortIn, asks_peer}
+use Rattle.mc_seats.specs.StepParts.{AllDesksGo, DesksGo, PeerFailed}
+use Rattle.mc_seats.specs.Words.{DeskRose, KeeperRose, OwnRose, place, state}
+use Rattle.mc_seats.specs.Worlds.{AtPlace, Moved, MovedAt, Place, WorldState, is_marked, peer_row}
+use Rattle.mc_seats.proofs.SeatFacts.{get_of_set, set_of_get}
 
 -- where a thing stands in a list, of which another was taken out
 abbrev skip : ℕ → ℕ → ℕ

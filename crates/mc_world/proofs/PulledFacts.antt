@@ -8,7 +8,7 @@ use Rattle.mc_core.specs.Events.{state_of}
 use Rattle.mc_core.specs.Exact.{stop_front}
 use Rattle.mc_core.specs.Reads.{read_refusal}
 use Rattle.mc_core.specs.Refusals.{Is}
-use Rattle.mc_core.specs.declared.error.CoreError.TheVariants as core
+use Rattle.mc_core.specs.declared.CoreError.TheVariants as core
 use Rattle.mc_drain.specs.Works.{keeper_broke, peer_broke}
 use Rattle.mc_drain.specs.declared.repairing.Repaired.{Repaired}
 use Rattle.mc_drain.specs.declared.repairing.Repaired.TheVariants as repaired
@@ -24,25 +24,25 @@ use Rattle.mc_model.specs.State.{Running}
 use Rattle.mc_script.specs.declared.command.Command.TheVariants.{Repair, Work}
 use Rattle.mc_script.specs.declared.reply.Reply.{Reply}
 use Rattle.mc_script.specs.declared.reply.Reply.TheVariants as reply
-use Rattle.mc_world.specs.declared.acting.ActError.{ActError}
-use Rattle.mc_world.specs.declared.acting.ActError.TheVariants as act
-use Rattle.mc_world.specs.declared.seat.Seat.{Seat}
-use Rattle.mc_world.specs.declared.world.World.{World}
-use Rattle.mc_world.specs.Asks.{is_named}
-use Rattle.mc_world.specs.Keepers.{WorldGoes, keeper_of}
-use Rattle.mc_world.specs.Effects.{CallRefused}
+use Rattle.mc_seats.specs.declared.error.ActError.{ActError}
+use Rattle.mc_seats.specs.declared.error.ActError.TheVariants as act
+use Rattle.mc_seats.specs.declared.seat.Seat.{Seat}
+use Rattle.mc_seats.specs.declared.world.World.{World}
+use Rattle.mc_seats.specs.Asks.{is_named}
+use Rattle.mc_seats.specs.Keepers.{WorldGoes, keeper_of}
+use Rattle.mc_seats.specs.Effects.{CallRefused}
 use Rattle.mc_world.specs.Pulling.{PullsAmong, RepairBy, WorkBy, pulled_answer}
-use Rattle.mc_world.specs.Step.{is_fault}
-use Rattle.mc_world.specs.StepParts.{AllDesksGo, PeerFailed}
-use Rattle.mc_world.specs.Words.{ActsOn, place, state}
-use Rattle.mc_world.specs.Works.{budget_of, repaired_reply, worked_reply}
-use Rattle.mc_world.specs.Worlds.{Place, WorldState, is_down, peer_row}
-use Rattle.mc_world.proofs.BeginFacts.{is_no_error, short_is_not_bad}
-use Rattle.mc_world.proofs.GoesFacts.{keeper_still}
+use Rattle.mc_seats.specs.Step.{is_fault}
+use Rattle.mc_seats.specs.StepParts.{AllDesksGo, PeerFailed}
+use Rattle.mc_seats.specs.Words.{ActsOn, place, state}
+use Rattle.mc_seats.specs.Works.{budget_of, repaired_reply, worked_reply}
+use Rattle.mc_seats.specs.Worlds.{Place, WorldState, is_down, peer_row}
+use Rattle.mc_seats.proofs.BeginFacts.{is_no_error, short_is_not_bad}
+use Rattle.mc_seats.proofs.GoesFacts.{keeper_still}
 use Rattle.mc_world.proofs.PullInFacts.{insert_go, lists_go, peer_failed, row_cut, row_done, row_peer, row_refused, short_row}
 use Rattle.mc_world.proofs.PullFacts.{desks_still}
-use Rattle.mc_world.proofs.SeatFacts.{replaced, set_of_get}
-use Rattle.mc_world.proofs.StepInFacts.{goes_failed, goes_in}
+use Rattle.mc_seats.proofs.SeatFacts.{replaced, set_of_get}
+use Rattle.mc_acts.proofs.StepInFacts.{goes_failed, goes_in}
 
 named_itself : (r : ℕ) → is_named (r ∷ []) r ≡ true
 named_itself r = ap (λ b. b || false) (eq-eqb r r refl)

@@ -19,17 +19,17 @@ use Rattle.mc_lend.specs.declared.site.Site.{Site}
 use Rattle.mc_model.specs.Found.{PeerOffers}
 use Rattle.mc_model.specs.Kept.{Kept}
 use Rattle.mc_pull.specs.Pulls.{DeskRose, DesksGo, are_quiet, found_at, sites_told, told_at}
-use Rattle.mc_world.specs.declared.links.Link.{Link}
-use Rattle.mc_world.specs.declared.seat.Held.{Held}
-use Rattle.mc_world.specs.declared.seat.Held.TheVariants.{Up, Down}
-use Rattle.mc_world.specs.declared.seat.Seat.{Seat}
-use Rattle.mc_world.specs.Fetching.{offers_of, offers_of_place}
-use Rattle.mc_world.specs.Keepers.{is_calm_keeper, keeper_in, keeper_of}
+use Rattle.mc_seats.specs.declared.links.Link.{Link}
+use Rattle.mc_seats.specs.declared.seat.Held.{Held}
+use Rattle.mc_seats.specs.declared.seat.Held.TheVariants.{Up, Down}
+use Rattle.mc_seats.specs.declared.seat.Seat.{Seat}
+use Rattle.mc_seats.specs.Fetching.{offers_of, offers_of_place}
+use Rattle.mc_seats.specs.Keepers.{is_calm_keeper, keeper_in, keeper_of}
 use Rattle.mc_world.specs.Pulling.{AddsSites, AreSites, IsSite, PullsAmong, PullsKeeper}
-use Rattle.mc_world.specs.StepParts.{are_calm, is_peer_at, peers_among}
-use Rattle.mc_world.specs.Words.{place}
-use Rattle.mc_world.specs.Works.{offered_by}
-use Rattle.mc_world.specs.Worlds.{Place, is_linked, is_up, joins, peer_row, picked, place_with}
+use Rattle.mc_seats.specs.StepParts.{are_calm, is_peer_at, peers_among}
+use Rattle.mc_seats.specs.Words.{place}
+use Rattle.mc_seats.specs.Works.{offered_by}
+use Rattle.mc_seats.specs.Worlds.{Place, is_linked, is_up, joins, peer_row, picked, place_with}
 
 unlinked : (down : List Link) (r : ℕ) → is_linked down r r ≡ false
 unlinked down r = ap (λ b. not b && not (list_any (joins r r) down)) (eq-eqb r r refl)

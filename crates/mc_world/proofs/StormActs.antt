@@ -17,28 +17,28 @@ use Rattle.mc_core.specs.Events.{ReplicaState}
 use Rattle.mc_core.specs.Exact.{RestSame, stop_front}
 use Rattle.mc_core.specs.Replica.{running_of}
 use Rattle.mc_core.specs.Words.{Becomes, Continues}
-use Rattle.mc_core.specs.declared.error.CoreError.TheVariants as core
+use Rattle.mc_core.specs.declared.CoreError.TheVariants as core
 use Rattle.mc_core.specs.declared.replica.Replica.{Replica}
-use Rattle.mc_node.specs.Storms.{StormLeads, StormPauses, storm_broke}
-use Rattle.mc_node.specs.declared.storming.StormError.{StormError}
-use Rattle.mc_node.specs.declared.storming.StormError.TheVariants as storm
-use Rattle.mc_node.specs.declared.storming.Stormed.{Stormed}
+use Rattle.mc_storm.specs.Storms.{StormLeads, StormPauses, storm_broke}
+use Rattle.mc_storm.specs.declared.outcome.StormError.{StormError}
+use Rattle.mc_storm.specs.declared.outcome.StormError.TheVariants as storm
+use Rattle.mc_storm.specs.declared.outcome.Stormed.{Stormed}
 use Rattle.mc_script.specs.declared.command.Command.TheVariants.{Storm}
 use Rattle.mc_script.specs.declared.reply.Reply.TheVariants.{FaultKeeper, Stopped}
-use Rattle.mc_world.specs.declared.acting.ActError.{ActError}
-use Rattle.mc_world.specs.declared.seat.Held.{Held}
-use Rattle.mc_world.specs.declared.seat.Held.TheVariants.{Up, Down}
-use Rattle.mc_world.specs.declared.seat.Idle.{Idle}
-use Rattle.mc_world.specs.declared.seat.Seat.{Seat}
-use Rattle.mc_world.specs.Keepers.{keeper_of}
-use Rattle.mc_world.specs.Effects.{AsksAt, Leaves, RefusedAt}
-use Rattle.mc_world.specs.Step.{CutShort, ShortAt}
-use Rattle.mc_world.specs.Storming.{storm_answer, stormed_reply}
-use Rattle.mc_world.specs.Words.{KeeperGoes, SeatActsIn, SeatRow, place}
-use Rattle.mc_world.specs.Worlds.{Place, WorldState, is_down, state_at}
-use Rattle.mc_world.proofs.BeginFacts.{down_of, is_no_error, never, runs_same, runs_still, short_is_not_bad}
-use Rattle.mc_world.proofs.GoesFacts.{keeper_goes, keeper_still}
-use Rattle.mc_world.proofs.RowFacts.{of_seat, up, down, why_of}
+use Rattle.mc_seats.specs.declared.error.ActError.{ActError}
+use Rattle.mc_seats.specs.declared.seat.Held.{Held}
+use Rattle.mc_seats.specs.declared.seat.Held.TheVariants.{Up, Down}
+use Rattle.mc_seats.specs.declared.seat.Idle.{Idle}
+use Rattle.mc_seats.specs.declared.seat.Seat.{Seat}
+use Rattle.mc_seats.specs.Keepers.{keeper_of}
+use Rattle.mc_seats.specs.Effects.{AsksAt, Leaves, RefusedAt}
+use Rattle.mc_seats.specs.Step.{CutShort, ShortAt}
+use Rattle.mc_seats.specs.Storming.{storm_answer, stormed_reply}
+use Rattle.mc_seats.specs.Words.{KeeperGoes, SeatActsIn, SeatRow, place}
+use Rattle.mc_seats.specs.Worlds.{Place, WorldState, is_down, state_at}
+use Rattle.mc_seats.proofs.BeginFacts.{down_of, is_no_error, never, runs_same, runs_still, short_is_not_bad}
+use Rattle.mc_seats.proofs.GoesFacts.{keeper_goes, keeper_still}
+use Rattle.mc_seats.proofs.RowFacts.{of_seat, up, down, why_of}
 
 -- a storm is refused exactly where its replica doesn't run
 

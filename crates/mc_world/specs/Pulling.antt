@@ -21,14 +21,14 @@ use Rattle.mc_model.specs.State.{Running}
 use Rattle.mc_model.specs.Wanted.{Queue}
 use Rattle.mc_pull.specs.Pulls.{DeskListGoes, DeskRose}
 use Rattle.mc_script.specs.declared.reply.Reply.{Reply}
-use Rattle.mc_world.specs.declared.acting.ActError.{ActError}
-use Rattle.mc_world.specs.declared.links.Link.{Link}
-use Rattle.mc_world.specs.declared.seat.Seat.{Seat}
-use Rattle.mc_world.specs.Keepers.{keeper_of}
-use Rattle.mc_world.specs.StepParts.{are_calm, is_peer_at, peers_among}
-use Rattle.mc_world.specs.Words.{KeeperGoes, place}
-use Rattle.mc_world.specs.Works.{Pulled, RepairOn, WorkOn, broken_reply, offered_by, repair_budget}
-use Rattle.mc_world.specs.Worlds.{Place, is_down, peer_row, state_at}
+use Rattle.mc_seats.specs.declared.error.ActError.{ActError}
+use Rattle.mc_seats.specs.declared.links.Link.{Link}
+use Rattle.mc_seats.specs.declared.seat.Seat.{Seat}
+use Rattle.mc_seats.specs.Keepers.{keeper_of}
+use Rattle.mc_seats.specs.StepParts.{are_calm, is_peer_at, peers_among}
+use Rattle.mc_seats.specs.Words.{KeeperGoes, place}
+use Rattle.mc_seats.specs.Works.{Pulled, RepairOn, WorkOn, broken_reply, offered_by, repair_budget}
+use Rattle.mc_seats.specs.Worlds.{Place, is_down, peer_row, state_at}
 
 -- what is answered for a work or a repair, where this is for its value
 abbrev pub pulled_answer : {T : Type 0} → (T → Reply) → Result T WorkError → Result Reply ActError

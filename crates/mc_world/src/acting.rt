@@ -2,50 +2,26 @@
 ghost use Rattle.std.specs.Prelude.{◌≡◌, true, false, IfOk, IsErrOf};
 ghost use Rattle.std.specs.Prelude.{cond};
 ghost use Rattle.mc_script.specs.Limits.{IsInLimits};
-ghost use Rattle.mc_world.specs.Arming.{is_arming};
-ghost use Rattle.mc_world.specs.Asks.{arms, is_there};
-ghost use Rattle.mc_world.specs.Keepers.{WorldGoes};
-ghost use Rattle.mc_world.specs.Step.{answers_fault};
-ghost use Rattle.mc_world.specs.Words.{ActsOn, Records, Shortens, state};
+ghost use Rattle.mc_seats.specs.Arming.{is_arming};
+ghost use Rattle.mc_seats.specs.Asks.{arms, is_there};
+ghost use Rattle.mc_seats.specs.Keepers.{WorldGoes};
+ghost use Rattle.mc_seats.specs.Step.{answers_fault};
+ghost use Rattle.mc_seats.specs.declared.error.ActError.{ActError};
+ghost use Rattle.mc_seats.specs.Words.{ActsOn, Records, Shortens, state};
 
-use crate::World;
-use crate::asks::is_there;
-use crate::messages::{cast_in, hear_in, send_in};
-use crate::places::{arm_in, link_in, open_in, plant_in, reply_in, stop_in};
 use crate::pulling::{repair_in, work_in};
-use crate::record::{counts_of, record_line};
-use crate::sames::same_in;
-use crate::stepping::step_in;
 use crate::storming::storm_in;
+use mc_acts::{
+    arm_in, call_in, cast_in, counts_of, hear_in, is_there, link_in, open_in, plant_in,
+    record_line, same_in, send_in, state_in, step_in, stop_in,
+};
 use mc_keep::{Fused, Keeper};
 use mc_script::{Command, Reply};
+use mc_seats::{ActError, World};
 use mc_worker::Gate;
 use std::alloc::{AllocError, Global};
 use std::sync::Wait;
 use std::thread::Threads;
-use thiserror::Error;
-
-/// Why a command was not answered.
-#[derive(Clone, Copy, Debug, PartialEq, Eq, Error)]
-pub enum ActError {
-    /// It names a replica or a message that isn't there.
-    #[error("no such replica or message")]
-    BadLine,
-    /// Want of memory.
-    #[error("out of memory")]
-    Memory,
-}
-
-impl From<AllocError> for ActError {
-    ghost use Rattle.std.specs.Prelude.{◌≡◌};
-    ghost use Rattle.mc_world.specs.declared.acting.ActError.{ActError};
-
-    ghost from_gives = { λ _ e. e ≡ ActError.Memory };
-
-    fn from(_error: AllocError) -> ActError {
-        ActError::Memory
-    }
-}
 
 /// Executes one command, whose numbers are within the limits of its line. The world and the reply are by `Step`, and
 /// the record grows by one entry, which names exactly the keepers and desks whose counts rose; where all keepers and
@@ -145,17 +121,8 @@ where
         Command::Same { r, other } => same_in(world, *r, *other),
         Command::Stop { r } => stop_in(world, *r),
         Command::Open { r } => open_in(world, alloc, *r),
-        Command::Put { .. }
-        | Command::Del { .. }
-        | Command::Begin { .. }
-        | Command::BatchPut { .. }
-        | Command::BatchDel { .. }
-        | Command::Commit { .. }
-        | Command::Get { .. }
-        | Command::Has { .. }
-        | Command::Query { .. }
-        | Command::Heads { .. }
-        | Command::State { .. } => reply_in(world, alloc, command),
+        Command::State { r } => state_in(world, *r),
         Command::StopAt { .. } | Command::StopAfter { .. } => unreachable!(),
+        _ => call_in(world, alloc, command),
     }
 }

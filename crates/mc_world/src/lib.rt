@@ -3,28 +3,10 @@
 #![tactic(auto)]
 
 mod acting;
-mod asks;
-mod calls;
-mod entry;
-mod jobs;
-mod links;
-mod messages;
-mod opening;
-mod parting;
-mod peers;
-mod places;
 mod pulling;
-mod record;
-mod replies;
-mod sames;
-mod seat;
-mod seats;
 mod sites;
-mod stepping;
 mod storming;
 mod worked;
-mod world;
 
-pub use acting::{ActError, act};
-pub use entry::LineEntry;
-pub use world::{NoWorld, Part, World};
+pub use acting::act;
+pub use mc_seats::{ActError, LineEntry, NoWorld, Part, World};

@@ -2,11 +2,9 @@
 ghost use Rattle.std.specs.Prelude.{◌≡◌, ◌≤◌, ◌<◌, ◌+◌, ◌^◌, IfOk, length, vec_capacity, vec_len};
 ghost use Rattle.mc_world.specs.Pulling.{AddsSites, IsSite, SitesOf};
 
-use crate::links::Link;
-use crate::peers::{is_peer, keeper_in};
-use crate::seat::Seat;
 use mc_keep::Keeper;
 use mc_lend::Site;
+use mc_seats::{Link, Seat, is_peer, keeper_in};
 use std::alloc::{AllocError, Global};
 
 // The sites of the replicas before r and after it: those are peers of r that run and are linked to it.

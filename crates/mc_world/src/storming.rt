@@ -1,15 +1,14 @@
 // A storm: writers that put and get beside one another, on one replica.
 ghost use Rattle.std.specs.Prelude.{◌≡◌, ◌≤◌, ◌<◌, ◌^◌, vec_len};
 ghost use Rattle.mc_script.specs.declared.command.Command.TheVariants.{Storm};
-ghost use Rattle.mc_world.specs.Storming.{storm_answer};
-ghost use Rattle.mc_world.specs.Words.{ActsOn, SeatActs};
+ghost use Rattle.mc_seats.specs.Storming.{storm_answer};
+ghost use Rattle.mc_seats.specs.Words.{ActsOn, SeatActs};
 
-use crate::seat::{Held, Seat};
-use crate::seats::{put_at, take_at};
-use crate::{ActError, World};
 use mc_keep::Keeper;
-use mc_node::{StormError, Stormed, storm};
+use mc_node::storm;
 use mc_script::Reply;
+use mc_seats::{ActError, Held, Seat, World, put_at, take_at};
+use mc_storm::{StormError, Stormed};
 use std::alloc::Global;
 use std::sync::Wait;
 use std::thread::Threads;

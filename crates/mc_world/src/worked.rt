@@ -1,10 +1,10 @@
 // What is answered for a work and a repair.
 ghost use Rattle.std.specs.Prelude.{◌≡◌};
-ghost use Rattle.mc_world.specs.Works.{broken_reply, budget_of, repaired_reply, worked_reply};
+ghost use Rattle.mc_seats.specs.Works.{broken_reply, budget_of, repaired_reply, worked_reply};
 
-use crate::ActError;
 use mc_drain::{Repaired, WorkError, Worked};
 use mc_script::Reply;
+use mc_seats::ActError;
 
 // The most blocks that a repair processes, and a work that names no budget.
 pub(crate) const BUDGET: u64 = 1_048_576;

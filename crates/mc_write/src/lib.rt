@@ -17,6 +17,3 @@ pub use cut::next_priority;
 pub use delete::delete_deltas;
 pub use error::WriteError;
 pub use put::put_delta;
-
-#[cfg(test)]
-mod tests;

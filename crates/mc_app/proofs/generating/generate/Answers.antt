@@ -3,7 +3,7 @@ use Rattle.mc_model.specs.Kept.{Kept}
 use Rattle.mc_app.proofs.EndFacts.{ends_taken, may_lost}
 use Rattle.mc_app.proofs.GeneratingFacts.{generates_map, unopened_generates}
 use Rattle.mc_app.proofs.generating.generate.Goals as goal
-use Rattle.mc_world.specs.Starts.{IsFirst}
+use Rattle.mc_seats.specs.Starts.{IsFirst}
 
 pub returns-in-Err-clause-generated : goal.returns-in-Err-clause-generated
 returns-in-Err-clause-generated g c = unopened_generates _ _ _ _ _ _ _ _ c.status_of.ensures

@@ -2,9 +2,9 @@ use Rattle.std.proofs.Common.{subst, sym}
 use Rattle.mc_app.proofs.EndFacts.{refused_rose, refused_told}
 use Rattle.mc_app.proofs.GeneratingFacts.{generates_map, unopened_generates}
 use Rattle.mc_app.proofs.KeepingFacts.{fused_members}
-use Rattle.mc_world.proofs.MemberWords.{members}
+use Rattle.mc_seats.proofs.MemberWords.{members}
 use Rattle.mc_app.proofs.generating.generate_in.Goals as goal
-use Rattle.mc_world.specs.Starts.{IsFirst}
+use Rattle.mc_seats.specs.Starts.{IsFirst}
 
 pub returns-in-Ok-clause-generated : goal.returns-in-Ok-clause-generated
 returns-in-Ok-clause-generated g c = generates_map _ _ _ _ _ _ _ (λ w is. subst (IsFirst _) (sym is) c.in-Ok.ensures.first) (λ lines answers may. (may.0, λ calm. may.1 (c.in-Ok.ensures.calm calm))) (λ w ends. ends) _ _ _ _ c.generate_world.ensures.generated

@@ -1,7 +1,7 @@
 use Rattle.std.proofs.Common.{◌≡◌, ◌≤◌, ◌+◌, ◌-◌, ℕ, vec_len, vec_capacity}
 use Rattle.mc_keep.specs.declared.keepers.KeeperPlan.{KeeperPlan}
 use Rattle.mc_app.proofs.KeepingFacts.{IsMaking, fused_members}
-use Rattle.mc_world.proofs.MemberWords.{members}
+use Rattle.mc_seats.proofs.MemberWords.{members}
 use Rattle.mc_app.proofs.keeping.make_parts.Given as goal
 
 abbrev pub invariant-loop-index : goal.invariant-loop-index

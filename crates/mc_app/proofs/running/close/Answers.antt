@@ -1,7 +1,7 @@
 use Rattle.std.proofs.Common.{length}
 use Rattle.mc_app.proofs.EndFacts.{parts_counted, parts_told}
-use Rattle.mc_world.proofs.MemberWords.{members}
-use Rattle.mc_world.proofs.OpeningFacts.{counts_of_desked}
+use Rattle.mc_seats.proofs.MemberWords.{members}
+use Rattle.mc_seats.proofs.OpeningFacts.{counts_of_desked}
 use Rattle.mc_app.proofs.running.close.Goals as goal
 
 pub returns-clause-told : goal.returns-clause-told

@@ -3,7 +3,7 @@ use Rattle.mc_model.specs.Kept.{Kept}
 use Rattle.mc_app.proofs.EndFacts.{all_taken, ends_taken, may_lost, unmade_outcome}
 use Rattle.mc_app.proofs.RunFacts.{outcome_told}
 use Rattle.mc_app.proofs.running.run_keepers.Goals as goal
-use Rattle.mc_world.specs.Starts.{IsFirst}
+use Rattle.mc_seats.specs.Starts.{IsFirst}
 
 pub returns-in-Err-clause-outcome : goal.returns-in-Err-clause-outcome
 returns-in-Err-clause-outcome g c = unmade_outcome _ _ _ _ _ _ _ _ _ _ _ c.status_of.ensures c.in-Err.ensures.taken c.in-Err.ensures.lost

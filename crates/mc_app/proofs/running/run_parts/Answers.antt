@@ -1,10 +1,10 @@
 use Rattle.std.proofs.Common.{subst, sym}
 use Rattle.mc_app.proofs.EndFacts.{refused_outcome, refused_rose, refused_told}
 use Rattle.mc_app.proofs.KeepingFacts.{fused_members}
-use Rattle.mc_world.proofs.MemberWords.{members}
+use Rattle.mc_seats.proofs.MemberWords.{members}
 use Rattle.mc_app.proofs.RunFacts.{outcome_told}
 use Rattle.mc_app.proofs.running.run_parts.Goals as goal
-use Rattle.mc_world.specs.Starts.{IsFirst}
+use Rattle.mc_seats.specs.Starts.{IsFirst}
 
 pub returns-in-Ok-clause-outcome : goal.returns-in-Ok-clause-outcome
 returns-in-Ok-clause-outcome g c = outcome_told _ _ _ _ _ _ _ _ _ _ _ (λ w is. subst (IsFirst _) (sym is) c.in-Ok.ensures.first) (λ lines answers may. (may.0, λ calm. may.1 (c.in-Ok.ensures.calm calm))) (λ w ends. ends) c.run_world.ensures.outcome

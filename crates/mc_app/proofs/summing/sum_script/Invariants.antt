@@ -1,8 +1,8 @@
 use Rattle.std.proofs.Common.{◌≡◌, [], ◌++◌, ◌-◌, drop}
 use Rattle.mc_app.specs.Lines.{script_max}
-use Rattle.mc_world.specs.Words.{state, tally}
+use Rattle.mc_seats.specs.Words.{state, tally}
 use Rattle.mc_app.proofs.KeepingFacts.{fused_members}
-use Rattle.mc_world.proofs.MemberWords.{members}
+use Rattle.mc_seats.proofs.MemberWords.{members}
 use Rattle.mc_app.proofs.SummingFacts.{IsSumming}
 use Rattle.mc_app.proofs.summing.sum_script.Given as goal
 

@@ -1,7 +1,7 @@
 use Rattle.std.proofs.Common.{subst}
 use Rattle.std.specs.Prelude.{None}
 use Rattle.mc_fetch.proofs.AskFacts.{asks_more}
-use Rattle.mc_fetch.proofs.FirstFacts.{MatchAt, first_goes_on, first_is_there}
+use Rattle.mc_fetch.proofs.FirstFacts.{MatchAt, first_goes_on, first_is_there, none_said}
 use Rattle.mc_fetch.proofs.first.first_match.Goals as goal
 
 pub returns-in-Ok-Some-clause-found : goal.returns-in-Ok-Some-clause-found
@@ -19,3 +19,9 @@ loop-place-preserved g c =
       so_far = first_goes_on c.args.cid.now (g.F.Fetch.offers c.args.fetch.now) c.loop-place.place c.loop-place.invariant.so_far
           (subst (MatchAt c.args.cid.now c.loop-place.place None) c.loop-place.invariant.asked.offers_same here);
     }
+
+pub returns-in-Err-clause-found : goal.returns-in-Err-clause-found
+returns-in-Err-clause-found g c = none_said (g.F.Fetch.offers c.args.fetch.now)
+
+pub returns-in-Err-clause-asks : goal.returns-in-Err-clause-asks
+returns-in-Err-clause-asks g c = asks_more g.met.F.Fetch.follows_on c.loop-place.invariant.asked c.in-Err.ensures.asks

@@ -1,5 +1,9 @@
+use Rattle.std.proofs.Common.{arith, refl}
 use Rattle.mc_gen.proofs.StepFacts.{few_go_on, number_goes_on, sent_goes_on, text_goes_on}
 use Rattle.mc_gen.proofs.generate.script.Goals as goal
+
+pub loop-init : goal.loop-init
+loop-init c = record { number = refl; sent = refl; text = c.in_ok-text.ensures; few = omega arith }
 
 pub loop-preserved : goal.loop-preserved
 loop-preserved c = let inv = c.loop.invariant in record {

@@ -1,7 +1,7 @@
 use Rattle.std.proofs.Common.{◌∙◌, sym, ap, subst, Bool, Some}
 use Rattle.mc_node.specs.Entries.{items_at}
 use Rattle.mc_node.specs.Seats.{knows}
-use Rattle.mc_node.specs.Storms.{is_bytes}
+use Rattle.mc_storm.specs.Storms.{is_bytes}
 use Rattle.mc_node.specs.Writers.{WritesOnce}
 use Rattle.mc_node.proofs.StormCrews.{get_turn, item_at, open_one, put_turn}
 use Rattle.mc_node.proofs.StormSeats.{write_ungot, write_unput, write_whole}

@@ -1,5 +1,5 @@
 use Rattle.std.proofs.Common.{rules}
-use Rattle.mc_world.proofs.RecordFacts.{act_goes, act_line, act_not_begun, act_unrecorded, fewer_faults}
+use Rattle.mc_acts.proofs.RecordFacts.{act_goes, act_line, act_not_begun, act_unrecorded, fewer_faults}
 use Rattle.mc_world.proofs.acting.act.Goals as goal
 
 pub returns-in-Ok-clause-line : goal.returns-in-Ok-clause-line

@@ -8,3 +8,9 @@ returns-in-Work g c = record { acts = rw c.in-Work.is c.work_in.ensures.acts }
 
 pub returns-in-Repair : goal.returns-in-Repair
 returns-in-Repair g c = record { acts = rw c.in-Repair.is c.repair_in.ensures.acts }
+
+pub returns-in-Same : goal.returns-in-Same
+returns-in-Same g c = record { acts = rw c.in-Same.is c.same_in.ensures.acts }
+
+pub returns-in-Hear : goal.returns-in-Hear
+returns-in-Hear g c = record { acts = rw c.in-Hear.is c.hear_in.ensures.acts }

@@ -1,8 +1,8 @@
 use Rattle.mc_drain.specs.Repairs.{RepairLeads, RepairWants, has_walked}
 use Rattle.mc_drain.specs.Works.{keeper_broke}
 use Rattle.mc_pull.specs.Pulls.{found_at}
-use Rattle.mc_world.specs.Works.{RepairOn, repair_budget}
-use Rattle.mc_world.proofs.BeginFacts.{members}
+use Rattle.mc_seats.specs.Works.{RepairOn, repair_budget}
+use Rattle.mc_seats.proofs.BeginFacts.{members}
 use Rattle.mc_world.proofs.PullFacts.{desks_still, pulls_held, pulls_keeper, repair_on}
 use Rattle.mc_world.proofs.pulling.repair_held.Goals as goal
 

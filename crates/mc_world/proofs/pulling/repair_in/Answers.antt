@@ -1,10 +1,11 @@
 use Rattle.std.proofs.Common.{◌∙◌, ap, length, refl, sym}
 use Rattle.std.specs.List.{insert}
-use Rattle.mc_world.specs.Desked.{desk_sums}
-use Rattle.mc_world.proofs.BeginFacts.{members}
-use Rattle.mc_world.proofs.DeskedFacts.{counts_long, desked_again, others_desked, written_back}
+use Rattle.mc_seats.specs.Desked.{desk_sums}
+use Rattle.mc_seats.proofs.BeginFacts.{members}
+use Rattle.mc_seats.proofs.DeskedFacts.{counts_long}
+use Rattle.mc_world.proofs.DeskedFacts.{desked_again, others_desked, written_back}
 use Rattle.mc_world.proofs.PulledFacts.{repair_acts, repair_short}
-use Rattle.mc_world.proofs.SeatFacts.{same_length, still_roomy}
+use Rattle.mc_seats.proofs.SeatFacts.{same_length, still_roomy}
 use Rattle.mc_world.proofs.pulling.repair_in.Goals as goal
 
 pub repair_seat-seat-requires-clause-desked : goal.repair_seat-seat-requires-clause-desked

@@ -4,7 +4,7 @@ use Rattle.mc_drain.specs.Works.{keeper_broke, peer_broke}
 use Rattle.mc_lend.specs.Lending.{HaveDesks}
 use Rattle.mc_lend.specs.declared.site.Site.{Site}
 use Rattle.mc_world.specs.Pulling.{AddsSites, RepairBy}
-use Rattle.mc_world.proofs.BeginFacts.{members}
+use Rattle.mc_seats.proofs.BeginFacts.{members}
 use Rattle.mc_world.proofs.DeskedFacts.{all_long, same_long}
 use Rattle.mc_world.proofs.SiteFacts.{among, insert_at, marks_among}
 use Rattle.mc_world.proofs.pulling.repair_seat.Goals as goal

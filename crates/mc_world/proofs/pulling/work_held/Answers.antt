@@ -1,7 +1,7 @@
 use Rattle.mc_drain.specs.Works.{WorkLeads, WorkWants, keeper_broke}
 use Rattle.mc_pull.specs.Pulls.{found_at}
-use Rattle.mc_world.specs.Works.{WorkOn}
-use Rattle.mc_world.proofs.BeginFacts.{members}
+use Rattle.mc_seats.specs.Works.{WorkOn}
+use Rattle.mc_seats.proofs.BeginFacts.{members}
 use Rattle.mc_world.proofs.PullFacts.{desks_still, pulls_held, pulls_keeper}
 use Rattle.mc_world.proofs.pulling.work_held.Goals as goal
 

@@ -1,5 +1,5 @@
 use Rattle.std.proofs.Common.{rules}
-use Rattle.mc_world.proofs.BeginFacts.{members}
+use Rattle.mc_seats.proofs.BeginFacts.{members}
 use Rattle.mc_world.proofs.SiteFacts.{adds_more, adds_none}
 use Rattle.mc_world.proofs.sites.+push_sites.Goals as goal
 

@@ -1,7 +1,9 @@
 use Rattle.std.proofs.Common.{rules, refl}
 use Rattle.std.specs.Prelude.{vec_len}
-use Rattle.mc_world.proofs.LiftFacts.{lift, storm_is, within_places}
-use Rattle.mc_world.proofs.SeatFacts.{replaced, same_length, still_desked, still_roomy}
+use Rattle.mc_script.specs.declared.command.Command.TheVariants.{Storm}
+use Rattle.mc_seats.specs.Doing.{Storms}
+use Rattle.mc_acts.proofs.LiftFacts.{lift, one_of, within_places}
+use Rattle.mc_seats.proofs.SeatFacts.{replaced, same_length, still_desked, still_roomy}
 use Rattle.mc_world.proofs.storming.storm_in.Goals as goal
 
 pub invariant_of-world : goal.invariant_of-world
@@ -13,4 +15,4 @@ invariant_of-world g c = let same = same_length _ _ _ _ _ _ c.take_at-seat.ensur
 }
 
 pub returns : goal.returns
-returns g c = record { acts = lift _ _ _ (record { stands = c.take_at-seat.ensures.taken; seats = replaced _ _ _ _ _ _ c.take_at-seat.ensures.taken c.take_at-seat.ensures.items c.put_at.ensures; desks = refl; bag = refl; down = refl; entries = refl }) (storm_is _ c.args.r c.args.writers c.args.writes) _ _ (λ w reply. refl) (λ w reply. tt) (within_places _ c.args.world.now.seats.items (vec_len c.args.world.now.seats) _ (search rules) c.requires.there) tt c.storm_at-seat.ensures.acts }
+returns g c = record { acts = lift _ _ (Storm c.args.r c.args.writers c.args.writes) (record { stands = c.take_at-seat.ensures.taken; seats = replaced _ _ _ _ _ _ c.take_at-seat.ensures.taken c.take_at-seat.ensures.items c.put_at.ensures; desks = refl; bag = refl; down = refl; entries = refl }) (one_of _ c.args.r (Storms c.args.writers c.args.writes) refl) _ _ (λ w reply. refl) (λ w reply. tt) (within_places _ c.args.world.now.seats.items (vec_len c.args.world.now.seats) _ (search rules) c.requires.there) tt c.storm_at-seat.ensures.acts }

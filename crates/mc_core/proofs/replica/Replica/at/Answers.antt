@@ -1,15 +1,15 @@
 use Rattle.mc_keep.specs.Causes.{is_fault_kind}
 use Rattle.mc_keep.proofs.Frames.{read_well}
-use Rattle.mc_core.specs.Refusals.{kind_of}
+use Rattle.mc_plan.specs.Refusals.{kind_of}
 use Rattle.std.proofs.Common.{◌≡◌, refl, Option, ap, sym}
 use Rattle.std.specs.Prelude.{slice_get}
 use Rattle.mc_base.specs.declared.cid.Cid.{Cid}
 use Rattle.mc_model.specs.Kept.{Kept}
 use Rattle.std.specs.Prelude.{⊤}
-use Rattle.mc_core.proofs.CallFacts.{answers_call}
+use Rattle.mc_plan.proofs.CallFacts.{answers_call}
 use Rattle.mc_core.specs.Replica.{running_of}
 use Rattle.mc_core.proofs.Keeps.{looks_on, still_on, stops_once}
-use Rattle.mc_core.proofs.SoundFacts.{looks_down}
+use Rattle.mc_plan.proofs.SoundFacts.{looks_down}
 use Rattle.mc_core.proofs.replica.Replica.at.Goals as goal
 
 pub returns-then-self-clause-keeps : goal.returns-then-self-clause-keeps

@@ -1,16 +1,16 @@
-use Rattle.mc_core.specs.Batches.{commit_refusal, CommitEvents}
-use Rattle.mc_core.specs.Refusals.{Is}
+use Rattle.mc_plan.specs.Batches.{commit_refusal, CommitEvents}
+use Rattle.mc_plan.specs.Refusals.{Is}
 use Rattle.std.proofs.Common.{refl, None}
 use Rattle.std.specs.Prelude.{⊤}
-use Rattle.mc_core.proofs.CallFacts.{early_call, part_call}
-use Rattle.mc_core.proofs.MadeFacts.{commit_made, nothing_made}
-use Rattle.mc_core.proofs.BatchFacts.{batch_call, commit_due, commit_plan, commit_empty}
+use Rattle.mc_plan.proofs.CallFacts.{early_call, part_call}
+use Rattle.mc_plan.proofs.MadeFacts.{commit_made, nothing_made}
+use Rattle.mc_plan.proofs.BatchFacts.{batch_call, commit_due, commit_plan, commit_empty}
 use Rattle.mc_core.proofs.Keeps.{continues_more, looks_on, still_on}
 use Rattle.mc_core.specs.Replica.{running_of}
-use Rattle.mc_core.proofs.PutFacts.{some_plan}
-use Rattle.mc_core.proofs.SoundFacts.{looks_down}
-use Rattle.mc_core.specs.Batches.{delta_of_batch}
-use Rattle.mc_core.specs.Puts.{next_links}
+use Rattle.mc_plan.proofs.PutFacts.{some_plan}
+use Rattle.mc_plan.proofs.SoundFacts.{looks_down}
+use Rattle.mc_plan.specs.Batches.{delta_of_batch}
+use Rattle.mc_plan.specs.Puts.{next_links}
 use Rattle.mc_core.proofs.replica.Replica.batch_commit.Goals as goal
 
 pub returns-then-is_empty-clause-call : goal.returns-then-is_empty-clause-call

@@ -1,11 +1,12 @@
-use Rattle.mc_core.specs.Batches.{batch_delete_refusal, BatchDeleteEvents}
-use Rattle.mc_core.specs.Refusals.{Is}
+use Rattle.mc_plan.specs.Batches.{batch_delete_refusal, BatchDeleteEvents}
+use Rattle.mc_plan.specs.Refusals.{Is}
 use Rattle.std.proofs.Common.{Some, refl, sym, ap, ◌∙◌}
 use Rattle.std.specs.Prelude.{⊤, is_some}
 use Rattle.mc_keep.proofs.Frames.{read_well}
-use Rattle.mc_core.proofs.BatchFacts.{batch_call, early_batch, delete_into, delete_due, keeper_rose}
+use Rattle.mc_plan.proofs.BatchFacts.{batch_call, early_batch, delete_into, delete_due, keeper_rose}
 use Rattle.std.proofs.lemmas.Result.{err_from_is_err_and}
-use Rattle.mc_core.proofs.Keeps.{looks_on, same_fault, still_on, stops_once}
+use Rattle.mc_core.proofs.Keeps.{looks_on, still_on, stops_once}
+use Rattle.mc_plan.proofs.FaultFacts.{same_fault}
 use Rattle.mc_core.specs.Replica.{running_of}
 use Rattle.mc_core.proofs.replica.Replica.batch_delete.Goals as goal
 

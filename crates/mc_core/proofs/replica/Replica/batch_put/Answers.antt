@@ -1,8 +1,8 @@
-use Rattle.mc_core.specs.Batches.{batch_put_refusal, BatchPutEvents}
-use Rattle.mc_core.specs.Refusals.{Is}
+use Rattle.mc_plan.specs.Batches.{batch_put_refusal, BatchPutEvents}
+use Rattle.mc_plan.specs.Refusals.{Is}
 use Rattle.std.proofs.Common.{refl, Some}
 use Rattle.std.specs.Prelude.{⊤}
-use Rattle.mc_core.proofs.BatchFacts.{batch_call, put_into}
+use Rattle.mc_plan.proofs.BatchFacts.{batch_call, put_into}
 use Rattle.std.proofs.lemmas.Result.{err_from_is_err_and}
 use Rattle.mc_core.proofs.Keeps.{still_on}
 use Rattle.mc_core.specs.Replica.{running_of}

@@ -1,9 +1,9 @@
 use Rattle.std.specs.Prelude.{⊤}
 use Rattle.std.proofs.Common.{[], ◌∷◌}
 use Rattle.mc_model.specs.Events.{WalkBegin}
-use Rattle.mc_core.specs.declared.walks.WalkStep.TheVariants.{Begun}
+use Rattle.mc_plan.specs.declared.walks.WalkStep.TheVariants.{Begun}
 use Rattle.mc_core.specs.Replica.{running_of}
-use Rattle.mc_core.proofs.WalkFacts.{begin_due, step_done, step_goes, told_begins}
+use Rattle.mc_plan.proofs.WalkFacts.{begin_due, step_done, step_goes, told_begins}
 use Rattle.mc_core.proofs.replica.Replica.begin_walk.Goals as goal
 
 pub returns-in-Ok-clause-call : goal.returns-in-Ok-clause-call

@@ -1,4 +1,4 @@
-use Rattle.mc_core.proofs.UptakeFacts.{told_stores, told_known}
+use Rattle.mc_plan.proofs.UptakeFacts.{told_stores, told_known}
 use Rattle.mc_core.proofs.replica.Replica.carry_out.Goals as goal
 
 pub commit_both-requires-clause-ready : goal.commit_both-requires-clause-ready

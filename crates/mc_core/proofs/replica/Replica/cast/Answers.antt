@@ -2,11 +2,12 @@ use Rattle.mc_keep.proofs.Frames.{read_well}
 use Rattle.std.proofs.Common.{◌≡◌, refl, ℕ, List}
 use Rattle.std.specs.Prelude.{⊤}
 use Rattle.mc_model.specs.Kept.{Kept}
-use Rattle.mc_core.specs.Hears.{written_cast}
+use Rattle.mc_plan.specs.Hears.{written_cast}
 use Rattle.mc_core.specs.Replica.{running_of}
-use Rattle.mc_core.proofs.CallFacts.{answers_call}
-use Rattle.mc_core.proofs.Keeps.{looks_on, same_fault, still_on, stops_once}
-use Rattle.mc_core.proofs.SoundFacts.{looks_down}
+use Rattle.mc_plan.proofs.CallFacts.{answers_call}
+use Rattle.mc_core.proofs.Keeps.{looks_on, still_on, stops_once}
+use Rattle.mc_plan.proofs.FaultFacts.{same_fault}
+use Rattle.mc_plan.proofs.SoundFacts.{looks_down}
 use Rattle.mc_core.proofs.replica.Replica.cast.Goals as goal
 
 pub returns-then-self-clause-keeps : goal.returns-then-self-clause-keeps

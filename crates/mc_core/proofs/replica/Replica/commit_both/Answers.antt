@@ -1,7 +1,7 @@
 use Rattle.std.proofs.Common.{[], ◌∷◌, arith}
 use Rattle.mc_model.specs.Events.{Store, Process}
 use Rattle.mc_model.specs.State.{vertices}
-use Rattle.mc_core.proofs.PartFacts.{part_more, part_then}
+use Rattle.mc_plan.proofs.PartFacts.{part_more, part_then}
 use Rattle.mc_core.proofs.Keeps.{commit_more}
 use Rattle.mc_core.proofs.replica.Replica.commit_both.Goals as goal
 

@@ -1,10 +1,10 @@
 use Rattle.std.proofs.Common.{[], ◌∷◌, refl}
 use Rattle.mc_base.specs.Causes.{Rose}
 use Rattle.mc_model.specs.Events.{Process}
-use Rattle.mc_core.proofs.CommitFacts.{process_done, process_failed}
-use Rattle.mc_core.proofs.CountFacts.{counted_after, gaps_planned}
+use Rattle.mc_plan.proofs.CommitFacts.{process_done, process_failed}
+use Rattle.mc_plan.proofs.CountFacts.{counted_after, gaps_planned}
 use Rattle.mc_core.proofs.Keeps.{commits_on}
-use Rattle.mc_core.proofs.SoundFacts.{breaks_told, goes_told}
+use Rattle.mc_plan.proofs.SoundFacts.{breaks_told, goes_told}
 use Rattle.mc_core.specs.Replica.{running_of}
 use Rattle.mc_core.proofs.replica.Replica.commit_process.Goals as goal
 

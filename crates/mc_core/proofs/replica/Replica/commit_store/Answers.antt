@@ -3,11 +3,11 @@ use Rattle.mc_base.specs.Causes.{Rose}
 use Rattle.mc_model.specs.Events.{Store}
 use Rattle.mc_model.specs.Kept.{blocks_in}
 use Rattle.mc_model.specs.State.{vertices}
-use Rattle.mc_core.proofs.CommitFacts.{store_done, store_failed}
-use Rattle.mc_core.proofs.CountFacts.{counted_after, gaps_stay}
+use Rattle.mc_plan.proofs.CommitFacts.{store_done, store_failed}
+use Rattle.mc_plan.proofs.CountFacts.{counted_after, gaps_stay}
 use Rattle.mc_core.proofs.Keeps.{commits_on}
-use Rattle.mc_core.proofs.UptakeFacts.{stores_only}
-use Rattle.mc_core.proofs.SoundFacts.{breaks_told, goes_told}
+use Rattle.mc_plan.proofs.UptakeFacts.{stores_only}
+use Rattle.mc_plan.proofs.SoundFacts.{breaks_told, goes_told}
 use Rattle.mc_core.specs.Replica.{running_of}
 use Rattle.mc_core.proofs.replica.Replica.commit_store.Goals as goal
 

@@ -1,6 +1,6 @@
-use Rattle.mc_core.proofs.CutFacts.{delete_made, none_deleted}
-use Rattle.mc_core.proofs.DeletedFacts.{delete_next, delete_call, delete_early}
-use Rattle.mc_core.proofs.ShortFacts.{short_call, short_early}
+use Rattle.mc_plan.proofs.CutFacts.{delete_made, none_deleted}
+use Rattle.mc_plan.proofs.DeletedFacts.{delete_next, delete_call, delete_early}
+use Rattle.mc_plan.proofs.ShortFacts.{short_call, short_early}
 use Rattle.std.proofs.Common.{refl}
 use Rattle.mc_core.proofs.Keeps.{continues_more, looks_on, still_on, stops_once}
 use Rattle.mc_core.proofs.replica.Replica.delete.Goals as goal

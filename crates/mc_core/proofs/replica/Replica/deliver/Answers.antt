@@ -1,5 +1,5 @@
 use Rattle.std.proofs.Common.{refl, sym, ◌∙◌}
-use Rattle.mc_core.proofs.DeliverFacts.{deliver_known}
+use Rattle.mc_plan.proofs.DeliverFacts.{deliver_known}
 use Rattle.mc_core.proofs.Keeps.{still_on}
 use Rattle.mc_core.specs.Replica.{running_of}
 use Rattle.mc_core.proofs.replica.Replica.deliver.Goals as goal

@@ -1,12 +1,12 @@
 use Rattle.std.proofs.Common.{refl, Some, Err, ◌∙◌}
 use Rattle.std.specs.Prelude.{⊤}
-use Rattle.mc_core.proofs.DeliverFacts.{arrival_call, deliver_failed, deliver_short, deliver_short_sound, not_processed}
-use Rattle.mc_core.proofs.JobFacts.{call_sound}
+use Rattle.mc_plan.proofs.DeliverFacts.{arrival_call, deliver_failed, deliver_short, deliver_short_sound, not_processed}
+use Rattle.mc_plan.proofs.JobFacts.{call_sound}
 use Rattle.mc_core.proofs.Keeps.{continues_more, looks_on}
-use Rattle.mc_core.specs.declared.error.CoreError.TheVariants.{Memory}
-use Rattle.mc_core.specs.Jobs.{DeliverEvents, DeliverShort}
-use Rattle.mc_core.specs.Reads.{read_refusal}
-use Rattle.mc_core.specs.Refusals.{Is}
+use Rattle.mc_plan.specs.declared.error.CoreError.TheVariants.{Memory}
+use Rattle.mc_plan.specs.Jobs.{DeliverEvents, DeliverShort}
+use Rattle.mc_plan.specs.Reads.{read_refusal}
+use Rattle.mc_plan.specs.Refusals.{Is}
 use Rattle.mc_core.specs.Replica.{running_of}
 use Rattle.mc_core.proofs.replica.Replica.deliver_block.Goals as goal
 

@@ -1,12 +1,12 @@
 use Rattle.std.proofs.Common.{refl, None, Ok}
 use Rattle.std.specs.Prelude.{⊤}
-use Rattle.mc_core.proofs.DeliverFacts.{deliver_missing, deliver_short_sound}
-use Rattle.mc_core.proofs.JobFacts.{call_sound}
+use Rattle.mc_plan.proofs.DeliverFacts.{deliver_missing, deliver_short_sound}
+use Rattle.mc_plan.proofs.JobFacts.{call_sound}
 use Rattle.mc_core.proofs.Keeps.{still_on}
 use Rattle.mc_fetch.specs.declared.job.Delivered.TheVariants.{Missing}
-use Rattle.mc_core.specs.Jobs.{DeliverEvents, DeliverShort}
-use Rattle.mc_core.specs.Reads.{read_refusal}
-use Rattle.mc_core.specs.Refusals.{Is}
+use Rattle.mc_plan.specs.Jobs.{DeliverEvents, DeliverShort}
+use Rattle.mc_plan.specs.Reads.{read_refusal}
+use Rattle.mc_plan.specs.Refusals.{Is}
 use Rattle.mc_core.specs.Replica.{running_of}
 use Rattle.mc_core.proofs.replica.Replica.deliver_found.Goals as goal
 

@@ -1,11 +1,11 @@
 use Rattle.std.specs.Prelude.{⊤}
 use Rattle.std.proofs.Common.{[], ◌∷◌, refl, sym}
-use Rattle.mc_core.specs.declared.walks.WalkStep.TheVariants.{Ended}
+use Rattle.mc_plan.specs.declared.walks.WalkStep.TheVariants.{Ended}
 use Rattle.mc_core.specs.Replica.{running_of}
 use Rattle.mc_keep.proofs.Frames.{goes_commit}
 use Rattle.mc_model.specs.Events.{WalkEnd}
-use Rattle.mc_core.proofs.SoundFacts.{goes_told}
-use Rattle.mc_core.proofs.WalkFacts.{clear_breaks, clear_goes, cleared_count, step_done, step_failed, told_cleared}
+use Rattle.mc_plan.proofs.SoundFacts.{goes_told}
+use Rattle.mc_plan.proofs.WalkFacts.{clear_breaks, clear_goes, cleared_count, step_done, step_failed, told_cleared}
 use Rattle.mc_core.proofs.replica.Replica.end_clean.Goals as goal
 
 pub returns-in-Ok-clause-call : goal.returns-in-Ok-clause-call

@@ -1,11 +1,11 @@
 use Rattle.std.specs.Prelude.{⊤}
 use Rattle.std.proofs.Common.{[], ◌∷◌, refl, sym}
 use Rattle.mc_model.specs.Events.{WalkEnd}
-use Rattle.mc_core.specs.declared.walks.WalkStep.TheVariants.{Ended}
+use Rattle.mc_plan.specs.declared.walks.WalkStep.TheVariants.{Ended}
 use Rattle.mc_core.specs.Replica.{running_of}
 use Rattle.mc_core.proofs.Keeps.{still_on}
-use Rattle.mc_core.proofs.SoundFacts.{goes_told}
-use Rattle.mc_core.proofs.WalkFacts.{same_silent, step_done, step_goes, told_end}
+use Rattle.mc_plan.proofs.SoundFacts.{goes_told}
+use Rattle.mc_plan.proofs.WalkFacts.{same_silent, step_done, step_goes, told_end}
 use Rattle.mc_core.proofs.replica.Replica.end_walk.Goals as goal
 
 pub returns-clause-call : goal.returns-clause-call

@@ -1,4 +1,4 @@
-use Rattle.mc_core.proofs.JobFacts.{give_told, happens_sound}
+use Rattle.mc_plan.proofs.JobFacts.{give_told, happens_sound}
 use Rattle.mc_core.specs.Replica.{running_of}
 use Rattle.mc_core.proofs.replica.Replica.give_back.Goals as goal
 

@@ -1,15 +1,15 @@
 use Rattle.std.specs.Prelude.{⊤}
 use Rattle.std.proofs.Common.{[], ◌∷◌, ◌∙◌, Option, Some, true, refl, sym, subst}
 use Rattle.mc_model.specs.Events.{WalkVisit}
-use Rattle.mc_core.specs.declared.walks.WalkStep.TheVariants.{Visited}
+use Rattle.mc_plan.specs.declared.walks.WalkStep.TheVariants.{Visited}
 use Rattle.mc_model.specs.State.{Walk}
 use Rattle.mc_model.specs.Wanted.{Queue}
 use Rattle.mc_queue.specs.Views.{shown}
-use Rattle.mc_core.specs.Counted.{AreSound}
+use Rattle.mc_plan.specs.Counted.{AreSound}
 use Rattle.mc_core.specs.Replica.{running_of}
 use Rattle.mc_core.proofs.Keeps.{looks_on}
-use Rattle.mc_core.proofs.SoundFacts.{goes_told, looks_down}
-use Rattle.mc_core.proofs.WalkFacts.{next_due, same_silent, step_done, step_goes, told_visits}
+use Rattle.mc_plan.proofs.SoundFacts.{goes_told, looks_down}
+use Rattle.mc_plan.proofs.WalkFacts.{next_due, same_silent, step_done, step_goes, told_visits}
 use Rattle.mc_core.proofs.replica.Replica.go_on.Goals as goal
 
 pub returns-in-Ok-clause-call : goal.returns-in-Ok-clause-call

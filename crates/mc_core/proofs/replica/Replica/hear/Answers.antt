@@ -2,7 +2,7 @@ use Rattle.std.proofs.Common.{refl}
 use Rattle.std.specs.Prelude.{⊤}
 use Rattle.mc_queue.specs.Views.{shown}
 use Rattle.mc_core.specs.Replica.{running_of}
-use Rattle.mc_core.proofs.HearFacts.{hear_call, hear_sound}
+use Rattle.mc_plan.proofs.HearFacts.{hear_call, hear_sound}
 use Rattle.mc_core.proofs.Keeps.{looks_on, still_on}
 use Rattle.mc_core.proofs.replica.Replica.hear.Goals as goal
 

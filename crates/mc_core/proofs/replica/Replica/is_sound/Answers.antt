@@ -1,4 +1,4 @@
-use Rattle.mc_core.proofs.SoundFacts.{is_sound_told}
+use Rattle.mc_plan.proofs.SoundFacts.{is_sound_told}
 use Rattle.mc_core.specs.Replica.{running_of}
 use Rattle.mc_core.proofs.replica.Replica.is_sound.Goals as goal
 

@@ -2,12 +2,12 @@ use Rattle.std.proofs.Common.{refl, sym, ap, cond, ◌∙◌, Some, Ok, Err}
 use Rattle.std.specs.Prelude.{⊤}
 use Rattle.mc_model.specs.Graph.{has}
 use Rattle.mc_model.specs.Wanted.{Queue, give_back}
-use Rattle.mc_core.proofs.JobFacts.{begin_call, begin_short, begin_sound, call_sound, next_short_sound, short_wants}
+use Rattle.mc_plan.proofs.JobFacts.{begin_call, begin_short, begin_sound, call_sound, next_short_sound, short_wants}
 use Rattle.mc_core.proofs.Keeps.{looks_on, still_on}
-use Rattle.mc_core.specs.declared.error.CoreError.TheVariants.{Memory}
-use Rattle.mc_core.specs.Jobs.{NextEvents, NextShort}
-use Rattle.mc_core.specs.Reads.{read_refusal}
-use Rattle.mc_core.specs.Refusals.{Is}
+use Rattle.mc_plan.specs.declared.error.CoreError.TheVariants.{Memory}
+use Rattle.mc_plan.specs.Jobs.{NextEvents, NextShort}
+use Rattle.mc_plan.specs.Reads.{read_refusal}
+use Rattle.mc_plan.specs.Refusals.{Is}
 use Rattle.mc_core.specs.Replica.{running_of}
 use Rattle.mc_core.proofs.replica.Replica.next_job.Goals as goal
 

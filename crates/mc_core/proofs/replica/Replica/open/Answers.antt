@@ -1,6 +1,6 @@
 use Rattle.mc_core.proofs.OpenFacts.{opens_now}
-use Rattle.mc_core.proofs.SoundFacts.{open_sound}
-use Rattle.mc_core.proofs.CountFacts.{counted_open}
+use Rattle.mc_plan.proofs.SoundFacts.{open_sound}
+use Rattle.mc_plan.proofs.CountFacts.{counted_open}
 use Rattle.mc_core.proofs.replica.Replica.open.Goals as goal
 
 pub returns-in-Ok-clause-opened : goal.returns-in-Ok-clause-opened

@@ -1,11 +1,11 @@
 use Rattle.mc_keep.specs.Causes.{is_fault_kind}
 use Rattle.mc_keep.proofs.Frames.{read_well}
-use Rattle.mc_core.specs.Refusals.{kind_of}
+use Rattle.mc_plan.specs.Refusals.{kind_of}
 use Rattle.std.proofs.Common.{refl, ap, sym}
 use Rattle.mc_front.proofs.Places.{found_told}
 use Rattle.mc_core.proofs.Keeps.{looks_on, still_on, stops_once}
 use Rattle.mc_core.specs.Replica.{running_of}
-use Rattle.mc_core.proofs.SoundFacts.{looks_down}
+use Rattle.mc_plan.proofs.SoundFacts.{looks_down}
 use Rattle.mc_core.proofs.replica.Replica.position.Goals as goal
 
 pub returns-in-Ok-clause-found : goal.returns-in-Ok-clause-found

@@ -1,13 +1,13 @@
-use Rattle.mc_core.specs.Puts.{put_refusal, PutEvents}
-use Rattle.mc_core.specs.Refusals.{Is}
-use Rattle.mc_core.proofs.CallFacts.{early_call, part_call}
-use Rattle.mc_core.specs.Puts.{delta_of_put}
-use Rattle.mc_core.proofs.MadeFacts.{put_made}
-use Rattle.mc_core.proofs.PutFacts.{put_due, put_plan}
+use Rattle.mc_plan.specs.Puts.{put_refusal, PutEvents}
+use Rattle.mc_plan.specs.Refusals.{Is}
+use Rattle.mc_plan.proofs.CallFacts.{early_call, part_call}
+use Rattle.mc_plan.specs.Puts.{delta_of_put}
+use Rattle.mc_plan.proofs.MadeFacts.{put_made}
+use Rattle.mc_plan.proofs.PutFacts.{put_due, put_plan}
 use Rattle.std.proofs.Common.{refl}
 use Rattle.mc_core.proofs.Keeps.{continues_more, looks_on, still_on, stops_once}
 use Rattle.mc_core.specs.Replica.{running_of}
-use Rattle.mc_core.proofs.SoundFacts.{looks_down}
+use Rattle.mc_plan.proofs.SoundFacts.{looks_down}
 use Rattle.mc_core.proofs.replica.Replica.put.Goals as goal
 
 pub returns-in-Ok-clause-call : goal.returns-in-Ok-clause-call

@@ -7,10 +7,11 @@ use Rattle.mc_query.specs.declared.pair.Pair.{Pair}
 use Rattle.mc_model.specs.Kept.{Kept, processed}
 use Rattle.mc_query.specs.Places.{pair_of}
 use Rattle.std.specs.Prelude.{⊤}
-use Rattle.mc_core.proofs.CallFacts.{answers_call}
+use Rattle.mc_plan.proofs.CallFacts.{answers_call}
 use Rattle.mc_core.specs.Replica.{running_of}
-use Rattle.mc_core.proofs.Keeps.{looks_on, same_fault, still_on, stops_once}
-use Rattle.mc_core.proofs.SoundFacts.{looks_down}
+use Rattle.mc_core.proofs.Keeps.{looks_on, still_on, stops_once}
+use Rattle.mc_plan.proofs.FaultFacts.{same_fault}
+use Rattle.mc_plan.proofs.SoundFacts.{looks_down}
 use Rattle.mc_core.proofs.replica.Replica.query.Goals as goal
 
 pub returns-then-self-clause-keeps : goal.returns-then-self-clause-keeps

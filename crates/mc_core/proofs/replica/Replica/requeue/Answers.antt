@@ -1,4 +1,4 @@
-use Rattle.mc_core.proofs.JobFacts.{requeue_told, happens_sound}
+use Rattle.mc_plan.proofs.JobFacts.{requeue_told, happens_sound}
 use Rattle.mc_core.specs.Replica.{running_of}
 use Rattle.mc_core.proofs.replica.Replica.requeue.Goals as goal
 

@@ -1,9 +1,9 @@
 use Rattle.std.proofs.Common.{◌∙◌, sym}
 use Rattle.std.proofs.lemmas.Iterator.Adapters.{YieldsList-from_vec}
 use Rattle.std.proofs.lemmas.Iterator.Consumers.{YieldsList-turn, YieldsList-so_far}
-use Rattle.mc_core.proofs.DeleteFacts.{rest_of}
+use Rattle.mc_plan.proofs.DeleteFacts.{rest_of}
 use Rattle.mc_core.proofs.Keeps.{commit_itself, commit_more}
-use Rattle.mc_core.proofs.TakenFacts.{first_told, second_told, next_told, taken_goes_on, taken_ends, taken_none}
+use Rattle.mc_plan.proofs.TakenFacts.{first_told, second_told, next_told, taken_goes_on, taken_ends, taken_none}
 use Rattle.mc_core.proofs.replica.Replica.take_up_all.Goals as goal
 
 pub take_up_one-requires-clause-new : goal.take_up_one-requires-clause-new

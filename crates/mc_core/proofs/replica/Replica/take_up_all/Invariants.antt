@@ -2,7 +2,7 @@ use Rattle.std.proofs.Common.{◌≡◌, false}
 use Rattle.mc_base.specs.Told.{Told}
 use Rattle.mc_core.specs.Replica.{replica_state}
 use Rattle.mc_core.specs.Words.{HasCommitted}
-use Rattle.mc_core.proofs.TakenFacts.{Taken}
+use Rattle.mc_plan.proofs.TakenFacts.{Taken}
 use Rattle.mc_core.proofs.replica.Replica.take_up_all.Given as goal
 
 abbrev pub invariant-loop-made : goal.invariant-loop-made

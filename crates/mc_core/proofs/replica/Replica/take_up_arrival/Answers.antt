@@ -2,10 +2,10 @@ use Rattle.std.proofs.Common.{refl, [], ◌∷◌, ◌∙◌, ap, cond}
 use Rattle.mc_model.specs.Events.{GiveBack}
 use Rattle.mc_model.specs.Graph.{has}
 use Rattle.mc_model.specs.Wanted.{Queue, give_back, without}
-use Rattle.mc_core.proofs.DeliverFacts.{gives_back}
+use Rattle.mc_plan.proofs.DeliverFacts.{gives_back}
 use Rattle.mc_core.proofs.Keeps.{still_on}
-use Rattle.mc_core.proofs.SoundFacts.{goes_told}
-use Rattle.mc_core.specs.Uptakes.{wants}
+use Rattle.mc_plan.proofs.SoundFacts.{goes_told}
+use Rattle.mc_plan.specs.Uptakes.{wants}
 use Rattle.mc_core.specs.Replica.{running_of}
 use Rattle.mc_core.proofs.replica.Replica.take_up_arrival.Goals as goal
 

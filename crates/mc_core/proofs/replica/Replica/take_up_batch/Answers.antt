@@ -1,7 +1,7 @@
 use Rattle.std.proofs.Common.{[], ◌∷◌, None, arith}
 use Rattle.mc_model.specs.Events.{Batch}
-use Rattle.mc_core.specs.Uptakes.{uptake_events}
-use Rattle.mc_core.proofs.PartFacts.{part_more}
+use Rattle.mc_plan.specs.Uptakes.{uptake_events}
+use Rattle.mc_plan.proofs.PartFacts.{part_more}
 use Rattle.mc_core.proofs.replica.Replica.take_up_batch.Goals as goal
 
 pub returns-in-Err-clause-part : goal.returns-in-Err-clause-part

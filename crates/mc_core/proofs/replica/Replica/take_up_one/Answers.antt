@@ -1,7 +1,7 @@
-use Rattle.mc_core.proofs.TakenFacts.{one_done, one_failed}
+use Rattle.mc_plan.proofs.TakenFacts.{one_done, one_failed}
 use Rattle.std.proofs.Common.{refl}
 use Rattle.mc_core.proofs.Keeps.{commit_more, looks_first, looks_on, stops_once}
-use Rattle.mc_core.proofs.SoundFacts.{looks_down}
+use Rattle.mc_plan.proofs.SoundFacts.{looks_down}
 use Rattle.mc_core.specs.Replica.{running_of}
 use Rattle.mc_core.proofs.replica.Replica.take_up_one.Goals as goal
 

@@ -1,0 +1,18 @@
+use Rattle.std.proofs.Common.{◌≡◌, length, refl}
+use Rattle.std.proofs.lemmas.Option.{slice_get_read}
+use Rattle.mc_model.specs.Graph.{has}
+use Rattle.mc_model.specs.Kept.{Kept}
+use Rattle.mc_acts.proofs.SameFacts.{fails_one, read_told, stay_one, up_read}
+use Rattle.mc_acts.proofs.sames.found_among.Goals as goal
+
+pub has_block-requires : goal.has_block-requires
+has_block-requires g c = record { up = up_read g.K.Keeper.told g.K.Keeper.fuse c.args.seats.now.items c.args.r c.index_mut.result.now (slice_get_read c.args.seats.now.items (length c.args.seats.now.items) c.args.r c.index_mut.result.now refl c.requires.there c.index_mut.ensures.value) c.requires.up }
+
+pub returns-in-Ok-clause-found : goal.returns-in-Ok-clause-found
+returns-in-Ok-clause-found g c = read_told g.K.Keeper.told c.args.seats.now.items c.args.r _ (λ (kept : Kept). c.in-Ok.found ≡ has c.args.cid.now kept.order) (slice_get_read c.args.seats.now.items (length c.args.seats.now.items) _ _ refl c.requires.there c.index_mut.ensures.value) c.in-Ok.ensures.found
+
+pub returns-in-Ok-clause-ok : goal.returns-in-Ok-clause-ok
+returns-in-Ok-clause-ok g c = stay_one _ _ _ _ _ (slice_get_read c.args.seats.now.items (length c.args.seats.now.items) _ _ refl c.requires.there c.index_mut.ensures.value) c.in-Ok.ensures.ok
+
+pub returns-in-Err-clause-err : goal.returns-in-Err-clause-err
+returns-in-Err-clause-err g c = fails_one _ _ _ _ _ (slice_get_read c.args.seats.now.items (length c.args.seats.now.items) _ _ refl c.requires.there c.index_mut.ensures.value) c.in-Err.ensures.err

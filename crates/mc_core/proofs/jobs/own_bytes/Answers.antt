@@ -1,5 +1,0 @@
-use Rattle.mc_core.proofs.JobFacts.{own_told}
-use Rattle.mc_core.proofs.jobs.own_bytes.Goals as goal
-
-pub returns-clause-own : goal.returns-clause-own
-returns-clause-own g c = own_told _ _ _ c.args.cid.now c.is_sound.ensures c.in_ok-stored.ensures.row c.with_digest.ensures.kept

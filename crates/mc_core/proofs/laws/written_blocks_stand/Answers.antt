@@ -1,5 +1,0 @@
-use Rattle.mc_core.proofs.GrowthFacts.{written_stands}
-use Rattle.mc_core.proofs.laws.written_blocks_stand.Goals as goal
-
-pub returns : goal.returns
-returns c = written_stands

@@ -1,6 +1,0 @@
-use Rattle.std.proofs.Common.{◌≡◌, take}
-use Rattle.mc_write.specs.Pairs.{row_cids}
-use Rattle.mc_core.proofs.made.cids_of.Given as goal
-
-abbrev pub invariant-loop-head : goal.invariant-loop-head
-invariant-loop-head l = l.cids ≡ row_cids (take l.head-index l.heads)

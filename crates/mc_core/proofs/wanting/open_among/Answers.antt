@@ -1,6 +1,0 @@
-use Rattle.mc_keep.proofs.Frames.{read_itself}
-use Rattle.mc_core.proofs.RefusalFacts.{told_always}
-use Rattle.mc_core.proofs.wanting.open_among.Goals as goal
-
-pub loop-link-init : goal.loop-link-init
-loop-link-init g c = record { left = told_always _ _ (λ kept. c.new-left.ensures); reads = read_itself c.args.keeper.now }

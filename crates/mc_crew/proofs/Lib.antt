@@ -1,4 +1,0 @@
-pub mod Hiring
-pub mod Left
-pub mod RoundFacts
-pub mod WorkFacts

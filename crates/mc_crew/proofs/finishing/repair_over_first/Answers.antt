@@ -1,7 +1,0 @@
-use Rattle.std.proofs.Common.{rules}
-use Rattle.mc_drain.specs.Works.{peer_broke}
-use Rattle.mc_crew.proofs.Left.{left_at}
-use Rattle.mc_crew.proofs.finishing.repair_over_first.Goals as goal
-
-pub returns-clause-left : goal.returns-clause-left
-returns-clause-left g c = left_at _ g.met.F.Fetch.follows_itself (peer_broke c.finish_repair.result) c.in-Some.fetch.now c.finish_repair.new.fetch c.in-Some._others.now c.args.fetches.now (search rules) c.finish_repair.ensures.asks

@@ -1,9 +1,0 @@
-use Rattle.mc_core.specs.Replica.{replica_state}
-use Rattle.mc_crew.specs.Bounds.{bounds_of}
-use Rattle.mc_crew.specs.Hands.{found_first}
-use Rattle.mc_crew.proofs.rounds.round.Given as goal
-
-abbrev pub ghosts-named_round : goal.ghosts-named_round
-ghosts-named_round g a =
-    let bounds = bounds_of a.limit (found_first g.F.Fetch.offers a.fetches.items) (replica_state g.K.Keeper.told g.K.Keeper.fuse a.replica) in
-    record { walks = bounds.walks; kept = bounds.kept; most = bounds.most; found = bounds.found }

@@ -1,0 +1,8 @@
+use Rattle.mc_fetch.proofs.FirstFacts.{match_found}
+use Rattle.mc_fetch.proofs.first.match_at.Goals as goal
+
+pub returns-in-Ok-clause-found : goal.returns-in-Ok-clause-found
+returns-in-Ok-clause-found g c = match_found (g.F.Fetch.offers c.args.fetch.now) c.args.cid.now c.args.place _ _ c.in-Ok.ensures.offer c.matching.ensures.same
+
+pub returns-in-Ok-clause-digest : goal.returns-in-Ok-clause-digest
+returns-in-Ok-clause-digest g c = c.matching.ensures.digest

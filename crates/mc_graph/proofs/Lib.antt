@@ -1,0 +1,8 @@
+pub mod Within
+pub mod OnOk
+pub mod CidFacts
+pub mod FreshFacts
+pub mod GraphFacts
+pub mod OrderFacts
+pub mod HeadFacts
+pub mod TombFacts

@@ -1,7 +1,0 @@
-use Rattle.std.proofs.Common.{◌∙◌}
-use Rattle.mc_keep_mem.specs.Graph.{order_of}
-use Rattle.mc_keep_mem.proofs.FreshFacts.{insert_fresh}
-use Rattle.mc_keep_mem.proofs.front.put_marks.Goals as goal
-
-pub returns-clause-order : goal.returns-clause-order
-returns-clause-order c = c.process_all.ensures.order ∙ insert_fresh (order_of c.args.graph.now.blocks c.args.graph.now.order.items) c.args.marks.now c.requires.fresh

@@ -1,0 +1,15 @@
+pub mod Batches
+pub mod Calls
+pub mod Counted
+pub mod Deletes
+pub mod Desks
+pub mod Drained
+pub mod Events
+pub mod Exact
+pub mod Hears
+pub mod Jobs
+pub mod Uptakes
+pub mod Puts
+pub mod Reads
+pub mod Refusals
+pub mod Walks

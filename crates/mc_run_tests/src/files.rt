@@ -1,0 +1,98 @@
+// Runs over SQLite files.
+use crate::drawing::drawn_script;
+use crate::runs::{Given, Meeting, Ran, WHOLE, run_with};
+use mc_app::Status;
+use mc_keep_any::RealKeepers;
+use std::fs;
+use std::sync::Wait;
+use std::test::Fail;
+use std::thread::Threads;
+
+// A run of these words over the program's keepers.
+fn over_real<W: Threads + Wait + Sync>(
+    rt: &HostRuntime,
+    words: &[&str],
+    script: &str,
+    wait: &W,
+) -> Result<Ran, Fail> {
+    let mut keepers = RealKeepers::new(rt);
+    let script = Given::script(rt.alloc(), script.as_bytes(), WHOLE)?;
+    let gate = Meeting::new(false);
+    run_with(rt.alloc(), words, script, WHOLE, &mut keepers, &gate, wait)
+}
+
+// Whether a script over the files of a folder ends without a fault and writes this.
+fn is_written<W: Threads + Wait + Sync>(
+    rt: &HostRuntime,
+    dir: &str,
+    script: &str,
+    wanted: &[u8],
+    wait: &W,
+) -> Result<bool, Fail> {
+    let words = ["run", "--keeper", "sqlite", "--dir", dir];
+    let (status, out, faults, lost) = over_real(rt, &words, script, wait)?;
+    Ok((status, faults, lost) == (Status::Done, 0, 0) && out.bytes() == wanted)
+}
+
+// A folder of this name without a file.
+fn made(rt: &HostRuntime, dir: &str) -> Result<(), Fail> {
+    let _ = fs::remove_dir_all(rt, dir);
+    fs::create_dir(rt, dir)?;
+    Ok(())
+}
+
+#[test]
+fn a_second_run_finds_what_the_first_wrote(rt: HostRuntime) -> Result<(), Fail> {
+    made(&rt, "mc_files_test")?;
+    let runs = [
+        (
+            "put a /k 01\nput a /k 02\ndel a /k\nput a /l 03\nput b /k 04\ncast b\nhear a 1\nstep a\nstate a\n",
+            "ok 1\nok 2\ndeleted 1\nok 4\nok 1\nmessage 1\nqueued 1\nprocessed\nstate processed 5 stored 5 waiting 0 missing 0 bad 0 mark clear whole yes\n",
+        ),
+        (
+            "state a\nget a /k\nget a /l\nquery a / 0 9\nstate b\nget b /k\nstate c\nput a /k 05\nget a /k\n",
+            "state processed 5 stored 5 waiting 0 missing 0 bad 0 mark clear whole yes\n04\n03\nrows 2\n/k 04\n/l 03\nstate processed 1 stored 1 waiting 0 missing 0 bad 0 mark clear whole yes\n04\nstate processed 0 stored 0 waiting 0 missing 0 bad 0 mark clear whole yes\nok 5\n05\n",
+        ),
+    ];
+    for (script, replies) in runs {
+        assert!(rt; is_written(&rt, "mc_files_test", script, replies.as_bytes(), &rt)?);
+    }
+    fs::remove_dir_all(&rt, "mc_files_test")?;
+    Ok(())
+}
+
+#[test]
+fn a_drawn_script_has_the_replies_of_memory(rt: HostRuntime) -> Result<(), Fail> {
+    let script = drawn_script(rt.alloc(), 60, 34)?;
+    let (status, out, _, _) = over_real(&rt, &["run"], script.as_str(), &rt)?;
+    assert_eq!(rt; status, Status::Done);
+    made(&rt, "mc_drawn_test")?;
+    assert!(rt; is_written(&rt, "mc_drawn_test", script.as_str(), out.bytes(), &rt)?);
+    fs::remove_dir_all(&rt, "mc_drawn_test")?;
+    Ok(())
+}
+
+// Whether no run begins over the files of a folder.
+fn is_refused<W: Threads + Wait + Sync>(
+    rt: &HostRuntime,
+    dir: &str,
+    wait: &W,
+) -> Result<bool, Fail> {
+    let words = ["run", "--keeper", "sqlite", "--dir", dir];
+    let (status, out, faults, lost) = over_real(rt, &words, "put a /k 01\n", wait)?;
+    Ok(status.code() == 6 && out.bytes().is_empty() && faults.saturating_add(lost) == 1)
+}
+
+#[test]
+fn files_that_are_no_stores_are_left(rt: HostRuntime) -> Result<(), Fail> {
+    let text = "this is no database, however long it is read";
+    let _ = fs::remove_dir_all(&rt, "mc_other_test");
+    assert!(rt; is_refused(&rt, "mc_other_test", &rt)?);
+    made(&rt, "mc_other_test")?;
+    fs::write(&rt, "mc_other_test/b.db", text)?;
+    assert!(rt; is_refused(&rt, "mc_other_test", &rt)?);
+    let kept = fs::read_to_string(&rt, "mc_other_test/b.db")?;
+    assert_eq!(rt; kept.as_str(), text);
+    fs::remove_dir_all(&rt, "mc_other_test")?;
+    Ok(())
+}

@@ -1,0 +1,39 @@
+//! Tests of whole runs over keepers in memory and in SQLite files, and of the keeper over SQLite beside the one in memory:
+//! the same scripts are answered alike, and what the keepers hold is the same; tables that are damaged or of another
+//! layout; and disks that stop at each of their calls.
+#![tactic(auto)]
+
+#[cfg(test)]
+mod both;
+#[cfg(test)]
+mod damage;
+#[cfg(test)]
+mod drawing;
+#[cfg(test)]
+mod drawn;
+#[cfg(test)]
+mod failing;
+#[cfg(test)]
+mod files;
+#[cfg(test)]
+mod gathering;
+#[cfg(test)]
+mod layouts;
+#[cfg(test)]
+mod limits;
+#[cfg(test)]
+mod lines;
+#[cfg(test)]
+mod rows;
+#[cfg(test)]
+mod runs;
+#[cfg(test)]
+mod shown;
+#[cfg(test)]
+mod stops;
+#[cfg(test)]
+mod tables;
+#[cfg(test)]
+mod words;
+#[cfg(test)]
+mod worlds;

@@ -1,0 +1,12 @@
+use Rattle.std.proofs.Common.{arith}
+use Rattle.mc_seats.proofs.DeskFacts.{goes_on, makes_failed}
+use Rattle.mc_seats.proofs.parting.fill_desks.Goals as goal
+
+pub loop-made-preserved : goal.loop-made-preserved
+loop-made-preserved g c = (
+  rw c.push_reserved.ensures.items (goes_on _ _ _ _ _ _ _ _ c.loop-made.invariant.0 c.in-Ok.ensures.keeps c.desk.ensures.rest c.desk.ensures.same c.in-Ok.ensures.fresh c.in-Ok.ensures.quiet_desk),
+  omega (arith, c.push_reserved.ensures),
+)
+
+pub returns-in-Err-clause-makes : goal.returns-in-Err-clause-makes
+returns-in-Err-clause-makes g c = makes_failed _ _ _ _ _ _ _ _ _ c.loop-made.invariant.0 c.in-Err.ensures.keeps c.desk.ensures.rest c.desk.ensures.same c.cause_of.ensures

@@ -1,0 +1,17 @@
+pub mod ChainFacts
+pub mod WalkFacts
+pub mod PassFacts
+pub mod PruneFacts
+pub mod HolderFacts
+pub mod StoredFacts
+pub mod PlaceFacts
+pub mod ValueFacts
+pub mod ListedFacts
+pub mod Fit
+pub mod FitAfter
+pub mod FrontMembers
+pub mod LinkFacts
+pub mod BroughtFacts
+pub mod Reserves
+pub mod Empty
+pub mod IfOk

@@ -1,0 +1,20 @@
+use Rattle.std.specs.HashMap.{keys}
+use Rattle.std.proofs.Common.{◌≡◌}
+use Rattle.std.specs.Prelude.{vec_len, vec_capacity}
+use Rattle.mc_tables.specs.Places.{last_in}
+use Rattle.mc_tables.specs.Chains.{before_at}
+use Rattle.mc_graph.specs.Tombs.{has_tomb_in}
+use Rattle.mc_tables.proofs.ChainFacts.{steps_left}
+use Rattle.mc_tables.proofs.PruneFacts.{IsPruning}
+use Rattle.mc_tables.proofs.live.next_live.Given as goal
+
+abbrev pub invariant-loop-next : goal.invariant-loop-next
+invariant-loop-next g l = record {
+  pruning : IsPruning (keys l.graph.blocks) (has_tomb_in l.tombs.keys.keys l.tombs.ids.keys l.tombs.pairs.keys) l.key l.fn.elements.nodes.items l.elements.nodes.items (last_in l.fn.elements.keys) l.place;
+  keys : l.elements.keys ≡ l.fn.elements.keys;
+  len : vec_len l.elements.nodes ≡ vec_len l.fn.elements.nodes;
+  capacity : vec_capacity l.elements.nodes ≡ vec_capacity l.fn.elements.nodes;
+}
+
+abbrev pub decreases-loop-next : goal.decreases-loop-next
+decreases-loop-next g l = steps_left (before_at l.elements.nodes.items l.place)

@@ -1,5 +1,0 @@
-use Rattle.std.proofs.Common.{length}
-use Rattle.mc_world.proofs.record.+add_risen.Given as goal
-
-abbrev pub decreases-add_risen : goal.decreases-add_risen
-decreases-add_risen l = length l.before.now
