@@ -5,7 +5,7 @@ ghost use Rattle.mc_turn.specs.Seats.{IsSeatOf};
 
 use crate::hand_made::HandMade;
 use crate::replicas::opened;
-use mc_base::{Cid, Text};
+use mc_base::{Cid, List};
 use mc_core::Replica;
 use mc_fetch::{Delivered, Found};
 use mc_keep::Keeper;
@@ -25,9 +25,9 @@ type Shared<K> = Node<Stored<K, Brand>>;
 
 type Place<K> = NodeSeat<Stored<K, Brand>, K>;
 
-// A keeper that holds nothing.
+// A keeper that holds nothing, and gives as many rows as it is asked for.
 fn nothing(alloc: Global) -> HandMade {
-    HandMade::of_puts(alloc, 0, Text::new(alloc))
+    HandMade::of_values(alloc, List::new(alloc), u64::MAX)
 }
 
 // What a read that doesn't wait answers: the word where the turn is held, and 0 where it answers.
