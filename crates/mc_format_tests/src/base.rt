@@ -1,8 +1,9 @@
-// Lists across threads, sources that repeat, varints and identifiers.
+// Lists across threads, sources that repeat, a sink over a writer that is full, varints and identifiers.
 use mc_base::{
-    Bytes, Case, Cid, List, RepeatingSource, Source, VarintFault, encode32, encode32_after,
-    read_varint, write_varint,
+    Bytes, Case, Cid, Counted, Failed, List, RepeatingSource, Sink, Source, VarintFault, Writing,
+    encode32, encode32_after, read_varint, write_varint,
 };
+use std::io::Cursor;
 use std::test::Fail;
 use std::thread::join;
 
@@ -34,6 +35,15 @@ fn a_repeating_source_gives_its_bytes_again(rt: HostRuntime) -> Result<(), Fail>
     assert_eq!(rt; into, [1, 2, 3, 1, 2, 3, 1]);
     assert_eq!(rt; source.read(&mut into), Ok(7));
     assert_eq!(rt; into, [2, 3, 1, 2, 3, 1, 2]);
+    Ok(())
+}
+
+#[test]
+fn a_full_writer_is_a_fault_of_its_sink(rt: HostRuntime) -> Result<(), Fail> {
+    let mut out = Writing::new(Cursor::new([0; 3]));
+    assert_eq!(rt; out.write(b"ok 1"), Ok(3));
+    assert_eq!(rt; (out.write(&[]), out.faults()), (Ok(0), 0));
+    assert_eq!(rt; (out.write(b"1"), out.faults()), (Err(Failed), 1));
     Ok(())
 }
 
