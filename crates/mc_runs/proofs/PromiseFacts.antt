@@ -34,7 +34,7 @@ use Rattle.mc_seats.specs.Calling.{Batches, Blocks, Calling, Nothing, Reach}
 use Rattle.mc_seats.specs.Calls.{is_read, reads_by}
 use Rattle.mc_seats.specs.Doing.{At, Calls, Casts, Doing, Hears, Repairs, Steps, Storms, Tends, Works, doing}
 use Rattle.mc_seats.specs.Effects.{CallsAt, DoneAt, EventsOf, done_by, events_by, happens_by}
-use Rattle.mc_runs.specs.Promises.{ContentGrows, GrowsAt, OnlyGrows, read_at}
+use Rattle.mc_runs.specs.Promises.{ContentGrows, DoneElsewhere, GrowsAt, OnlyGrows, elsewhere}
 use Rattle.mc_runs.specs.Runs.{Answer, LineStep, Runs}
 use Rattle.mc_seats.specs.Step.{CutShort, FaultsOf, GivesBack, PeerBreaks, Row, Step, breaks_by, faults_by}
 use Rattle.mc_seats.specs.Works.{RepairsTo, WorksTo, budget_of, offered_by, repair_budget}
@@ -219,7 +219,7 @@ abbrev pub HeadsLaw : Type 0
 HeadsLaw = (xs ys : List Block) → SameMembers xs ys → heads xs ≡ heads ys
 
 planned_equal : (law : AnswersLaw) (heads_law : HeadsLaw) (w w2 : WorldState) (s t : ReplicaState) (command : Command) (other : ℕ) (events others : List Event) (reply said : Reply) → is_read command ≡ true
-    → SameMembers (blocks_of s.state.durable) (blocks_of t.state.durable) → EventsOf w s command events reply → EventsOf w2 t (read_at other command) others said → reply ≡ said
+    → SameMembers (blocks_of s.state.durable) (blocks_of t.state.durable) → EventsOf w s command events reply → events_by w2 t (elsewhere other (doing command)) others said → reply ≡ said
 planned_equal law heads_law w w2 s t (Get r key) other events others reply said read same p q = p.2 ∙ ap Value (p.1.1 ∙ (law _ _ same).get key ∙ sym q.1.1) ∙ sym q.2
 planned_equal law heads_law w w2 s t (HasKey r key) other events others reply said read same p q = p.2 ∙ ap Has (p.1.1 ∙ (law _ _ same).has key ∙ sym q.1.1) ∙ sym q.2
 planned_equal law heads_law w w2 s t (Query r prefix skip take) other events others reply said read same p q = p.2 ∙ ap Rows (p.1.1 ∙ (law _ _ same).rows (is_under prefix) skip take ∙ sym q.1.1) ∙ sym q.2
@@ -235,13 +235,13 @@ happened : (w : WorldState) (d : Doing) (p q : Place) (reply : Reply) → reads_
 happened w (At r (Calls call)) p q reply read done = done.1
 happened w d p q reply read done = absurd (true≢false (sym read))
 
-reads_still : (command : Command) (other : ℕ) → is_read command ≡ true → is_read (read_at other command) ≡ true
-reads_still (Get r key) other read = read
-reads_still command other read = read
+reads_still : (d : Doing) (other : ℕ) → reads_by d ≡ true → reads_by (elsewhere other d) ≡ true
+reads_still (At r (Calls call)) other read = read
+reads_still d other read = absurd (true≢false (sym read))
 
 pub equal_answers : (law : AnswersLaw) (heads_law : HeadsLaw) (w w2 : WorldState) (p p2 q q2 : Place) (s t : ReplicaState) (command : Command) (other : ℕ) (reply said : Reply) → is_read command ≡ true
-    → state_at p ≡ Some s → state_at q ≡ Some t → SameMembers (blocks_of s.state.durable) (blocks_of t.state.durable) → DoneAt w command p p2 reply → DoneAt w2 (read_at other command) q q2 said → reply ≡ said
+    → state_at p ≡ Some s → state_at q ≡ Some t → SameMembers (blocks_of s.state.durable) (blocks_of t.state.durable) → DoneAt w command p p2 reply → DoneElsewhere w2 other command q q2 said → reply ≡ said
 equal_answers law heads_law w w2 p p2 q q2 s t command other reply said read at_p at_q same done done2 =
     let first = after_told (λ s new. (events : List Event) × EventsOf w s command events reply × Goes events s new) s (state_at p) (state_at p2) at_p (happened w (doing command) p p2 reply read done) in
-    let second = after_told (λ s new. (events : List Event) × EventsOf w2 s (read_at other command) events said × Goes events s new) t (state_at q) (state_at q2) at_q (happened w2 (doing (read_at other command)) q q2 said (reads_still command other read) done2) in
+    let second = after_told (λ s new. (events : List Event) × events_by w2 s (elsewhere other (doing command)) events said × Goes events s new) t (state_at q) (state_at q2) at_q (happened w2 (elsewhere other (doing command)) q q2 said (reads_still (doing command) other read) done2) in
     planned_equal law heads_law w w2 s t command other first.1.0 second.1.0 reply said read same first.1.1 second.1.1

@@ -19,11 +19,10 @@ use Rattle.mc_core.specs.Puts.{next_links}
 use Rattle.mc_drain.specs.Reached.{AreReached}
 use Rattle.mc_script.specs.Line.{line_of}
 use Rattle.mc_script.specs.declared.command.Command.{Command}
-use Rattle.mc_script.specs.declared.command.Command.TheVariants.{Get, Has, Query, Heads}
 use Rattle.mc_script.specs.declared.reply.Reply.{Reply}
 pub use Rattle.mc_seats.specs.Calls.{is_read}
 use Rattle.mc_seats.specs.Doing.{At, Compares, Doing, Tends, doing}
-use Rattle.mc_seats.specs.Effects.{batch_in}
+use Rattle.mc_seats.specs.Effects.{batch_in, done_by}
 use Rattle.mc_seats.specs.Tending.{is_runs}
 use Rattle.mc_runs.specs.Runs.{Answer, Runs}
 use Rattle.mc_seats.specs.Worlds.{Place, WorldState, is_down, state_at}
@@ -87,13 +86,14 @@ pub record HasCommitted (w : WorldState) (r : ℕ) (w2 : WorldState) : Type 0 wh
   pub was_open : batch_at (slice_get w.places r) ≡ Some batch
   pub processed : HasProcessed w r (batch_cid batch) w2
 
--- the same command to read, at another replica
-abbrev pub read_at : ℕ → Command → Command
-read_at other (Get r key) = Get other key
-read_at other (Has r key) = Has other key
-read_at other (Query r prefix skip take) = Query other prefix skip take
-read_at other (Heads r) = Heads other
-read_at other command = command
+-- the same at another replica
+abbrev pub elsewhere : ℕ → Doing → Doing
+elsewhere other (At r act) = At other act
+elsewhere other d = d
+
+-- what is done for a command at its replica, done at another one
+abbrev pub DoneElsewhere : WorldState → ℕ → Command → Place → Place → Reply → Type 0
+DoneElsewhere w other command = done_by w (elsewhere other (doing command))
 
 -- between two worlds the replica with this number has processed at least so many blocks more, where its content is told
 pub record HasMore (w : WorldState) (r : ℕ) (count : ℕ) (w2 : WorldState) : Type 0 where

@@ -16,7 +16,7 @@ ghost use Rattle.mc_seats.specs.Asks.{focus, is_named, may_fail};
 ghost use Rattle.mc_seats.specs.Effects.{DoneAt};
 ghost use Rattle.mc_runs.specs.Promises.{AfterLine, HasCommitted, HasDeleted, HasMore, HasProcessed, HasSettled};
 ghost use Rattle.mc_runs.specs.Promises.{IsLineAt, OnlyGrows, SinceLine};
-ghost use Rattle.mc_runs.specs.Promises.{asks_running, fired_at, is_read, read_at, same_pair};
+ghost use Rattle.mc_runs.specs.Promises.{DoneElsewhere, asks_running, fired_at, is_read, same_pair};
 ghost use Rattle.mc_runs.specs.Promises.{some_stopped, tells_at};
 ghost use Rattle.mc_runs.specs.Runs.{Answer, Runs};
 ghost use Rattle.mc_seats.specs.Step.{Step, with_link};
@@ -101,7 +101,7 @@ pub fn equal_blocks_answer_equally()
     ensures { (w w2 : WorldState) (p p2 q q2 : Place) (s t : ReplicaState) (command : Asked) (other : ℕ)
         (reply said : Said) → is_read command ≡ true → state_at p ≡ Some s → state_at q ≡ Some t →
         SameMembers (blocks_of s.state.durable) (blocks_of t.state.durable) →
-        DoneAt w command p p2 reply → DoneAt w2 (read_at other command) q q2 said → reply ≡ said }
+        DoneAt w command p p2 reply → DoneElsewhere w2 other command q q2 said → reply ≡ said }
 {
     same_blocks_same_answers();
 }

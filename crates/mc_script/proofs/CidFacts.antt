@@ -8,7 +8,7 @@ use Rattle.mc_base.specs.Cid.{cid_prefix}
 use Rattle.mc_base.specs.declared.base32.Case.TheVariants.{Lower}
 use Rattle.mc_base.specs.declared.cid.Cid.{Cid}
 use Rattle.mc_cidtext.specs.CidText.{cid_text}
-use Rattle.mc_script.specs.Replies.{IsDigest}
+use Rattle.mc_script.specs.ReplyText.{IsDigest}
 
 -- the bits of bytes, and their groups of five
 abbrev AreBits : List ℕ → Type 0

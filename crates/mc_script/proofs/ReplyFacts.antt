@@ -18,8 +18,7 @@ use Rattle.mc_base.specs.declared.cid.Cid.{Cid}
 use Rattle.mc_cidtext.specs.CidText.{IsReadAgain, cid_text, read_cid_text}
 use Rattle.mc_cidtext.specs.declared.fault.CidTextFault.{CidTextFault}
 use Rattle.mc_script.specs.KeyText.{byte_text, is_plain, key_text}
-use Rattle.mc_script.specs.Replies.{IsDigest, IsTyped, IsWide}
-use Rattle.mc_script.specs.ReplyText.{clear_or_set, count_words, head_text, hex_text, mark_words, number_line, pair_line, reply_text, row_text, yes_or_no}
+use Rattle.mc_script.specs.ReplyText.{IsDigest, IsTyped, IsWide, clear_or_set, count_words, head_text, hex_text, mark_words, number_line, pair_line, reply_text, row_text, yes_or_no}
 use Rattle.mc_script.specs.Words.{bytes_of_hex, words_of}
 use Rattle.mc_script.specs.declared.reply.Reply.{Reply}
 use Rattle.mc_script.specs.declared.reply.Reply.TheVariants.{Done, Priority, Deleted, Value, Has, Rows, Heads, Message, Queued, Processed, Missing, Bad, Idle, Worked, Again, Clean, OpenGaps, Stormed, State, Same, Stopped, FaultKeeper, FaultPeer, RefusedKey, RefusedValue, RefusedSize, RefusedPriority, RefusedClash, RefusedBatch, RefusedCast, RefusedOpen}

@@ -8,8 +8,7 @@ use Rattle.hex.specs.Hex.{IsBytes}
 use Rattle.mc_base.specs.declared.cid.Cid.{Cid}
 use Rattle.mc_cidtext.specs.CidText.{cid_text, read_cid_text}
 use Rattle.mc_script.specs.Limits.{IsUpTo, budget_max, commit_max, thread_max, write_max}
-use Rattle.mc_script.specs.Replies.{IsDigest}
-use Rattle.mc_script.specs.ReplyText.{hex_text}
+use Rattle.mc_script.specs.ReplyText.{IsDigest, hex_text}
 use Rattle.mc_script.specs.declared.command.Command.{Command}
 use Rattle.mc_script.specs.declared.command.Command.TheVariants.{Put, Del, Begin, BatchPut, BatchDel, Commit, Get, Has}
 use Rattle.mc_script.specs.declared.command.Command.TheVariants.{Query, Heads, Cast, Wire, Hear, Plant, Link, Step}

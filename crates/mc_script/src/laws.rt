@@ -3,8 +3,7 @@ ghost use Rattle.std.specs.Prelude.{◌≡◌, ◌↔◌, ◌++◌, ℕ, List, N
 ghost use Rattle.std.specs.List.{AllByRecursion, flat_map};
 ghost use Rattle.mc_script.specs.Grammar.{IsLineOf, IsSilent, IsWritable, command_text};
 ghost use Rattle.mc_script.specs.Line.{line_of};
-ghost use Rattle.mc_script.specs.Replies.{IsTyped};
-ghost use Rattle.mc_script.specs.ReplyText.{reply_text};
+ghost use Rattle.mc_script.specs.ReplyText.{IsTyped, reply_text};
 ghost use Rattle.mc_script.specs.declared.command.Command.{Command};
 ghost use Rattle.mc_script.specs.declared.reply.Reply.{Reply};
 
