@@ -57,6 +57,11 @@ fn a_row_of_another_form_is_a_fault_of_the_keeper(rt: HostRuntime) -> Result<(),
             "get a /k\nrepair a 1\nrepair a 1",
             "none\nfault keeper\nstopped\n",
         ),
+        (
+            "INSERT INTO block (cid, bytes) VALUES (x'000102030405060708090a0b0c0d0e0f101112131415161718191a1b1c1d1e1f', 1)",
+            "wire 0a260a2401701220000102030405060708090a0b0c0d0e0f101112131415161718191a1b1c1d1e1f\nhear a 1\nstep a\nstep a",
+            "message 1\nqueued 1\nfault keeper\nstopped\n",
+        ),
     ];
     for (before, script, replies) in rows {
         assert!(rt;

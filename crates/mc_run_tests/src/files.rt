@@ -46,16 +46,23 @@ fn a_second_run_finds_what_the_first_wrote(rt: HostRuntime) -> Result<(), Fail> 
     made(&rt, "mc_files_test")?;
     let runs = [
         (
-            "put a /k 01\nput a /k 02\ndel a /k\nput a /l 03\nput b /k 04\ncast b\nhear a 1\nstep a\nstate a\n",
-            "ok 1\nok 2\ndeleted 1\nok 4\nok 1\nmessage 1\nqueued 1\nprocessed\nstate processed 5 stored 5 waiting 0 missing 0 bad 0 mark clear whole yes\n",
+            "put a /k 01\nput a /k 02\ndel a /k\nput a /l 03\nput b /k 04\ncast b\nhear a 1\nstep a\nstate a\nbegin c\nbput c /0 00\nbput c /1 01\nbput c /2 02\nbput c /3 03\nbput c /4 04\nbput c /5 05\nbput c /6 06\nbput c /7 07\nbput c /8 08\nbput c /9 09\ncommit c\n",
+            "ok 1\nok 2\ndeleted 1\nok 4\nok 1\nmessage 1\nqueued 1\nprocessed\nstate processed 5 stored 5 waiting 0 missing 0 bad 0 mark clear whole yes\nok\nok\nok\nok\nok\nok\nok\nok\nok\nok\nok\nok 1\n",
         ),
         (
-            "state a\nget a /k\nget a /l\nquery a / 0 9\nstate b\nget b /k\nstate c\nput a /k 05\nget a /k\n",
-            "state processed 5 stored 5 waiting 0 missing 0 bad 0 mark clear whole yes\n04\n03\nrows 2\n/k 04\n/l 03\nstate processed 1 stored 1 waiting 0 missing 0 bad 0 mark clear whole yes\n04\nstate processed 0 stored 0 waiting 0 missing 0 bad 0 mark clear whole yes\nok 5\n05\n",
+            "state a\nget a /k\nget a /l\nquery a / 0 9\nstate b\nget b /k\nstate c\nquery c / 0 99\nput a /k 05\nget a /k\n",
+            "state processed 5 stored 5 waiting 0 missing 0 bad 0 mark clear whole yes\n04\n03\nrows 2\n/k 04\n/l 03\nstate processed 1 stored 1 waiting 0 missing 0 bad 0 mark clear whole yes\n04\nstate processed 1 stored 1 waiting 0 missing 0 bad 0 mark clear whole yes\nrows 10\n/0 00\n/1 01\n/2 02\n/3 03\n/4 04\n/5 05\n/6 06\n/7 07\n/8 08\n/9 09\nok 5\n05\n",
         ),
     ];
     for (script, replies) in runs {
         assert!(rt; is_written(&rt, "mc_files_test", script, replies.as_bytes(), &rt)?);
+    }
+    for file in [
+        "mc_files_test/a.db",
+        "mc_files_test/b.db",
+        "mc_files_test/c.db",
+    ] {
+        assert!(rt; !fs::read(&rt, file)?.is_empty(), "{file}");
     }
     fs::remove_dir_all(&rt, "mc_files_test")?;
     Ok(())
