@@ -1,10 +1,10 @@
 // The keeper over a SQLite file.
 ghost use Rattle.std.specs.Prelude.{◌≡◌, ◌-◌, ◌^◌, false, None, IfOk};
 
-use crate::database::FileDatabase;
 use crate::desk::SqlDesk;
 use crate::keeper::DatabaseKeeper;
 use mc_base::{Bytes, Cid, Counted, Failed, List, Text};
+use mc_database::FileDatabase;
 use mc_keep::{Changes, ElementRow, HeadRow, KeepError, Keeper, RankedValue, Summary, ValueRow};
 use std::alloc::{AllocError, Global};
 use std::rt::HostRuntime;

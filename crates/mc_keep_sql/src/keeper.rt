@@ -4,13 +4,9 @@ ghost use Rattle.std.specs.Result.{is_err};
 ghost use Rattle.mc_keep.specs.Causes.{CountGoes};
 ghost use Rattle.mc_keep.specs.Plan.{is_fault};
 
-use crate::changing::counts_after;
-use crate::counts::Counts;
-use crate::database::{Database, FileDatabase, Work};
 use crate::desk::SqlDesk;
-use crate::opening::opened;
-use crate::reading;
 use mc_base::{Bytes, Cid, Counted, Failed, List, Text};
+use mc_database::{Counts, Database, FileDatabase, Work, counts_after, opened};
 use mc_keep::{Changes, ElementRow, HeadRow, KeepError, Keeper, RankedValue, Summary, ValueRow};
 use sqlite::{Alter, Connection, File, FileStore};
 use std::alloc::{AllocError, Global};
@@ -212,7 +208,7 @@ impl<D: Database> Keeper for DatabaseKeeper<D> {
         wait: &W,
     ) -> Result<Option<Bytes>, KeepError> {
         let mut database = self.database.lock(wait);
-        let answer = reading::block(&mut *database, alloc, cid);
+        let answer = mc_database::block(&mut *database, alloc, cid);
         drop(database);
         desk.count(answer)
     }
@@ -226,62 +222,62 @@ impl<D: Database> Keeper for DatabaseKeeper<D> {
     }
 
     fn block(&mut self, alloc: Global, cid: &Cid) -> Result<Option<Bytes>, KeepError> {
-        let answer = reading::block(self.database.get_mut(), alloc, cid);
+        let answer = mc_database::block(self.database.get_mut(), alloc, cid);
         self.count(answer)
     }
 
     fn stored(&mut self, cid: &Cid) -> Result<bool, Failed> {
-        let answer = reading::stored(self.database.get_mut(), cid);
+        let answer = mc_database::stored(self.database.get_mut(), cid);
         self.count_failed(answer)
     }
 
     fn position(&mut self, cid: &Cid) -> Result<Option<u64>, Failed> {
-        let answer = reading::position(self.database.get_mut(), cid);
+        let answer = mc_database::position(self.database.get_mut(), cid);
         self.count_failed(answer)
     }
 
     fn at(&mut self, position: u64) -> Result<Option<Cid>, Failed> {
-        let answer = reading::at(self.database.get_mut(), position);
+        let answer = mc_database::at(self.database.get_mut(), position);
         self.count_failed(answer)
     }
 
     fn linked(&mut self, cid: &Cid) -> Result<bool, Failed> {
-        let answer = reading::linked(self.database.get_mut(), cid);
+        let answer = mc_database::linked(self.database.get_mut(), cid);
         self.count_failed(answer)
     }
 
     fn heads(&mut self, alloc: Global) -> Result<List<HeadRow>, KeepError> {
-        let answer = reading::heads(self.database.get_mut(), alloc);
+        let answer = mc_database::heads(self.database.get_mut(), alloc);
         self.count(answer)
     }
 
     fn live_elements(&mut self, alloc: Global, key: &str) -> Result<List<ElementRow>, KeepError> {
-        let answer = reading::live_elements(self.database.get_mut(), alloc, key);
+        let answer = mc_database::live_elements(self.database.get_mut(), alloc, key);
         self.count(answer)
     }
 
     fn hidden(&mut self, key: &str, id: &str) -> Result<bool, Failed> {
-        let answer = reading::hidden(self.database.get_mut(), key, id);
+        let answer = mc_database::hidden(self.database.get_mut(), key, id);
         self.count_failed(answer)
     }
 
     fn hides(&mut self, alloc: Global, key: &str, cid: &Cid) -> Result<bool, KeepError> {
-        let answer = reading::hides(self.database.get_mut(), alloc, key, cid);
+        let answer = mc_database::hides(self.database.get_mut(), alloc, key, cid);
         self.count(answer)
     }
 
     fn value(&mut self, alloc: Global, key: &str) -> Result<Option<RankedValue>, KeepError> {
-        let answer = reading::value(self.database.get_mut(), alloc, key);
+        let answer = mc_database::value(self.database.get_mut(), alloc, key);
         self.count(answer)
     }
 
     fn holder(&mut self, alloc: Global, key: &str) -> Result<Option<Cid>, KeepError> {
-        let answer = reading::holder(self.database.get_mut(), alloc, key);
+        let answer = mc_database::holder(self.database.get_mut(), alloc, key);
         self.count(answer)
     }
 
     fn has(&mut self, key: &str) -> Result<bool, Failed> {
-        let answer = reading::has(self.database.get_mut(), key);
+        let answer = mc_database::has(self.database.get_mut(), key);
         self.count_failed(answer)
     }
 
@@ -292,7 +288,13 @@ impl<D: Database> Keeper for DatabaseKeeper<D> {
         inclusive: bool,
         most: u64,
     ) -> Result<List<ValueRow>, KeepError> {
-        let answer = reading::values_from(self.database.get_mut(), alloc, bound, inclusive, most);
+        let answer = mc_database::values_from(
+            self.database.get_mut(),
+            alloc,
+            bound,
+            inclusive,
+            most,
+        );
         self.count(answer)
     }
 
@@ -303,7 +305,7 @@ impl<D: Database> Keeper for DatabaseKeeper<D> {
         inclusive: bool,
         place: u64,
     ) -> Result<Option<Text>, KeepError> {
-        let answer = reading::key_from(self.database.get_mut(), alloc, bound, inclusive, place);
+        let answer = mc_database::key_from(self.database.get_mut(), alloc, bound, inclusive, place);
         self.count(answer)
     }
 

@@ -1,4 +1,4 @@
-// What a keeper asks of its database.
+// What a keeper asks of its database, and a file as one.
 use crate::changing;
 use mc_base::Failed;
 use mc_keep::{Changes, KeepError};
@@ -51,8 +51,9 @@ pub struct FileDatabase {
 }
 
 impl FileDatabase {
-    // Opens the file of the replica with this index in a folder, and makes it where it is not there.
-    pub(crate) fn open(rt: &HostRuntime, dir: &str, index: u64) -> Result<FileDatabase, KeepError> {
+    /// Opens the file of the replica with this index in a folder, and makes it where it is not there: `a.db` for 0, and so
+    /// on.
+    pub fn open(rt: &HostRuntime, dir: &str, index: u64) -> Result<FileDatabase, KeepError> {
         let letter = letter_of(index);
         let path = format!(in rt.alloc(); "{dir}/{letter}.db")?;
         match Connection::open(rt, path.as_str()) {
@@ -62,14 +63,14 @@ impl FileDatabase {
         }
     }
 
-    // Its connection, which stays open.
-    pub(crate) fn into_connection(self) -> Connection<FileStore<File>> {
+    /// Its connection, which stays open.
+    pub fn into_connection(self) -> Connection<FileStore<File>> {
         let FileDatabase { connection } = self;
         connection
     }
 
-    // Copies the log into the file, and closes both. Where that fails the log stays beside the file, with all commits.
-    pub(crate) fn close(self) {
+    /// Copies the log into the file, and closes both. Where that fails the log stays beside the file, with all commits.
+    pub fn close(self) {
         let _ = self.into_connection().close();
     }
 }
