@@ -1,9 +1,9 @@
 -- The last spare node gets an item and comes to a list.
-use Rattle.std.proofs.Common.{◌≡◌, ℕ, ◌+◌, ◌-◌, ◌<◌, ◌≤◌, ◌^◌, Bool, true, false, eqb, cond, List, [], ◌∷◌, ◌++◌, length, Option, Some, None, refl, sym, ap, ◌∙◌, subst, arith, is_some}
-use Rattle.mc_list.specs.Rings.{upd, NotIn, last_or, without}
+use Rattle.std.proofs.Common.{◌≡◌, ℕ, ◌+◌, ◌-◌, ◌<◌, ◌^◌, true, false, eqb, cond, List, [], ◌∷◌, ◌++◌, length, Some, sym, ap, ◌∙◌, subst, arith, is_some}
+use Rattle.mc_list.specs.Rings.{upd, NotIn, last_or}
 use Rattle.mc_list.specs.Web.{Shape, Reaches, ends, spare_list, link_to, set_item}
 use Rattle.mc_list.specs.Ringed.{CanMove, ring, or_zero, linked_to, moved}
-use Rattle.mc_list.specs.Entries.{Entry, entry, others, has_place}
+use Rattle.mc_list.specs.Entries.{entry, others, has_place}
 use Rattle.mc_list.specs.Whole.{Whole, place_at, entry_at, collect, entries_in, spare_in}
 use Rattle.mc_list.specs.declared.node.Link.{Link}
 use Rattle.mc_list.proofs.RingFacts.{eqb-self, eqb-symm, upd_same, upd_other, last_is, without_none}
@@ -74,9 +74,9 @@ module _ {T : Type 0} (s : Shape T) (whole : Whole s) (room : 0 < spare_in s) (l
       pub added : (l : ℕ) → shown new l ≡ shown s l ++ cond (eqb to l) (entry (place_at link.place) v ∷ []) []
       added = each new (λ l. shown s l ++ cond (eqb to l) (entry (place_at link.place) v ∷ []) [])
           (λ l h. ap (λ t. entries_in t l) is_moved ∙ new_entries held held_whole spare_list link.place (omega arith) on to five held.item l (omega (arith, h))
-              ∙ (λ i. (as_before l h ∙ sym (shown_four s l h)) i ++ cond (eqb to l) (entry_at link.place (upd_same s.item link.place (Some v) i)) []))
+          ∙ (λ i. (as_before l h ∙ sym (shown_four s l h)) i ++ cond (eqb to l) (entry_at link.place (upd_same s.item link.place (Some v) i)) []))
           (λ l many. let off : eqb to l ≡ false = apart to l (omega (arith, four, many)) in
-              (λ i. shown_none s l many i ++ cond (off i) (entry (place_at link.place) v ∷ []) []))
+          (λ i. shown_none s l many i ++ cond (off i) (entry (place_at link.place) v ∷ []) []))
 
       pub added_spare : spare_in s ≡ spare_in new + 1
       added_spare = let off : eqb spare_list to ≡ false = eqb-symm spare_list to ∙ apart to spare_list four in

@@ -1,14 +1,14 @@
 -- The four lists together: no number stands twice in them.
-use Rattle.std.proofs.Common.{◌≡◌, ℕ, zero, suc, ◌+◌, ◌<◌, ◌≤◌, Bool, true, false, eqb, T as Yes, List, [], ◌∷◌, ◌++◌, length, Option, Some, None, is_some, refl, sym, ap, ◌∙◌, subst, arith, inl, inr, eqb→eq}
+use Rattle.std.proofs.Common.{◌≡◌, ℕ, ◌<◌, ◌≤◌, true, false, eqb, List, [], ◌∷◌, ◌++◌, length, Option, Some, refl, sym, ap, ◌∙◌, subst, arith, inl, inr}
 use Rattle.std.specs.Prelude.{◌⊎◌}
 use Rattle.mc_list.specs.Rings.{NotIn, Apart, Agree}
 use Rattle.mc_list.specs.Web.{Shape}
 use Rattle.mc_list.specs.Ringed.{ring}
 use Rattle.mc_list.specs.Entries.{Entry, entry, those_at, has_place}
 use Rattle.mc_list.specs.Whole.{Whole, place_at, collect, entries_in}
-use Rattle.mc_list.proofs.RingFacts.{eqb-self, not_in_app, not_in_left, not_in_right}
+use Rattle.mc_list.proofs.RingFacts.{not_in_app}
 use Rattle.mc_list.proofs.WebFacts.{apart_by}
-use Rattle.mc_list.proofs.EntryFacts.{collect_app, those_one, has_not, has_one, few_those}
+use Rattle.mc_list.proofs.EntryFacts.{collect_app, those_one, has_not, few_those}
 
 apart_app : (f : ℕ → Option ℕ) (k : ℕ) (xs ys : List ℕ) → Agree f (λ i. Some k) xs → Apart xs → Apart ys → ((x : ℕ) → f x ≡ Some k → NotIn x ys) → Apart (xs ++ ys)
 apart_app f k [] ys c d e far = e

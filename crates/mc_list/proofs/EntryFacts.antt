@@ -7,7 +7,6 @@ use Rattle.std.proofs.lemmas.List.Folds.{list_any-append}
 use Rattle.mc_list.specs.Rings.{upd, NotIn, Apart, Agree, without}
 use Rattle.mc_list.specs.Entries.{Entry, entry, stands_at, those_at, others, has_place, first_place}
 use Rattle.mc_list.specs.Whole.{place_at, entry_at, collect}
-use Rattle.mc_list.specs.declared.lists.Place.{Place}
 use Rattle.mc_list.proofs.RingFacts.{eqb-self, upd_other}
 
 module _ {T : Type 0} where

@@ -1,11 +1,11 @@
 -- A move keeps what holds between two calls, and is the wanted move of the entries.
-use Rattle.std.proofs.Common.{◌≡◌, ℕ, zero, suc, ◌+◌, ◌-◌, ◌<◌, ◌≤◌, ◌^◌, Bool, true, false, eqb, T as Yes, cond, List, [], ◌∷◌, ◌++◌, length, Option, Some, None, refl, sym, ap, ◌∙◌, subst, arith, eqb→eq, ltb→lt, nltb→le, not, is_some, slice_get, length-append, append-nil}
+use Rattle.std.proofs.Common.{◌≡◌, ℕ, zero, suc, ◌+◌, ◌-◌, ◌<◌, ◌≤◌, ◌^◌, Bool, true, false, eqb, T as Yes, cond, List, [], ◌∷◌, ◌++◌, length, Option, Some, refl, sym, ap, ◌∙◌, subst, arith, eqb→eq, ltb→lt, nltb→le, not, is_some, slice_get, length-append, append-nil}
 use Rattle.std.specs.Prelude.{nat_lt}
-use Rattle.mc_list.specs.Rings.{upd, NotIn, Apart, Agree, head_or, last_or, without, Path}
-use Rattle.mc_list.specs.Web.{Shape, Reaches, ends, loose, link_to, place_of, set_item}
-use Rattle.mc_list.specs.Ringed.{RingOk, Ringed, CanUnlink, CanAppend, CanMove, ring, or_zero, linked_to, unlinked, appended, moved}
-use Rattle.mc_list.specs.Entries.{Entry, entry, others}
-use Rattle.mc_list.specs.Whole.{Whole, total, place_at, entry_at, collect, entries_in}
+use Rattle.mc_list.specs.Rings.{upd, NotIn, head_or, last_or, without}
+use Rattle.mc_list.specs.Web.{Shape, Reaches, ends, loose, link_to, set_item}
+use Rattle.mc_list.specs.Ringed.{RingOk, Ringed, CanUnlink, CanAppend, CanMove, ring, or_zero, linked_to, unlinked, moved}
+use Rattle.mc_list.specs.Entries.{others}
+use Rattle.mc_list.specs.Whole.{Whole, total, place_at, entry_at, collect}
 use Rattle.mc_list.specs.declared.node.Link.{Link}
 use Rattle.mc_list.proofs.RingFacts.{eqb-self, upd_same, upd_other, last_is, not_in_right, standing}
 use Rattle.mc_list.proofs.WebFacts.{some_is, agree_last, agree_head, agree_left, agree_right, before, after, unlinked_ok, appended_ok, ring_is, ringed}

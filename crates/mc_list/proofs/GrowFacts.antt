@@ -1,18 +1,17 @@
 -- A node more at the end of the nodes: the rings stay, and it comes to the spare ones.
-use Rattle.std.proofs.Common.{◌≡◌, ℕ, zero, suc, ◌+◌, ◌-◌, ◌<◌, ◌≤◌, ◌^◌, Bool, true, false, eqb, T as Yes, cond, List, [], ◌∷◌, ◌++◌, length, map, Option, Some, None, refl, sym, ap, ◌∙◌, subst, arith, eqb→eq, is_some, slice_get, length-append, append-nil}
+use Rattle.std.proofs.Common.{◌≡◌, ℕ, zero, suc, ◌+◌, ◌-◌, ◌<◌, ◌≤◌, ◌^◌, true, false, eqb, T as Yes, cond, List, [], ◌∷◌, ◌++◌, length, map, Option, Some, None, refl, sym, ap, ◌∙◌, subst, arith, eqb→eq, is_some, slice_get, length-append, append-nil}
 use Rattle.std.proofs.lemmas.List.{length-map, map-append}
-use Rattle.std.specs.Prelude.{nat_lt, Result, Ok, Err, OnErr}
+use Rattle.std.specs.Prelude.{nat_lt, max, Result, Ok, Err, OnErr}
 use denote.RawPtr.{Ptr, null_ptr}
 use Rattle.mc_list.specs.Cells.{ptr_at, value_at}
-use Rattle.mc_list.specs.Rings.{upd, NotIn, Apart, Agree, last_or, Path}
-use Rattle.mc_list.specs.Web.{Shape, Reaches, shape_of, ends, loose, spare_list, link_to, or_none}
+use Rattle.mc_list.specs.Rings.{upd, NotIn, Agree, last_or, Path}
+use Rattle.mc_list.specs.Web.{Shape, shape_of, ends, loose, spare_list, link_to, or_none}
 use Rattle.mc_list.specs.Ringed.{RingOk, Ringed, CanAppend, ring, or_zero, linked_to, appended, grown}
-use Rattle.mc_list.specs.Entries.{Entry}
-use Rattle.mc_list.specs.Whole.{Whole, total, collect, entries_in, spare_in}
+use Rattle.mc_list.specs.Whole.{Whole, collect, entries_in, spare_in}
 use Rattle.mc_list.specs.declared.node.Link.{Link}
 use Rattle.mc_list.specs.declared.node.Node.{Node}
 use Rattle.mc_list.specs.declared.web.Web.{Web}
-use Rattle.mc_list.proofs.RingFacts.{eqb-self, upd_same, upd_other, upd_agrees, agree_then, not_in_app, last_is}
+use Rattle.mc_list.proofs.RingFacts.{upd_same, upd_other, upd_agrees, agree_then, not_in_app, last_is}
 use Rattle.mc_list.proofs.WebFacts.{some_is, agree_last, appended_ok, ring_is, ringed}
 use Rattle.mc_list.proofs.ShapeFacts.{apart_suc, eqb_suc}
 use Rattle.mc_list.proofs.EntryFacts.{collect_upd}
@@ -47,10 +46,10 @@ module _ {X : Type 0} where
       → cond (nat_lt j ends) (or_none f (value_at (cs ++ (p, x) ∷ []) j)) (g j) ≡ upd (λ k. cond (nat_lt k ends) (or_none f (value_at cs k)) (g k)) (length cs) v j
   field_push f cs p x v is short g j = ap (λ o. cond (nat_lt j ends) (or_none f o) (g j)) (value_push cs p x j) ∙ (elim (eqb j (length cs)) as (λ t. eqb j (length cs) ≡ t
       → cond (nat_lt j ends) (or_none f (cond t (Some x) (value_at cs j))) (g j) ≡ cond t v (cond (nat_lt j ends) (or_none f (value_at cs j)) (g j))) [
-    | true ↦ λ t. let same : j ≡ length cs = eqb→eq j (length cs) (subst Yes (sym t) tt) in let low : nat_lt (length cs) ends ≡ true = grind (arith, short) in
-        ap (λ b. cond b (f x) (g j)) (ap (λ k. nat_lt k ends) same ∙ low) ∙ is
-    | false ↦ λ t. refl
-  ]) refl
+        | true ↦ λ t. let same : j ≡ length cs = eqb→eq j (length cs) (subst Yes (sym t) tt) in let low : nat_lt (length cs) ends ≡ true = grind (arith, short) in
+            ap (λ b. cond b (f x) (g j)) (ap (λ k. nat_lt k ends) same ∙ low) ∙ is
+        | false ↦ λ t. refl
+      ]) refl
 
 slice_get_left : {A : Type 0} (xs ys : List A) (i : ℕ) (v : A) → slice_get xs i ≡ Some v → slice_get (xs ++ ys) i ≡ Some v
 slice_get_left [] ys i v e = absurd (let bad : false ≡ true = ap is_some e in cc)
@@ -63,11 +62,14 @@ slice_get_end (x ∷ xs) v = slice_get_end xs v
 
 none_in : (f : ℕ → Option ℕ) (l x : ℕ) (xs : List ℕ) → f x ≡ None → Agree f (λ i. Some l) xs → NotIn x xs
 none_in f l x [] e c = tt
-none_in f l x (y ∷ ys) e c = ((elim (eqb y x) as (λ t. eqb y x ≡ t → eqb y x ≡ false) [
-  | true ↦ λ t. let same : y ≡ x = eqb→eq y x (subst Yes (sym t) tt) in
-      let bad : false ≡ true = ap is_some (sym e ∙ ap f (sym same) ∙ c.0) in absurd (cc)
-  | false ↦ λ t. t
-]) refl, none_in f l x ys e c.1)
+none_in f l x (y ∷ ys) e c = (
+  (elim (eqb y x) as (λ t. eqb y x ≡ t → eqb y x ≡ false) [
+    | true ↦ λ t. let same : y ≡ x = eqb→eq y x (subst Yes (sym t) tt) in
+        let bad : false ≡ true = ap is_some (sym e ∙ ap f (sym same) ∙ c.0) in absurd (cc)
+    | false ↦ λ t. t
+  ]) refl,
+  none_in f l x ys e c.1,
+)
 
 pub on_err_always : {A E P : Type 0} (r : Result A E) → P → OnErr r P
 on_err_always (Ok x) p = tt
@@ -215,8 +217,15 @@ module _ {T : Type 0} where
     more_entries l h =
         let five : l < 5 = omega (arith, h) in let off : eqb spare_list l ≡ false = grind (arith, h) in
         let is : ring more l ≡ ring s l = ring_is more l (ring mid l ++ cond (eqb spare_list l) (m ∷ []) []) (more_ok l five)
-            ∙ ap (λ b. ring mid l ++ cond b (m ∷ []) []) off ∙ append-nil (ring mid l) ∙ mid_ring l five in
+        ∙ ap (λ b. ring mid l ++ cond b (m ∷ []) []) off ∙ append-nil (ring mid l) ∙ mid_ring l five in
         ap (collect mid.item) is ∙ collect_upd s.item m None (ring s l) (not_ring l five).1
 
     pub more_spare : spare_in more ≡ spare_in s + 1
     more_spare = refl
+
+-- what a loop that adds spare nodes has made so far
+pub record IsGrowing {T : Type 0} (old now : Shape T) (count : ℕ) : Type 0 where
+  pub whole : Whole now
+  pub entries : (l : ℕ) → l < 4 → entries_in now l ≡ entries_in old l
+  pub kept : spare_in old ≤ spare_in now
+  pub within : spare_in now ≤ max count (spare_in old)

@@ -1,9 +1,8 @@
 -- Which places are in use, in terms of four lists of entries.
-use Rattle.std.specs.Prelude.{◌||◌, not, filter}
-use Rattle.std.proofs.Common.{◌≡◌, ℕ, zero, suc, ◌<◌, Bool, true, false, eqb, T as Yes, cond, List, [], ◌∷◌, ◌++◌, Option, Some, None, is_some, refl, sym, ap, ◌∙◌, subst, arith, eqb→eq}
-use Rattle.std.specs.List.{list_any}
+use Rattle.std.specs.Prelude.{◌||◌, not}
+use Rattle.std.proofs.Common.{◌≡◌, ℕ, zero, suc, ◌<◌, Bool, true, false, eqb, T as Yes, cond, List, [], ◌∷◌, ◌++◌, Some, is_some, refl, sym, ap, ◌∙◌, subst, arith, eqb→eq}
 use Rattle.std.proofs.lemmas.List.Folds.{list_any-append}
-use Rattle.mc_list.specs.Entries.{Entry, entry, stands_at, those_at, others, has_place, first_place}
+use Rattle.mc_list.specs.Entries.{Entry, entry, stands_at, others, has_place, first_place}
 use Rattle.mc_list.specs.declared.lists.Place.{Place}
 use Rattle.mc_list.proofs.RingFacts.{eqb-self, eqb-symm}
 

@@ -1,16 +1,16 @@
 -- What a write to one field of a node, or to the ends, makes of the shape.
-use Rattle.std.proofs.Common.{◌≡◌, ℕ, zero, suc, ◌+◌, ◌-◌, ◌<◌, ◌≤◌, ◌^◌, Bool, true, false, eqb, T as Yes, cond, List, [], ◌∷◌, map, length, Option, Some, None, refl, sym, ap, ◌∙◌, subst, arith, eqb→eq, ltb→lt, length-set, get_or-set_same, get_or-set_other, slice_get, slice_set, is_some}
+use Rattle.std.proofs.Common.{◌≡◌, ℕ, zero, suc, ◌-◌, ◌<◌, ◌≤◌, true, false, eqb, T as Yes, cond, List, [], ◌∷◌, map, length, Option, Some, None, refl, sym, ap, ◌∙◌, subst, arith, eqb→eq, ltb→lt, length-set, get_or-set_same, slice_get, slice_set, is_some}
 use Rattle.std.specs.Prelude.{nat_lt}
-use Rattle.std.proofs.lemmas.Option.{slice_get_past, slice_get-get_or}
-use denote.RawPtr.{Ptr, null_ptr}
+use Rattle.std.proofs.lemmas.Option.{slice_get-get_or}
+use denote.RawPtr.{Ptr}
 use Rattle.mc_list.specs.Cells.{IsAt, ptr_at, value_at, with_cell}
 use Rattle.mc_list.specs.Rings.{upd}
-use Rattle.mc_list.specs.Web.{Shape, Reaches, shape_of, link_to, ends, or_none, set_next, set_prev, set_list, set_item, set_count}
+use Rattle.mc_list.specs.Web.{Reaches, shape_of, ends, or_none, set_next, set_prev, set_list, set_item, set_count}
 use Rattle.mc_list.specs.declared.node.Link.{Link}
 use Rattle.mc_list.specs.declared.node.Node.{Node}
 use Rattle.mc_list.specs.declared.web.Web.{Web}
 use Rattle.mc_list.specs.Lends.{with_node}
-use Rattle.mc_list.proofs.RingFacts.{eqb-self, eqb-symm}
+use Rattle.mc_list.proofs.RingFacts.{eqb-symm}
 
 pub apart_suc : (j : ℕ) → eqb (suc j) 0 ≡ false
 apart_suc j = grind arith
@@ -70,9 +70,9 @@ module _ {X : Type 0} where
         → cond (nat_lt j ends) (or_none f (value_at (with_cell cs i m) j)) (g j) ≡ upd (λ k. cond (nat_lt k ends) (or_none f (value_at cs k)) (g k)) i v j
     field_set v is low g j = ap (λ o. cond (nat_lt j ends) (or_none f o) (g j)) (value_set cs i n m e j) ∙ (elim (eqb j i) as (λ t. eqb j i ≡ t
         → cond (nat_lt j ends) (or_none f (cond t (Some m) (value_at cs j))) (g j) ≡ cond t v (cond (nat_lt j ends) (or_none f (value_at cs j)) (g j))) [
-      | true ↦ λ t. let same : j ≡ i = eqb→eq j i (subst Yes (sym t) tt) in ap (λ b. cond b (f m) (g j)) (ap (λ k. nat_lt k ends) same ∙ low) ∙ is
-      | false ↦ λ t. refl
-    ]) refl
+          | true ↦ λ t. let same : j ≡ i = eqb→eq j i (subst Yes (sym t) tt) in ap (λ b. cond b (f m) (g j)) (ap (λ k. nat_lt k ends) same ∙ low) ∙ is
+          | false ↦ λ t. refl
+        ]) refl
 
 pub below : (k n x : ℕ) → is_some (cond (nat_lt k n) (Some x) None) ≡ true → k < n
 below k n x h = (elim (nat_lt k n) as (λ t. nat_lt k n ≡ t → is_some (cond t (Some x) None) ≡ true → k < n) [
@@ -177,9 +177,9 @@ module _ {T : Type 0} (w : Web T) where
         → cond (nat_lt j ends) (or_none f (value_at w.cells.cells j)) (slice_get (slice_set xs (i - ends) v) (j - ends)) ≡ upd (λ k. cond (nat_lt k ends) (or_none f (value_at w.cells.cells k)) (slice_get xs (k - ends))) i (Some v) j
     end_set f xs v within j = (elim (nat_lt j ends) as (λ t. nat_lt j ends ≡ t
         → cond t (or_none f (value_at w.cells.cells j)) (slice_get (slice_set xs (i - ends) v) (j - ends)) ≡ cond (eqb j i) (Some v) (cond t (or_none f (value_at w.cells.cells j)) (slice_get xs (j - ends)))) [
-      | true ↦ λ t. let apart : eqb j i ≡ false = grind arith in ap (λ y. cond y (Some v) (or_none f (value_at w.cells.cells j))) (sym apart)
-      | false ↦ λ t. get_set xs (i - ends) v within (j - ends) ∙ ap (λ y. cond y (Some v) (slice_get xs (j - ends))) (same_end j t)
-    ]) refl
+          | true ↦ λ t. let apart : eqb j i ≡ false = grind arith in ap (λ y. cond y (Some v) (or_none f (value_at w.cells.cells j))) (sym apart)
+          | false ↦ λ t. get_set xs (i - ends) v within (j - ends) ∙ ap (λ y. cond y (Some v) (slice_get xs (j - ends))) (same_end j t)
+        ]) refl
 
     pub wrote_first : (to : Link T) → i - ends < length w.firsts → shape_of (record w { firsts = slice_set w.firsts (i - ends) to }) ≡ set_next (shape_of w) i to
     wrote_first to within = let s = shape_of w in λ k. record { pointers = s.pointers; at = s.at; table = s.table; next = λ j. end_set (λ (n : Node T). Some n.next) w.firsts to within j k; prev = s.prev; list = s.list; item = s.item; counts = s.counts }

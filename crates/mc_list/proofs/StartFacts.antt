@@ -1,17 +1,15 @@
 -- No node, and five lists that are empty.
-use Rattle.std.proofs.Common.{◌≡◌, ℕ, zero, suc, ◌+◌, ◌-◌, ◌<◌, ◌≤◌, Bool, true, false, eqb, cond, List, [], ◌∷◌, length, map, Option, Some, None, refl, sym, ap, ◌∙◌, subst, arith, is_some, slice_get}
+use Rattle.std.proofs.Common.{◌≡◌, ℕ, zero, suc, ◌+◌, ◌-◌, ◌<◌, ◌≤◌, Bool, true, false, cond, List, [], ◌∷◌, map, Option, Some, None, refl, sym, ap, ◌∙◌, arith, is_some, slice_get}
 use Rattle.std.specs.Prelude.{nat_lt}
 use denote.RawPtr.{Ptr}
 use Rattle.mc_list.specs.Cells.{value_at}
-use Rattle.mc_list.specs.Rings.{Path}
 use Rattle.mc_list.specs.Web.{Shape, shape_of, ends, link_to, or_none}
-use Rattle.mc_list.specs.Ringed.{RingOk, Ringed, ring, or_zero, linked_to}
-use Rattle.mc_list.specs.Whole.{Whole, total}
+use Rattle.mc_list.specs.Ringed.{RingOk, or_zero}
+use Rattle.mc_list.specs.Whole.{Whole}
 use Rattle.mc_list.specs.declared.node.Link.{Link}
 use Rattle.mc_list.specs.declared.node.Node.{Node}
 use Rattle.mc_list.specs.declared.web.Web.{Web}
 use Rattle.mc_list.proofs.WebFacts.{some_is, ringed}
-use Rattle.mc_list.proofs.ShapeFacts.{below}
 
 module _ {T : Type 0} where
   module _ (w : Web T) where
@@ -66,3 +64,21 @@ module _ {T : Type 0} where
           some_list : (p : ℕ) → p < ends → (o : Option ℕ) → s.list p ≡ o → is_some o ≡ true → ⊥
           some_list p low None is c = absurd (cc)
           some_list p low (Some k) is c = no_list p k low is
+
+-- the ends of the five lists, one after another
+pub five_ends : {T : Type 0} (a b c d e : Link T) (at : ℕ → Ptr) → a ≡ link_to at (ends + 0) → b ≡ link_to at (ends + 1) → c ≡ link_to at (ends + 2) → d ≡ link_to at (ends + 3) → e ≡ link_to at (ends + 4)
+    → (l : ℕ) → l < 5 → slice_get (a ∷ b ∷ c ∷ d ∷ e ∷ []) l ≡ Some (link_to at (ends + l))
+five_ends a b c d e at is0 is1 is2 is3 is4 zero h = ap Some is0
+five_ends a b c d e at is0 is1 is2 is3 is4 (suc zero) h = ap Some is1
+five_ends a b c d e at is0 is1 is2 is3 is4 (suc (suc zero)) h = ap Some is2
+five_ends a b c d e at is0 is1 is2 is3 is4 (suc (suc (suc zero))) h = ap Some is3
+five_ends a b c d e at is0 is1 is2 is3 is4 (suc (suc (suc (suc zero)))) h = ap Some is4
+five_ends a b c d e at is0 is1 is2 is3 is4 (suc (suc (suc (suc (suc l))))) h = absurd (omega (arith, h))
+
+pub five_zeros : (l : ℕ) → l < 5 → slice_get {X = ℕ} (0 ∷ 0 ∷ 0 ∷ 0 ∷ 0 ∷ []) l ≡ Some 0
+five_zeros zero h = refl
+five_zeros (suc zero) h = refl
+five_zeros (suc (suc zero)) h = refl
+five_zeros (suc (suc (suc zero))) h = refl
+five_zeros (suc (suc (suc (suc zero)))) h = refl
+five_zeros (suc (suc (suc (suc (suc l))))) h = absurd (omega (arith, h))

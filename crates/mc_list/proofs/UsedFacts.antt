@@ -1,19 +1,19 @@
 -- What a call at a place in use needs, and what comes of it.
-use Rattle.std.proofs.Common.{◌≡◌, ℕ, ◌+◌, ◌-◌, ◌<◌, ◌≤◌, ◌^◌, Bool, true, false, eqb, T as Yes, cond, List, [], ◌∷◌, ◌++◌, length, Option, Some, None, refl, sym, ap, ◌∙◌, subst, arith, eqb→eq, ltb→lt, nltb→le, not, is_some, slice_get, append-nil}
+use Rattle.std.proofs.Common.{◌≡◌, ℕ, ◌+◌, ◌-◌, ◌<◌, ◌≤◌, ◌^◌, true, false, eqb, T as Yes, cond, List, [], ◌∷◌, ◌++◌, length, Option, Some, None, refl, sym, ap, ◌∙◌, subst, arith, eqb→eq, ltb→lt, nltb→le, not, is_some, slice_get, append-nil}
 use Rattle.std.specs.Prelude.{nat_lt}
-use Rattle.mc_list.specs.Rings.{upd, NotIn, Agree, last_or, head_or, without}
-use Rattle.mc_list.specs.Web.{Shape, Reaches, ends, loose, spare_list, link_to, set_item}
+use Rattle.mc_list.specs.Rings.{upd, NotIn, Agree, head_or, without}
+use Rattle.mc_list.specs.Web.{Shape, Reaches, ends, spare_list, link_to, set_item}
 use Rattle.mc_list.specs.Ringed.{CanMove, ring, or_zero, linked_to, moved}
 use Rattle.mc_list.specs.Entries.{Entry, entry, those_at, others, has_place, first_place}
 use Rattle.mc_list.specs.Whole.{Whole, place_at, entry_at, collect, entries_in, spare_in}
 use Rattle.mc_list.specs.declared.lists.Place.{Place}
 use Rattle.mc_list.specs.declared.node.Link.{Link}
-use Rattle.mc_list.proofs.RingFacts.{eqb-self, eqb-symm, upd_same, upd_other, first_is, last_is}
+use Rattle.mc_list.proofs.RingFacts.{eqb-self, eqb-symm, upd_same, upd_other, first_is}
 use Rattle.mc_list.proofs.WebFacts.{some_is, apart_by}
 use Rattle.mc_list.proofs.EntryFacts.{collect_upd, collect_without, length_collect, first_collect, has_none, has_one}
-use Rattle.mc_list.proofs.AllFacts.{all_ring, all_in, all_collect, not_within, in_list, the_one}
+use Rattle.mc_list.proofs.AllFacts.{all_in, in_list, the_one}
 use Rattle.mc_list.proofs.PlaceFacts.{shift_keeps}
-use Rattle.mc_list.proofs.FitsFacts.{item_whole, class_is, low, reaches, can_move, new_class, new_reaches, new_whole, new_entries, part}
+use Rattle.mc_list.proofs.FitsFacts.{item_whole, class_is, low, reaches, can_move, new_class, new_reaches, new_whole, new_entries}
 
 some_of : {A : Type 0} (o : Option A) → is_some o ≡ true → (x : A) × (o ≡ Some x)
 some_of None e = absurd (cc)
@@ -186,9 +186,9 @@ module _ {T : Type 0} where
               pub shifted : (l : ℕ) → shown new l ≡ others (place_at p) (shown s l) ++ cond (eqb to l) (those_at (place_at p) (all_in s)) []
               shifted = each new (λ l. others (place_at p) (shown s l) ++ cond (eqb to l) (those_at (place_at p) (all_in s)) [])
                   (λ l few_l. ap (λ t. entries_in t l) is_moved ∙ new_entries s whole k p few on to room s.item l (omega (arith, few_l))
-                      ∙ (λ i. others (place_at p) (sym (shown_four s l few_l) i) ++ cond (eqb to l) (the_entry i) []))
+                  ∙ (λ i. others (place_at p) (sym (shown_four s l few_l) i) ++ cond (eqb to l) (the_entry i) []))
                   (λ l many. let off : eqb to l ≡ false = apart to l (omega (arith, h, many)) in
-                      (λ i. others (place_at p) (shown_none s l many i) ++ cond (off i) (those_at (place_at p) (all_in s)) []))
+                  (λ i. others (place_at p) (shown_none s l many i) ++ cond (off i) (those_at (place_at p) (all_in s)) []))
                 where
                   the_entry : entry_at p (s.item p) ≡ those_at (place_at p) (all_in s)
                   the_entry = let x = some_of (s.item p) some_item in ap (entry_at p) x.1 ∙ sym (the_one s whole p used x.0 x.1)

@@ -1,11 +1,11 @@
 -- What holds between two calls is a proposition.
 use Rattle.std.specs.Prelude.{ℕ, ◌+◌, Bool, List, [], ◌∷◌, Option, Some}
 use mathlib.Core.Path.{refl}
-use Rattle.std.specs.Coded.{Coded, Coded-set, coded_ℕ, coded_bool, coded_list, coded×, coded_option, code_by, le_prop}
+use Rattle.std.specs.Coded.{Coded-set, coded_ℕ, coded_bool, coded_list, coded×, coded_option, code_by, le_prop}
 use denote.RawPtr.{Ptr, coded_ptr}
 use Rattle.mc_list.specs.Rings.{NotIn, Apart, Agree, Path}
 use Rattle.mc_list.specs.Web.{Shape, ends}
-use Rattle.mc_list.specs.Ringed.{RingOk, Ringed, linked_to}
+use Rattle.mc_list.specs.Ringed.{RingOk, linked_to}
 use Rattle.mc_list.specs.Whole.{Whole}
 use Rattle.mc_list.specs.declared.node.Link.{Link}
 

@@ -76,9 +76,7 @@ impl<T: Drop> Lists<T> {
         let link = self.web.last_spare();
         self.web.put(link, item);
         self.web.relink(link, list);
-        Place {
-            number: link.place,
-        }
+        Place { number: link.place }
     }
 
     /// Where the first entry of a list stands. `None` exactly where the list is empty.
@@ -141,8 +139,7 @@ impl<T: Drop> Lists<T> {
     /// At most one entry stands at a place.
     pub fn no_place_stands_twice(&self)
         ensures { (place : Place) → length (those_at place (all_entries self.now)) ≤ 1 }
-    {
-    }
+    {}
 }
 
 impl<T: Drop> Drop for Lists<T> {

@@ -1,8 +1,5 @@
-use Rattle.std.proofs.Common.{rules, sym, ap, refl, ◌∙◌, drop, arith, ◌≡◌, ℕ, ◌+◌, ◌-◌, ◌^◌, ◌<◌, List, [], ◌∷◌, ◌++◌, Some, None, true, is_some, length, map, slice_get, IfOk, IfSome, IfNone, ◌*◌, ◌≤◌, ◌/◌, ◌%◌, Bool, false, nat_eq, nat_lt, slice_index_or, slice_set, bit_and, bit_or, Fits, w8, w32, w64, Bor, MutBor}
+use Rattle.std.proofs.Common.{sym, ap, ◌∙◌, map}
 use denote.RawPtr.{Ptr}
-use Rattle.mc_list.specs.Web.{Shape, Reaches, shape_of, link_to, ends, loose, spare_list, place_of, set_next, set_prev, set_list, set_item, set_count}
-use Rattle.mc_list.specs.Ringed.{CanUnlink, CanAppend, unlinked, appended, ring}
-use Rattle.mc_list.specs.Whole.{Whole}
 use Rattle.mc_list.proofs.freeing.free_all.Goals as goal
 use Rattle.mc_list.specs.declared.node.Link.{Link}
 use Rattle.mc_list.proofs.DropFacts.{first_is, rest_is, none_left, drop_next, dropped_all}

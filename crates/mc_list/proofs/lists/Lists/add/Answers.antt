@@ -27,13 +27,13 @@ pub returns-clause-used : goal.returns-clause-used
 returns-clause-used g c =
     let s = shape_of c.args.self.now.web in let new = shape_of c.relink.new.self in
     add_uses (shown s) (shown new) c.args.list c.requires.list (place_at c.last_spare-link.result.place) c.args.item
-        (added s c.args.self.now.whole c.requires.room c.last_spare-link.result c.last_spare-link.ensures c.args.item (shape_of c.put.new.self) c.put.ensures c.args.list c.requires.list new c.relink.ensures)
+    (added s c.args.self.now.whole c.requires.room c.last_spare-link.result c.last_spare-link.ensures c.args.item (shape_of c.put.new.self) c.put.ensures c.args.list c.requires.list new c.relink.ensures)
 
 pub returns-clause-places : goal.returns-clause-places
 returns-clause-places g c =
     let s = shape_of c.args.self.now.web in let new = shape_of c.relink.new.self in
     add_keeps (shown s) (shown new) c.args.list c.requires.list (place_at c.last_spare-link.result.place) c.args.item
-        (added s c.args.self.now.whole c.requires.room c.last_spare-link.result c.last_spare-link.ensures c.args.item (shape_of c.put.new.self) c.put.ensures c.args.list c.requires.list new c.relink.ensures)
+    (added s c.args.self.now.whole c.requires.room c.last_spare-link.result c.last_spare-link.ensures c.args.item (shape_of c.put.new.self) c.put.ensures c.args.list c.requires.list new c.relink.ensures)
 
 pub returns-clause-spare : goal.returns-clause-spare
 returns-clause-spare g c = added_spare (shape_of c.args.self.now.web) c.args.self.now.whole c.requires.room c.last_spare-link.result c.last_spare-link.ensures c.args.item (shape_of c.put.new.self) c.put.ensures c.args.list c.requires.list (shape_of c.relink.new.self) c.relink.ensures

@@ -1,4 +1,3 @@
-use Rattle.std.proofs.Common.{rules}
 use Rattle.mc_list.specs.Web.{shape_of}
 use Rattle.mc_list.specs.Whole.{place_at}
 use Rattle.mc_list.proofs.UsedFacts.{shown, is_empty, is_first}

@@ -1,4 +1,4 @@
-use Rattle.std.proofs.Common.{rules, arith}
+use Rattle.std.proofs.Common.{arith}
 use Rattle.mc_list.specs.Web.{shape_of}
 use Rattle.mc_list.proofs.UsedFacts.{there, used_reaches, is_node, holds, used_item}
 use Rattle.mc_list.proofs.lists.Lists.item.Goals as goal

@@ -1,4 +1,3 @@
-use Rattle.std.proofs.Common.{rules}
 use Rattle.mc_list.specs.Web.{shape_of}
 use Rattle.mc_list.proofs.AllFacts.{one_each}
 use Rattle.mc_list.proofs.lists.Lists.no_place_stands_twice.Goals as goal

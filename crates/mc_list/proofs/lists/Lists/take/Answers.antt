@@ -1,6 +1,5 @@
 use Rattle.std.proofs.Common.{rules, arith, refl, ◌<◌}
 use Rattle.mc_list.specs.Web.{shape_of, spare_list}
-use Rattle.mc_list.specs.Whole.{place_at}
 use Rattle.mc_list.proofs.UsedFacts.{shown, there, is_node, may_move, moved_reaches, moved_holds, moved_one, taken_whole, taken, taken_spare}
 use Rattle.mc_list.proofs.PlaceFacts.{take_keeps}
 use Rattle.mc_list.proofs.lists.Lists.take.Goals as goal
@@ -16,9 +15,13 @@ relink-requires g c =
 pub take-requires : goal.take-requires
 take-requires g c =
     let s = shape_of c.args.self.now.web in let whole = c.args.self.now.whole in let p = c.args.place.number in let link = c.link-link.result in
-    let new = shape_of c.relink.new.self in let room : spare_list < 5 = omega arith in
-    (omega arith, (moved_reaches s whole p c.requires.used link c.link-link.ensures spare_list room new c.relink.ensures,
-        (is_node s whole p c.requires.used link c.link-link.ensures, moved_holds s whole p c.requires.used link c.link-link.ensures spare_list room new c.relink.ensures)))
+    let new = shape_of c.relink.new.self in let room : spare_list < 5 = omega arith in (
+      omega arith,
+      (
+        moved_reaches s whole p c.requires.used link c.link-link.ensures spare_list room new c.relink.ensures,
+        (is_node s whole p c.requires.used link c.link-link.ensures, moved_holds s whole p c.requires.used link c.link-link.ensures spare_list room new c.relink.ensures),
+      ),
+    )
 
 pub invariant_of-self : goal.invariant_of-self
 invariant_of-self g c =

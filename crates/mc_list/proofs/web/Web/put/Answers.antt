@@ -1,4 +1,4 @@
-use Rattle.std.proofs.Common.{rules, Some}
+use Rattle.std.proofs.Common.{Some}
 use Rattle.mc_list.proofs.ShapeFacts.{reached, wrote_item}
 use Rattle.mc_list.proofs.web.Web.put.Goals as goal
 

@@ -1,5 +1,5 @@
-use Rattle.std.proofs.Common.{rules, arith, ap, sym, ◌∙◌, subst}
-use Rattle.mc_list.specs.Ringed.{CanAppend, unlinked, appended}
+use Rattle.std.proofs.Common.{arith, ap, sym, ◌∙◌, subst}
+use Rattle.mc_list.specs.Ringed.{CanAppend, appended}
 use Rattle.mc_list.proofs.web.Web.relink.Goals as goal
 
 pub unlink-requires : goal.unlink-requires

@@ -1,4 +1,4 @@
-use Rattle.std.proofs.Common.{rules, ap, ◌∙◌}
+use Rattle.std.proofs.Common.{ap, ◌∙◌}
 use Rattle.mc_list.specs.Web.{shape_of, set_item}
 use Rattle.mc_list.proofs.ShapeFacts.{reached, wrote_item}
 use Rattle.mc_list.proofs.web.Web.take.Goals as goal
