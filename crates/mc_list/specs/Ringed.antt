@@ -1,8 +1,7 @@
 -- The five lists as rings through their ends.
-use Rattle.std.specs.Prelude.{ℕ, ◌≡◌, ◌+◌, ◌-◌, ◌<◌, List, [], ◌∷◌, length, Option, Some, None}
+use Rattle.std.specs.Prelude.{ℕ, ◌≡◌, ◌+◌, ◌-◌, ◌^◌, ◌<◌, List, [], ◌∷◌, ◌++◌, length, Option, Some, None}
 use Rattle.mc_list.specs.Rings.{upd, Apart, Agree, Path, walk}
 use Rattle.mc_list.specs.declared.node.Link.{Link}
-use Rattle.std.specs.Prelude.{◌^◌, ◌++◌}
 use denote.RawPtr.{Ptr}
 use Rattle.mc_list.specs.Web.{Shape, Reaches, ends, loose, spare_list, link_to, place_of}
 

@@ -28,6 +28,7 @@ pub(crate) struct Web<T> {
     pub(crate) counts: [u64; 5],
 }
 
+/// The link to the ends of a list.
 pub(crate) fn end_of<T>(list: u64) -> Link<T>
     requires { list < 5 }
     ensures { (at : ℕ → Ptr) → result ≡ link_to at (ends + list) }
@@ -45,6 +46,7 @@ fn all_ends<T>() -> [Link<T>; 5]
 }
 
 impl<T> Web<T> {
+    /// No node, and five empty lists.
     pub(crate) fn new(alloc: Global) -> Web<T>
         ensures whole { Whole (shape_of result) }
         ensures empty { (list : ℕ) → list < 5 → ring (shape_of result) list ≡ [] }
@@ -59,6 +61,7 @@ impl<T> Web<T> {
         }
     }
 
+    /// The link from a node, or from a list's ends, to what comes after it.
     pub(crate) fn next(&self, of: Link<T>) -> Link<T>
         requires { Reaches (shape_of self.now) of }
         ensures { Some result ≡ (shape_of self.now).next of.place }
@@ -69,6 +72,7 @@ impl<T> Web<T> {
         self.cells.get(of.at, of.place as usize).next
     }
 
+    /// The same to what comes before it.
     pub(crate) fn prev(&self, of: Link<T>) -> Link<T>
         requires { Reaches (shape_of self.now) of }
         ensures { Some result ≡ (shape_of self.now).prev of.place }
@@ -103,6 +107,7 @@ impl<T> Web<T> {
         node.prev = to;
     }
 
+    /// The list that a node is in.
     pub(crate) fn list(&self, of: Link<T>) -> u64
         requires reaches { Reaches (shape_of self.now) of }
         requires node { of.place < ends }
@@ -120,6 +125,7 @@ impl<T> Web<T> {
         node.list = list;
     }
 
+    /// A node fewer is in a list.
     pub(crate) fn lower(&mut self, list: u64)
         requires { (n : ℕ) × ((shape_of self.old).counts list ≡ Some n) × (0 < n) }
         ensures { (n : ℕ) → (shape_of self.old).counts list ≡ Some n
@@ -128,6 +134,7 @@ impl<T> Web<T> {
         self.counts[list as usize] -= 1;
     }
 
+    /// A node more is in a list.
     pub(crate) fn raise(&mut self, list: u64)
         requires { (n : ℕ) × ((shape_of self.old).counts list ≡ Some n) × (n < 2 ^ 63) }
         ensures { (n : ℕ) → (shape_of self.old).counts list ≡ Some n
@@ -159,6 +166,7 @@ impl<T> Web<T> {
         self.lasts[SPARE as usize]
     }
 
+    /// The item of a node.
     pub(crate) fn item(&self, link: Link<T>) -> &T
         requires reaches { Reaches (shape_of self.now) link }
         requires node { link.place < ends }
