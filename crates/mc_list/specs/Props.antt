@@ -16,7 +16,8 @@ number-is : IsSet (Option ℕ)
 number-is = Coded-set (coded_option coded_ℕ)
 
 link-is : {T : Type 0} → IsSet (Option (Link T))
-link-is {T} = Coded-set (coded_option (code_by (Ptr × ℕ) (coded× coded_ptr coded_ℕ) (λ (l : Link T). (l.at, l.place)) (λ p. record { at = p.0; place = p.1 }) (λ _. refl)))
+link-is {T} = Coded-set (coded_option (code_by (Ptr × ℕ) (coded× coded_ptr coded_ℕ)
+    (λ (l : Link T). (l.at, l.place)) (λ p. record { at = p.0; place = p.1 }) (λ _. refl)))
 
 pointers-is : IsSet (List Ptr)
 pointers-is = Coded-set (coded_list coded_ptr)
@@ -36,9 +37,11 @@ Agree-prop : (f g : ℕ → Option ℕ) (xs : List ℕ) → IsProp (Agree f g xs
 Agree-prop f g [] = hlevel
 Agree-prop f g (x ∷ xs) = let rest = Agree-prop f g xs in hlevel (rest, number-is)
 
-Path-prop : {T : Type 0} (link next prev : ℕ → Option (Link T)) (a : ℕ) (xs : List ℕ) (b : ℕ) → IsProp (Path link next prev a xs b)
+Path-prop : {T : Type 0} (link next prev : ℕ → Option (Link T)) (a : ℕ) (xs : List ℕ) (b : ℕ)
+    → IsProp (Path link next prev a xs b)
 Path-prop {T} link next prev a [] b = let set = link-is {T = T} in hlevel set
-Path-prop {T} link next prev a (x ∷ xs) b = let set = link-is {T = T} in let rest = Path-prop link next prev x xs b in hlevel (rest, set)
+Path-prop {T} link next prev a (x ∷ xs) b =
+    let set = link-is {T = T} in let rest = Path-prop link next prev x xs b in hlevel (rest, set)
 
 module _ {T : Type 0} (s : Shape T) where
   RingOk-prop : (l : ℕ) (ps : List ℕ) → IsProp (RingOk s l ps)
@@ -48,4 +51,5 @@ module _ {T : Type 0} (s : Shape T) where
       hlevel (path, a, b, c, number-is)
 
   pub Whole-prop : IsProp (Whole s)
-  Whole-prop = let ok = RingOk-prop in let set = link-is {T = T} in hlevel (ok, set, pointers-is, Bool-is, ℕ-is, le_prop)
+  Whole-prop =
+      let ok = RingOk-prop in let set = link-is {T = T} in hlevel (ok, set, pointers-is, Bool-is, ℕ-is, le_prop)

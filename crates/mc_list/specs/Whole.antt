@@ -1,5 +1,6 @@
 -- What holds of the nodes and the ends between two calls, and the entries that they show.
-use Rattle.std.specs.Prelude.{ℕ, ◌≡◌, ◌+◌, ◌<◌, ◌≤◌, is_some, slice_get, true, List, [], ◌∷◌, ◌++◌, Option, Some, None, length, map}
+use Rattle.std.specs.Prelude.{ℕ, ◌≡◌, ◌+◌, ◌<◌, ◌≤◌, true, List, [], ◌∷◌, ◌++◌, length, map}
+use Rattle.std.specs.Prelude.{Option, Some, None, is_some, slice_get}
 use Rattle.mc_list.specs.Web.{Shape, spare_list, ends, link_to}
 use Rattle.mc_list.specs.Ringed.{Ringed, ring, or_zero}
 use Rattle.mc_list.specs.Entries.{Entry, entry}
@@ -33,12 +34,16 @@ module _ {T : Type 0} where
   abbrev pub spare_in : Shape T → ℕ
   spare_in s = or_zero (s.counts spare_list)
 
-  -- rings: each list is a ring through its ends; items: a node of the four lists holds an item; table: it leads to each
-  -- node that is linked; tied: it has all nodes, in order; few: no node is counted twice; classes: the ends are of their list
+  -- what holds between two calls
   pub record Whole (s : Shape T) : Type 0 where
+    -- each list is a ring through its ends
     pub rings : Ringed s
+    -- a node of the four lists holds an item
     pub items : (l p : ℕ) → l < 4 → p < ends → s.list p ≡ Some l → is_some (s.item p) ≡ true
+    -- the table leads to each node, and has all of them, in order
     pub table : (p : ℕ) → p < ends → is_some (s.list p) ≡ true → slice_get s.table p ≡ Some (link_to s.at p)
     pub tied : map (λ (l : Link T). l.at) s.table ≡ s.pointers
+    -- the five lists together have no more nodes than there are
     pub few : total s.counts ≤ length s.table
+    -- the ends of a list are in it
     pub classes : (p k : ℕ) → s.list p ≡ Some k → ends ≤ p → p ≡ ends + k

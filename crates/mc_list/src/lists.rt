@@ -1,5 +1,6 @@
 // The four lists.
-ghost use Rattle.std.specs.Prelude.{◌≡◌, ℕ, ◌+◌, ◌<◌, ◌≤◌, max, eqb, cond, true, false, List, [], ◌∷◌, ◌++◌, length, OnOk, IfSome};
+ghost use Rattle.std.specs.Prelude.{◌≡◌, ℕ, ◌+◌, ◌<◌, ◌≤◌, max, eqb, cond, false, List, [], ◌∷◌, ◌++◌, length};
+ghost use Rattle.std.specs.Prelude.{OnOk, IfSome};
 ghost use Rattle.mc_list.specs.Web.{shape_of};
 ghost use Rattle.mc_list.specs.Whole.{Whole};
 ghost use Rattle.mc_list.specs.Props.{Whole-prop};
