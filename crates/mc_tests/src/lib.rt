@@ -24,6 +24,8 @@ mod hand_made;
 #[cfg(test)]
 mod library;
 #[cfg(test)]
+mod lists;
+#[cfg(test)]
 mod makers;
 #[cfg(test)]
 mod memory;

@@ -1,0 +1,15 @@
+pub mod Owned
+pub mod Sharing
+pub mod RingFacts
+pub mod WebFacts
+pub mod EntryFacts
+pub mod ShapeFacts
+pub mod StepFacts
+pub mod AllFacts
+pub mod FitsFacts
+pub mod PlaceFacts
+pub mod UsedFacts
+pub mod AddFacts
+pub mod GrowFacts
+pub mod StartFacts
+pub mod DropFacts

@@ -1,0 +1,10 @@
+pub mod Cells
+pub mod Ownership
+pub mod Lends
+pub mod Rings
+pub mod Web
+pub mod Ringed
+pub mod Entries
+pub mod Whole
+pub mod Views
+pub mod Props
