@@ -14,7 +14,7 @@ pub record IsWorking (Owned : Type 0) (taken : Option Cid) (Asked : Type 0) : Ty
 
 fits_map : (map : Map) (cid : Cid) (found : Found) → FoundHas cid found → map cid ≡ bytes_of found → FoundFits (Some map) cid found
 fits_map map cid (Bytes bytes) digest is = (digest, is)
-fits_map map cid Missing digest is = tt
+fits_map map cid Missing digest is = is
 
 fits_none : (cid : Cid) (found : Found) → FoundHas cid found → FoundFits None cid found
 fits_none cid (Bytes bytes) digest = (digest, tt)
