@@ -1,8 +1,9 @@
 // Where jobs come from.
 ghost use Rattle.std.specs.Prelude.{◌≡◌, List, Option, None, Some, Result, IfOk};
 ghost use Rattle.mc_base.specs.declared.cid.Cid.{Cid as CidOf};
-ghost use Rattle.mc_fetch.specs.Fits.{FoundFits, Map, NextFits};
+ghost use Rattle.mc_fetch.specs.Fits.{Map, NextFits};
 ghost use Rattle.mc_worker.specs.Ends.{deliver_ends, job_out, next_ends};
+ghost use Rattle.mc_worker.specs.Lookups.{FoundFits};
 
 use crate::{HandEnd, ShopError};
 use mc_fetch::{Delivered, Found, Job};
