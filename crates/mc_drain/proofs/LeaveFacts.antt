@@ -11,35 +11,35 @@ use Rattle.mc_drain.specs.Repairs.{RepairLeads}
 use Rattle.mc_drain.specs.Rounds.{HasWalkedFrom, HasWorkedFrom}
 use Rattle.mc_drain.specs.Works.{WorkLeads}
 use Rattle.mc_drain.proofs.RepairFacts.{JoinsLaw, RepairBeginsLaw, WholeLaw, repair_broken, repair_recalled}
-use Rattle.mc_drain.proofs.WorkFacts.{BeginsLaw, ClosedLaw, DrainedLaw, SoFarLaw, worked_broken, worked_recalled}
+use Rattle.mc_drain.proofs.WorkFacts.{BeginsLaw, ClosedLaw, DrainedLaw, worked_broken, worked_recalled}
 
 -- the keeper of the workers has failed
-pub work_stopped : (begins : BeginsLaw) (closed : ClosedLaw) (so_far : SoFarLaw) (drained : DrainedLaw) (down : Bool) (a : Option ReplicaState) → down ≡ true → IfSome a (λ s. IsSound s.state)
+pub work_stopped : (begins : BeginsLaw) (closed : ClosedLaw) (drained : DrainedLaw) (down : Bool) (a : Option ReplicaState) → down ≡ true → IfSome a (λ s. IsSound s.state)
     → Told a a (λ s new. (before budget : ℕ) (offers : Option Map) (root : ReplicaState) → HasWorkedFrom down before budget offers root s → WorkLeads budget offers (Err error.KeeperFault) root new)
-work_stopped begins closed so_far drained down None is sound = tt
-work_stopped begins closed so_far drained down (Some s) is sound = λ before budget offers root worked.
-    worked_broken begins closed so_far drained before budget offers root s sound (subst (λ (b : Bool). HasWorkedFrom b before budget offers root s) is worked)
+work_stopped begins closed drained down None is sound = tt
+work_stopped begins closed drained down (Some s) is sound = λ before budget offers root worked.
+    worked_broken begins closed drained before budget offers root s sound (subst (λ (b : Bool). HasWorkedFrom b before budget offers root s) is worked)
 
 -- a fetch of theirs failed
-pub work_left : (begins : BeginsLaw) (closed : ClosedLaw) (so_far : SoFarLaw) (drained : DrainedLaw) (down : Bool) (a b : Option ReplicaState) → down ≡ false → IfSome b (λ s. IsSound s.state) → Told a b (λ s new. Leads false (count s) Always s new)
+pub work_left : (begins : BeginsLaw) (closed : ClosedLaw) (drained : DrainedLaw) (down : Bool) (a b : Option ReplicaState) → down ≡ false → IfSome b (λ s. IsSound s.state) → Told a b (λ s new. Leads false (count s) Always s new)
     → Told a b (λ s new. (before budget : ℕ) (offers : Option Map) (root : ReplicaState) → HasWorkedFrom down before budget offers root s → WorkLeads budget offers (Err error.PeerFault) root new)
-work_left begins closed so_far drained down None b is sound leads = tt
-work_left begins closed so_far drained down (Some s) None is sound leads = absurd leads
-work_left begins closed so_far drained down (Some s) (Some new) is sound leads = λ before budget offers root worked.
-    worked_recalled begins closed so_far drained before budget offers root s new sound (subst (λ (b : Bool). HasWorkedFrom b before budget offers root s) is worked) leads
+work_left begins closed drained down None b is sound leads = tt
+work_left begins closed drained down (Some s) None is sound leads = absurd leads
+work_left begins closed drained down (Some s) (Some new) is sound leads = λ before budget offers root worked.
+    worked_recalled begins closed drained before budget offers root s new sound (subst (λ (b : Bool). HasWorkedFrom b before budget offers root s) is worked) leads
 
 -- the same of a repair
 
-pub repair_stopped : (begins : BeginsLaw) (repair_begins : RepairBeginsLaw) (joins : JoinsLaw) (whole : WholeLaw) (closed : ClosedLaw) (so_far : SoFarLaw) (drained : DrainedLaw) (down : Bool) (a : Option ReplicaState) → down ≡ true → IfSome a (λ s. IsSound s.state)
+pub repair_stopped : (begins : BeginsLaw) (repair_begins : RepairBeginsLaw) (joins : JoinsLaw) (whole : WholeLaw) (closed : ClosedLaw) (drained : DrainedLaw) (down : Bool) (a : Option ReplicaState) → down ≡ true → IfSome a (λ s. IsSound s.state)
     → Told a a (λ s new. (before budget : ℕ) (offers : Option Map) (root walked : ReplicaState) → HasWalkedFrom root walked → HasWorkedFrom down before budget offers walked s → RepairLeads budget offers (Err error.KeeperFault) root new)
-repair_stopped begins repair_begins joins whole closed so_far drained down None is sound = tt
-repair_stopped begins repair_begins joins whole closed so_far drained down (Some s) is sound = λ before budget offers root walked here worked.
-    repair_broken begins repair_begins joins whole closed so_far drained before budget offers root walked s sound here (subst (λ (b : Bool). HasWorkedFrom b before budget offers walked s) is worked)
+repair_stopped begins repair_begins joins whole closed drained down None is sound = tt
+repair_stopped begins repair_begins joins whole closed drained down (Some s) is sound = λ before budget offers root walked here worked.
+    repair_broken begins repair_begins joins whole closed drained before budget offers root walked s sound here (subst (λ (b : Bool). HasWorkedFrom b before budget offers walked s) is worked)
 
-pub repair_left : (begins : BeginsLaw) (repair_begins : RepairBeginsLaw) (joins : JoinsLaw) (whole : WholeLaw) (closed : ClosedLaw) (so_far : SoFarLaw) (drained : DrainedLaw) (down : Bool) (a b : Option ReplicaState) → down ≡ false → IfSome b (λ s. IsSound s.state)
+pub repair_left : (begins : BeginsLaw) (repair_begins : RepairBeginsLaw) (joins : JoinsLaw) (whole : WholeLaw) (closed : ClosedLaw) (drained : DrainedLaw) (down : Bool) (a b : Option ReplicaState) → down ≡ false → IfSome b (λ s. IsSound s.state)
     → Told a b (λ s new. Leads false (count s) Always s new)
     → Told a b (λ s new. (before budget : ℕ) (offers : Option Map) (root walked : ReplicaState) → HasWalkedFrom root walked → HasWorkedFrom down before budget offers walked s → RepairLeads budget offers (Err error.PeerFault) root new)
-repair_left begins repair_begins joins whole closed so_far drained down None b is sound leads = tt
-repair_left begins repair_begins joins whole closed so_far drained down (Some s) None is sound leads = absurd leads
-repair_left begins repair_begins joins whole closed so_far drained down (Some s) (Some new) is sound leads = λ before budget offers root walked here worked.
-    repair_recalled begins repair_begins joins whole closed so_far drained before budget offers root walked s new sound here (subst (λ (b : Bool). HasWorkedFrom b before budget offers walked s) is worked) leads
+repair_left begins repair_begins joins whole closed drained down None b is sound leads = tt
+repair_left begins repair_begins joins whole closed drained down (Some s) None is sound leads = absurd leads
+repair_left begins repair_begins joins whole closed drained down (Some s) (Some new) is sound leads = λ before budget offers root walked here worked.
+    repair_recalled begins repair_begins joins whole closed drained before budget offers root walked s new sound here (subst (λ (b : Bool). HasWorkedFrom b before budget offers walked s) is worked) leads

@@ -3,6 +3,7 @@ pub mod EndFacts
 pub mod EventFacts
 pub mod FuseFacts
 pub mod GoOnFacts
+pub mod JobFacts
 pub mod LeaveFacts
 pub mod QueueFacts
 pub mod ReachFacts

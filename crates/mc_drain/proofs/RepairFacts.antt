@@ -28,16 +28,16 @@ use Rattle.mc_drain.specs.declared.working.WorkError.{WorkError}
 use Rattle.mc_drain.specs.declared.working.WorkError.TheVariants as error
 use Rattle.mc_drain.specs.Finds.{first_bytes, found_from}
 use Rattle.mc_drain.specs.Leads.{Always, FuseGoes, Leads, LeadsBy, Never, commits_between, count, up_to}
-use Rattle.mc_drain.specs.Repairs.{RepairAnswer, RepairLeads, Walks, repair_start, repaired_of, walk_error}
+use Rattle.mc_drain.specs.Repairs.{IsPartRepaired, RepairAnswer, RepairLeads, Walks, repair_start, repaired_of, walk_error}
 use Rattle.mc_drain.specs.Rounds.{FindsFrom, HasWalkedFrom, HasWorkedFrom}
 use Rattle.mc_drain.specs.Words.{DrainLeads, Fetched, IsBroken, is_keeper}
-use Rattle.mc_drain.specs.Works.{IsAtEnd}
+use Rattle.mc_drain.specs.Works.{IsAtEnd, IsPartOf}
 use Rattle.mc_drain.proofs.EventFacts.{broken_at}
 use Rattle.mc_drain.proofs.FuseFacts.{burns_around, burns_before, fuse_more, fuse_stays, fuse_then, longer}
 use Rattle.mc_drain.proofs.GoOnFacts.{leads_go_on, leads_itself}
 use Rattle.mc_drain.proofs.ReachFacts.{MayReach}
 use Rattle.mc_drain.proofs.WalkFacts.{broken_repair, walks_stay}
-use Rattle.mc_drain.proofs.WorkFacts.{BeginsLaw, ClosedLaw, DrainedLaw, Leaves, SoFarLaw, begun, drain_after, drained_at, kept_bytes, some_is, wanted_same}
+use Rattle.mc_drain.proofs.WorkFacts.{BeginsLaw, ClosedLaw, DrainedLaw, Leaves, begun, drain_after, drained_at, kept_bytes, some_is, wanted_same}
 
 abbrev pub RepairBeginsLaw : Type 0
 RepairBeginsLaw = (bytes_of : Map) (kept : List Cid) (state : State) → ((c : Cid) (bytes : List ℕ) → bytes_in state.durable.graph c ≡ Some bytes → bytes_of c ≡ Some bytes) → ((c : Cid) → has c kept ≡ true → is_some (bytes_in state.durable.graph c) ≡ true)
@@ -130,9 +130,11 @@ module _ (begins : BeginsLaw) (repair_begins : RepairBeginsLaw) (joins : JoinsLa
     sound = here.sound;
     whole = here.whole;
     finds = λ offers map is.
-        let h = walked offers map s r m is sound sound_r first walks here in (
+        let h = walked offers map s r m is sound sound_r first walks here in
+        let p = walks.goes refl map (cids_in s.state.durable.graph) s.state.durable (wanted_in s.state.run) (started offers map s r is sound sound_r first) in (
           still_found s.state.durable.graph m.state.durable.graph offers map (stay_stored s.state.durable m.state.durable (goes_on_then s.state.durable r.state.durable m.state.durable first.grows walks.grows)) h.stored is,
           record { draining = h.draining; stored = h.stored; taken = h.taken; own = kept_bytes m.state.durable.graph },
+          record { repairing = p.repairing; stored = p.stored; taken = p.taken; own = kept_bytes m.state.durable.graph },
         );
   }
 
@@ -143,7 +145,25 @@ module _ (begins : BeginsLaw) (repair_begins : RepairBeginsLaw) (joins : JoinsLa
   walked_told before (Some s) (Some r) None at sound sound_r here first walks = absurd walks
   walked_told before (Some s) (Some r) (Some new) at sound sound_r here first walks = let begun = walked_from s r new sound sound_r first walks here in (at ∙ ap capped (sym begun.same), begun)
 
-  module _ (closed : ClosedLaw) (so_far : SoFarLaw) (drained : DrainedLaw) where
+  -- a drain since the walk goes on with the repair
+  on_from_walk : (offers : Option Map) (map : Map) (s m new : ReplicaState) → found_from s.state.durable.graph offers ≡ Some map → IsSound new.state → GoesOn m.state.durable new.state.durable → HasWalkedFrom s m
+      → ((old : Durable) (start : List Cid) → HasDrained map (cids_in m.state.durable.graph) old start m.state → HasDrained map (cids_in m.state.durable.graph) old start new.state)
+      → IsPartOf map (repair_start s) s new × IsPartRepaired map s new
+  on_from_walk offers map s m new f sound more here goes =
+      let finds = here.finds offers map f in
+      let kept : List Cid = cids_in m.state.durable.graph in
+      let grows = goes_on_then s.state.durable m.state.durable new.state.durable here.grows more in
+      let own : (c : Cid) → has c (cids_in s.state.durable.graph) ≡ true → is_some (bytes_in new.state.durable.graph c) ≡ true =
+      λ c e. stay_stored s.state.durable new.state.durable grows c (kept_bytes s.state.durable.graph c e) in
+      let begun_m : HasDrained map kept m.state.durable (wanted (queue_in m.state.run)) m.state =
+      subst (λ (cids : List Cid). HasDrained map kept m.state.durable cids m.state) (sym (wanted_same m.state.run)) (begun begins m offers map finds.0).0 in
+      let drain = goes s.state.durable (repair_start s) finds.1 in
+      let repair = joins map kept s.state.durable (wanted_in s.state.run) m.state new.state here.sound sound finds.2 (goes m.state.durable (wanted (queue_in m.state.run)) begun_m) in (
+        record { draining = drain.draining; stored = drain.stored; taken = drain.taken; own = own },
+        record { repairing = repair.repairing; stored = repair.stored; taken = repair.taken; own = own },
+      )
+
+  module _ (closed : ClosedLaw) (drained : DrainedLaw) where
     repair_is : (stop : DrainEnd) (budget limit before : ℕ) (offers : Option Map) (result : Result Repaired WorkError) (s m new : ReplicaState) → limit ≡ capped (before + budget) → before ≡ capped (count m) → RepairAnswer stop before (Some new) result
         → HasWalkedFrom s m → Leaves stop new → MayReach new → DrainLeads stop limit (FindsFrom offers m.state.durable.graph) m new → RepairLeads budget offers result s new
     repair_is end.Idle budget limit before offers result s m new is at answer here leaves reached leads =
@@ -190,7 +210,7 @@ module _ (begins : BeginsLaw) (repair_begins : RepairBeginsLaw) (joins : JoinsLa
               let finds = here.finds offers map f in
               let kept : List Cid = cids_in m.state.durable.graph in
               record {
-                so_far = so_far map kept s.state.durable (repair_start s) new.state leaves.sound (leads.goes refl map kept (finds.0, refl) s.state.durable (repair_start s) finds.1);
+                drained = (on_from_walk offers map s m new f leaves.sound leads.grows here (leads.goes refl map kept (finds.0, refl))).0;
                 parts = leads.parts refl map kept (finds.0, refl) s.state.durable (repair_start s) finds.1;
                 good = leads.good refl map kept (finds.0, refl) s.state.durable (repair_start s) finds.1;
               };
@@ -216,8 +236,9 @@ module _ (begins : BeginsLaw) (repair_begins : RepairBeginsLaw) (joins : JoinsLa
           is = λ map f.
               let finds = here.finds offers map f in
               let kept : List Cid = cids_in m.state.durable.graph in
-              let goes = leads.goes refl map kept (finds.0, refl) s.state.durable (repair_start s) finds.1 in
-              (so_far map kept s.state.durable (repair_start s) new.state leaves.sound goes, broken_at map kept s.state.durable (repair_start s) new.state goes);
+              let goes = leads.goes refl map kept (finds.0, refl) in
+              let on = on_from_walk offers map s m new f leaves.sound leads.grows here goes in
+              (on.0, on.1, broken_at map kept s.state.durable (repair_start s) new.state (goes s.state.durable (repair_start s) finds.1));
         })
     repair_is end.Memory budget limit before offers result s m new is at answer here leaves reached leads =
         subst (λ (x : Result Repaired WorkError). RepairLeads budget offers x s new) (sym answer) (record {
@@ -230,7 +251,8 @@ module _ (begins : BeginsLaw) (repair_begins : RepairBeginsLaw) (joins : JoinsLa
           is = λ map f.
               let finds = here.finds offers map f in
               let kept : List Cid = cids_in m.state.durable.graph in
-              broken_at map kept s.state.durable (repair_start s) new.state (leads.goes refl map kept (finds.0, refl) s.state.durable (repair_start s) finds.1);
+              let goes = leads.goes refl map kept (finds.0, refl) in
+              ((on_from_walk offers map s m new f leaves.sound leads.grows here goes).1, broken_at map kept s.state.durable (repair_start s) new.state (goes s.state.durable (repair_start s) finds.1));
         })
 
     -- where workers have led from the walk's end, and a drain from there
@@ -267,8 +289,9 @@ module _ (begins : BeginsLaw) (repair_begins : RepairBeginsLaw) (joins : JoinsLa
       is = λ map f.
           let finds = here.finds offers map f in
           let kept : List Cid = cids_in m.state.durable.graph in
-          let goes = leads.goes refl map kept (finds.0, refl) root.state.durable (repair_start root) finds.1 in
-          (so_far map kept root.state.durable (repair_start root) new.state sound goes, broken_at map kept root.state.durable (repair_start root) new.state goes);
+          let goes = leads.goes refl map kept (finds.0, refl) in
+          let on = on_from_walk offers map root m new f sound leads.grows here goes in
+          (on.0, on.1, broken_at map kept root.state.durable (repair_start root) new.state (goes root.state.durable (repair_start root) finds.1));
     }
       where
         leads : LeadsBy false (up_to (capped (before + budget)) m) (FindsFrom offers m.state.durable.graph) Never m new
@@ -295,7 +318,9 @@ module _ (begins : BeginsLaw) (repair_begins : RepairBeginsLaw) (joins : JoinsLa
     counts = tt;
     reaches = tt;
     sound = sound_new;
-    is = λ map f. broken_repair map (cids_in s.state.durable.graph) s.state.durable (wanted_in s.state.run) new.state (walks.goes refl map (cids_in s.state.durable.graph) s.state.durable (wanted_in s.state.run) (started offers map s r f sound sound_r first));
+    is = λ map f.
+        let on = walks.goes refl map (cids_in s.state.durable.graph) s.state.durable (wanted_in s.state.run) (started offers map s r f sound sound_r first) in
+        (on, broken_repair map (cids_in s.state.durable.graph) s.state.durable (wanted_in s.state.run) new.state on);
   }
 
   pub cut_each : (stop : DrainEnd) (error : WorkError) (a r b : Option ReplicaState) → error ≡ walk_error stop → IsBroken stop → IfSome a (λ s. IsSound s.state) → IfSome r (λ s. IsSound s.state) → IfSome b (λ s. IsSound s.state) → Told a r (λ s new. Leads false (count s) Always s new)

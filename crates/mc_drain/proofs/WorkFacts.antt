@@ -6,7 +6,7 @@ use Rattle.std.proofs.lemmas.Bool.{false≢true}
 use Rattle.mc_base.specs.Told.{Told}
 use Rattle.mc_base.specs.declared.cid.Cid.{Cid}
 use Rattle.mc_fetch.specs.Fits.{Map}
-use Rattle.mc_model.specs.Drain.{IsClosure, IsDrained, IsSoFar, PartsFit}
+use Rattle.mc_model.specs.Drain.{IsClosure, IsDrained, PartsFit}
 use Rattle.mc_model.specs.Draining.{HasDrained, bytes_in, offers_of, queue_in}
 use Rattle.mc_model.specs.Found.{Offers, is_found}
 use Rattle.mc_model.specs.Front.{same_cid}
@@ -29,7 +29,7 @@ use Rattle.mc_drain.specs.Finds.{first_bytes, found_from}
 use Rattle.mc_drain.specs.Leads.{Always, Leads, LeadsBy, Never, commits_between, count, up_to}
 use Rattle.mc_drain.specs.Rounds.{FindsFrom, HasWorkedFrom}
 use Rattle.mc_drain.specs.Words.{DrainLeads, Fetched, is_keeper, is_peer}
-use Rattle.mc_drain.specs.Works.{AnswerIs, WorkLeads, WorkWants, keeper_broke, peer_broke}
+use Rattle.mc_drain.specs.Works.{AnswerIs, IsPartOf, WorkLeads, WorkWants, keeper_broke, peer_broke}
 use Rattle.mc_drain.proofs.FuseFacts.{burns_then, fuse_stays, longer}
 use Rattle.mc_drain.proofs.GoOnFacts.{leads_go_on, leads_itself}
 
@@ -57,9 +57,6 @@ BeginsLaw = (bytes_of : Map) (kept : List Cid) (state : State) → ((c : Cid) (b
 
 abbrev pub ClosedLaw : Type 0
 ClosedLaw = (bytes_of : Map) (kept : List Cid) (old : Durable) (start : List Cid) (state : State) → IsSound state → IsDrained (offers_of bytes_of) state → HasDrained bytes_of kept old start state → IsClosure (offers_of bytes_of) old start state.durable (wanted_in state.run)
-
-abbrev pub SoFarLaw : Type 0
-SoFarLaw = (bytes_of : Map) (kept : List Cid) (old : Durable) (start : List Cid) (state : State) → IsSound state → HasDrained bytes_of kept old start state → IsSoFar (offers_of bytes_of) old start state.durable (wanted_in state.run)
 
 abbrev pub DrainedLaw : Type 0
 DrainedLaw = (found : Offers) (q : Queue) → PartsFit found q → q.waiting ≡ [] → q.flight ≡ [] → (c : Cid) → has c (wanted q) ≡ true → is_found (found c) ≡ false
@@ -116,12 +113,12 @@ pub record Leaves (stop : DrainEnd) (s : ReplicaState) : Type 0 where
   pub flight : is_keeper stop ≡ false → (queue_in s.state.run).flight ≡ []
   pub waiting : stop ≡ end.Idle → (queue_in s.state.run).waiting ≡ []
 
-module _ (begins : BeginsLaw) (closed : ClosedLaw) (so_far : SoFarLaw) (drained : DrainedLaw) where
-  partly : (offers : Option Map) (map : Map) (s new : ReplicaState) → found_from s.state.durable.graph offers ≡ Some map → IsSound new.state
+module _ (begins : BeginsLaw) (closed : ClosedLaw) (drained : DrainedLaw) where
+  partly : (offers : Option Map) (map : Map) (s new : ReplicaState) → found_from s.state.durable.graph offers ≡ Some map
       → ((map : Map) (kept : List Cid) → FindsFrom offers s.state.durable.graph map kept → (old : Durable) (start : List Cid) → HasDrained map kept old start s.state → HasDrained map kept old start new.state)
-      → IsSoFar (offers_of map) s.state.durable (wanted_in s.state.run) new.state.durable (wanted_in new.state.run)
-  partly offers map s new is sound goes =
-      so_far map (cids_in s.state.durable.graph) s.state.durable (wanted_in s.state.run) new.state sound (goes map (cids_in s.state.durable.graph) (is, refl) s.state.durable (wanted_in s.state.run) (begun begins s offers map is).0)
+      → IsPartOf map (wanted_in s.state.run) s new
+  partly offers map s new is goes =
+      goes map (cids_in s.state.durable.graph) (is, refl) s.state.durable (wanted_in s.state.run) (begun begins s offers map is).0
 
   work_is : (stop : DrainEnd) (budget limit before : ℕ) (offers : Option Map) (q : Queue) (result : Result Worked WorkError) (s new : ReplicaState) → limit ≡ capped (before + budget) → before ≡ capped (count s) → AnswerIs stop before (Some new) q result
       → Leaves stop new → DrainLeads stop limit (FindsFrom offers s.state.durable.graph) s new → WorkLeads budget offers result s new
@@ -146,7 +143,7 @@ module _ (begins : BeginsLaw) (closed : ClosedLaw) (so_far : SoFarLaw) (drained 
     counts = (answer.2 ∙ ap (λ (n : ℕ). capped (count new) - n) first, let spent = leads.spent refl in omega (arith, spent, is, first));
     sound = leaves.sound;
     is = λ map here. let start = begun begins s offers map here in record {
-      so_far = partly offers map s new here leaves.sound (leads.goes refl);
+      drained = partly offers map s new here (leads.goes refl);
       parts = leads.parts refl map (cids_in s.state.durable.graph) (here, refl) s.state.durable (wanted_in s.state.run) start.0;
       good = leads.good refl map (cids_in s.state.durable.graph) (here, refl) s.state.durable (wanted_in s.state.run) start.0;
     };
@@ -165,7 +162,7 @@ module _ (begins : BeginsLaw) (closed : ClosedLaw) (so_far : SoFarLaw) (drained 
     fuse = leads.fuse;
     counts = tt;
     sound = leaves.sound;
-    is = λ map here. partly offers map s new here leaves.sound (leads.goes refl);
+    is = λ map here. partly offers map s new here (leads.goes refl);
   })
   work_is end.Memory budget limit before offers q result s new is first answer leaves leads = subst (λ (r : Result Worked WorkError). WorkLeads budget offers r s new) (sym answer) (record {
     grows = leads.grows;
@@ -173,7 +170,7 @@ module _ (begins : BeginsLaw) (closed : ClosedLaw) (so_far : SoFarLaw) (drained 
     fuse = leads.fuse;
     counts = tt;
     sound = leaves.sound;
-    is = λ map here. partly offers map s new here leaves.sound (leads.goes refl);
+    is = λ map here. partly offers map s new here (leads.goes refl);
   })
 
   -- where workers have led from the beginning of the work, and a drain from there
@@ -204,7 +201,7 @@ module _ (begins : BeginsLaw) (closed : ClosedLaw) (so_far : SoFarLaw) (drained 
     fuse = leads.fuse;
     counts = tt;
     sound = sound;
-    is = λ map here. partly offers map root new here sound (leads.goes refl);
+    is = λ map here. partly offers map root new here (leads.goes refl);
   }
     where
       leads : LeadsBy false (up_to (capped (before + budget)) root) (FindsFrom offers root.state.durable.graph) Never root new
@@ -221,7 +218,7 @@ module _ (begins : BeginsLaw) (closed : ClosedLaw) (so_far : SoFarLaw) (drained 
     fuse = leads.fuse;
     counts = tt;
     sound = sound;
-    is = λ map here. partly offers map s new here sound (λ known kept f. leads.goes refl known kept tt);
+    is = λ map here. partly offers map s new here (λ known kept f. leads.goes refl known kept tt);
   }
 
 -- a replica that had stopped

@@ -4,6 +4,7 @@ use Rattle.std.specs.Prelude.{IfSome}
 use Rattle.mc_base.specs.declared.cid.Cid.{Cid}
 use Rattle.mc_fetch.specs.Fits.{Map}
 use Rattle.mc_model.specs.Events.{GoesOn}
+use Rattle.mc_model.specs.Graph.{cids_in}
 use Rattle.mc_model.specs.Repairing.{HasRepaired, with_gaps}
 use Rattle.mc_model.specs.State.{Durable, IsSound, kept_of, wanted_in}
 use Rattle.mc_model.specs.Wanted.{Queue}
@@ -56,16 +57,23 @@ RepairCounts budget (Ok (Open gaps)) s new = settled_with (gap_count (kept_of ne
 RepairCounts budget (Ok (Again processed)) s new = (processed ≡ came_between s new) × (limit_of budget s ≤ count new)
 RepairCounts budget (Err error) s new = ⊤
 
+-- the repair has come so far: each block that was wanted is processed or still wanted, as is what an added block links
+-- to, and nothing else is but gaps
+abbrev pub IsPartRepaired : Map → ReplicaState → ReplicaState → Type 0
+IsPartRepaired map s new =
+    HasRepaired map (cids_in s.state.durable.graph) s.state.durable (wanted_in s.state.run) new.state
+
 -- what a repair leads to, by its answer, where it is known what is found
 abbrev pub RepairIs : Map → Result Repaired WorkError → ReplicaState → ReplicaState → Type 0
 RepairIs map (Ok Clean) s new = IsAtEnd map (repair_start s) s new
 RepairIs map (Ok (Open gaps)) s new = IsAtEnd map (repair_start s) s new
 RepairIs map (Ok (Again processed)) s new = IsBefore map (repair_start s) s new
 RepairIs map (Err KeeperFault) s new = HasBrokenOff map s.state.durable (repair_start s) new.state.durable
-RepairIs map (Err PeerFault) s new = IsPartOf map (repair_start s) s new
+RepairIs map (Err PeerFault) s new = IsPartOf map (repair_start s) s new × IsPartRepaired map s new
     × HasBrokenOff map s.state.durable (repair_start s) new.state.durable
 RepairIs map (Err Stopped) s new = new ≡ s
-RepairIs map (Err Memory) s new = HasBrokenOff map s.state.durable (repair_start s) new.state.durable
+RepairIs map (Err Memory) s new = IsPartRepaired map s new
+    × HasBrokenOff map s.state.durable (repair_start s) new.state.durable
 
 -- where the answer is that no gap is left, the processed blocks are those that the heads reach
 abbrev pub RepairReaches : Result Repaired WorkError → ReplicaState → Type 0

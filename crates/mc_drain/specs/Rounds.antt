@@ -5,7 +5,8 @@ use Rattle.mc_fetch.specs.Fits.{Map}
 use Rattle.mc_model.specs.Draining.{HasDrained}
 use Rattle.mc_model.specs.Events.{GoesOn}
 use Rattle.mc_model.specs.Graph.{Vertex, cids_in}
-use Rattle.mc_model.specs.State.{IsSound, IsWhole}
+use Rattle.mc_model.specs.Repairing.{HasRepaired}
+use Rattle.mc_model.specs.State.{IsSound, IsWhole, wanted_in}
 use Rattle.mc_core.specs.Counted.{capped}
 use Rattle.mc_core.specs.Events.{ReplicaState}
 use Rattle.mc_drain.specs.Finds.{found_from}
@@ -25,7 +26,7 @@ pub record HasWorkedFrom (failed : Bool) (before budget : ℕ) (offers : Option 
       (FindsFrom offers root.state.durable.graph) Never root s
 
 -- What the beginning of a repair led to: all was recalled, and the walk has come to its end. What is found is the same,
--- and the blocks that are processed from here on are those of the repair.
+-- the blocks that are processed from here on are those of the repair, and what was wanted still is.
 pub record HasWalkedFrom (root s : ReplicaState) : Type 0 where
   pub same : count s ≡ count root
   pub grows : GoesOn root.state.durable s.state.durable
@@ -35,3 +36,4 @@ pub record HasWalkedFrom (root s : ReplicaState) : Type 0 where
   pub finds : (offers : Option Map) (map : Map) → found_from root.state.durable.graph offers ≡ Some map
       → (found_from s.state.durable.graph offers ≡ Some map)
       × HasDrained map (cids_in s.state.durable.graph) root.state.durable (repair_start root) s.state
+      × HasRepaired map (cids_in s.state.durable.graph) root.state.durable (wanted_in root.state.run) s.state

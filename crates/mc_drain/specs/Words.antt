@@ -5,6 +5,7 @@ use Rattle.mc_base.specs.declared.cid.Cid.{Cid}
 use Rattle.mc_fetch.specs.Fits.{FetchFits, Map, OwnFits}
 use Rattle.mc_fetch.specs.declared.error.FetchError.{FetchError}
 use Rattle.mc_fetch.specs.declared.error.FetchError.TheVariants as fetch
+use Rattle.mc_fetch.specs.declared.job.Delivered.{Delivered}
 use Rattle.mc_fetch.specs.declared.job.Job.{Job}
 use Rattle.mc_model.specs.Drain.{PartsFit}
 use Rattle.mc_model.specs.Draining.{HasDrained, IsFoundFor, offers_of, queue_in}
@@ -16,6 +17,7 @@ use Rattle.mc_model.specs.State.{Durable}
 use Rattle.mc_model.specs.Wanted.{Queue, start_first}
 use Rattle.mc_queue.specs.Tickets.{first_of}
 use Rattle.mc_core.specs.Events.{ReplicaState}
+use Rattle.mc_core.specs.Jobs.{WantsAfter}
 use Rattle.mc_drain.specs.declared.end.DrainEnd.{DrainEnd}
 use Rattle.mc_drain.specs.declared.end.DrainEnd.TheVariants.{Idle, Spent, KeeperFault, PeerFault, Memory}
 use Rattle.mc_drain.specs.Leads.{FuseGoes, HasBrokenOff, commits_between, count, up_to}
@@ -76,6 +78,17 @@ abbrev pub Begins : Queue → Queue → Option Job → Type 0
 Begins q left None = (q.waiting ≡ []) × (left ≡ q)
 Begins q left (Some job) = (Some job.cid ≡ first_of q.waiting) × (left ≡ start_first q q.waiting)
 
+-- a job of a block has ended: the block was processed, or it is missing or bad, and nothing else that is waits again
+pub record EndsJob (q left : Queue) (cid : Cid) : Type 0 where
+  pub delivered : Delivered
+  pub after : WantsAfter delivered q left cid
+
+-- and so has a turn, which takes the first block that waits
+pub record Turns (q left : Queue) : Type 0 where
+  pub first : Cid
+  pub takes : Some first ≡ first_of q.waiting
+  pub ends : EndsJob (start_first q q.waiting) left first
+
 -- an end that no answer of a replica has
 abbrev pub IsBroken : DrainEnd → Type 0
 IsBroken Idle = ⊥
@@ -117,8 +130,11 @@ AllGood P s waiting = (map : Map) (kept : List Cid) → P map kept → (old : Du
     → HasDrained map kept old start s.state → (c : Cid) → has c waiting ≡ true → is_found (offers_of map c) ≡ true
 
 -- nothing is missing or bad
+abbrev pub NoneStuck : Queue → Type 0
+NoneStuck q = (q.missing ≡ []) × (q.bad ≡ [])
+
 abbrev pub NothingStuck : ReplicaState → Type 0
-NothingStuck s = ((queue_in s.state.run).missing ≡ []) × ((queue_in s.state.run).bad ≡ [])
+NothingStuck s = NoneStuck (queue_in s.state.run)
 
 -- What a drain of the caller's leads to, where P holds of what is found. No block is lost, and the fuse burns by its
 -- commits at most. It ends as idle where nothing waits, and as spent where the limit is reached and all that wait have

@@ -3,11 +3,11 @@ use Rattle.std.specs.Prelude.{◌≡◌, ◌≢◌, ◌≤◌, ◌+◌, ◌-◌,
 use Rattle.std.specs.Prelude.{Ok, Err, IfSome}
 use Rattle.mc_base.specs.declared.cid.Cid.{Cid}
 use Rattle.mc_fetch.specs.Fits.{Map}
-use Rattle.mc_model.specs.Drain.{IsClosure, IsSoFar, PartsFit}
-use Rattle.mc_model.specs.Draining.{offers_of, queue_in}
+use Rattle.mc_model.specs.Drain.{IsClosure, PartsFit}
+use Rattle.mc_model.specs.Draining.{HasDrained, offers_of, queue_in}
 use Rattle.mc_model.specs.Events.{GoesOn}
 use Rattle.mc_model.specs.Found.{Offers, is_found}
-use Rattle.mc_model.specs.Graph.{has}
+use Rattle.mc_model.specs.Graph.{cids_in, has}
 use Rattle.mc_model.specs.State.{IsSound, wanted_in}
 use Rattle.mc_model.specs.Wanted.{Queue}
 use Rattle.mc_core.specs.Counted.{capped}
@@ -36,6 +36,14 @@ peer_broke (Err PeerFault) = true
 peer_broke (Err Stopped) = false
 peer_broke (Err Memory) = false
 
+-- whether neither did
+abbrev pub none_broke : {T : Type 0} → Result T WorkError → Bool
+none_broke (Ok value) = true
+none_broke (Err KeeperFault) = false
+none_broke (Err PeerFault) = false
+none_broke (Err Stopped) = true
+none_broke (Err Memory) = true
+
 -- how many blocks came between two states, of the first 2 ^ 64 - 1 of them
 abbrev pub came_between : ReplicaState → ReplicaState → ℕ
 came_between s new = capped (count new) - capped (count s)
@@ -53,15 +61,17 @@ pub record IsAtEnd (map : Map) (start : List Cid) (s new : ReplicaState) : Type 
   pub closure : IsClosure (offers_of map) s.state.durable start new.state.durable (wanted_in new.state.run)
   pub parts : PartsFit (offers_of map) (queue_in new.state.run)
 
--- it is not: a block that waits has a good offer, as all have that wait, and missing and bad hold what their names say
+-- the drain of these blocks has come so far: each that was wanted is processed or still wanted, as is what an added
+-- block links to, nothing else is, and only wanted blocks with a good offer were added and stored
+abbrev pub IsPartOf : Map → List Cid → ReplicaState → ReplicaState → Type 0
+IsPartOf map start s new = HasDrained map (cids_in s.state.durable.graph) s.state.durable start new.state
+
+-- it is not at its end: a block that waits has a good offer, as all have that wait, and missing and bad hold what their
+-- names say
 pub record IsBefore (map : Map) (start : List Cid) (s new : ReplicaState) : Type 0 where
-  pub so_far : IsSoFar (offers_of map) s.state.durable start new.state.durable (wanted_in new.state.run)
+  pub drained : IsPartOf map start s new
   pub parts : PartsFit (offers_of map) (queue_in new.state.run)
   pub good : AllFound (offers_of map) (queue_in new.state.run).waiting
-
--- what came is within the closure
-abbrev pub IsPartOf : Map → List Cid → ReplicaState → ReplicaState → Type 0
-IsPartOf map start s new = IsSoFar (offers_of map) s.state.durable start new.state.durable (wanted_in new.state.run)
 
 -- what a work leads to, by its answer, where it is known what is found
 abbrev pub WorkIs : Map → Result Worked WorkError → ReplicaState → ReplicaState → Type 0

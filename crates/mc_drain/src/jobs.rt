@@ -8,11 +8,14 @@ ghost use Rattle.mc_model.specs.Graph.{has};
 ghost use Rattle.mc_model.specs.Wanted.{give_back, recall, requeue};
 ghost use Rattle.mc_queue.specs.Views.{shown};
 ghost use Rattle.mc_core.specs.Exact.{RestSame};
-ghost use Rattle.mc_core.specs.Jobs.{WantsAfter, found_in, is_known};
+ghost use Rattle.mc_core.specs.Jobs.{DeliverEvents, DeliverShort, NextEvents, NextShort, WantsAfter, found_in};
+ghost use Rattle.mc_core.specs.Jobs.{is_known};
 ghost use Rattle.mc_core.specs.Replica.{replica_state};
-ghost use Rattle.mc_core.specs.Words.{Becomes, Continues};
+ghost use Rattle.mc_core.specs.Words.{Becomes, Continues, HappensTo};
+ghost use Rattle.mc_drain.specs.JobCalls.{JobCall, back_events};
 ghost use Rattle.mc_drain.specs.Leads.{Always, Leads, LeadsBy, all_processes, count};
-ghost use Rattle.mc_drain.specs.Words.{Begins, FoundFor, TakenFor, IsBroken, IsNoBlock, begin_failed, is_keeper};
+ghost use Rattle.mc_drain.specs.Words.{Begins, EndsJob, FoundFor, TakenFor, IsBroken, IsNoBlock, begin_failed};
+ghost use Rattle.mc_drain.specs.Words.{is_keeper};
 ghost use Rattle.mc_drain.specs.Words.{keeper_failed};
 
 use crate::DrainEnd;
@@ -27,12 +30,14 @@ use mc_model::{
 use std::alloc::Global;
 
 /// Begins a job for the first block that waits, which is in flight then, with the bytes that the replica has stored
-/// under it; none exactly where nothing waits. Other jobs may be in flight.
+/// under it; none exactly where nothing waits. Other jobs may be in flight. What it does is what `Replica::next_job`
+/// does.
 pub fn begin_job<K: Keeper>(
     alloc: Global,
     replica: &mut Replica<K>,
 ) -> Result<Option<Job>, DrainEnd>
     requires runs { replica.old.stopped ≡ false }
+    ensures call { Becomes K.Keeper (λ rose. JobCall NextEvents NextShort rose result) replica.old replica.new }
     ensures leads { Becomes K.Keeper (λ rose s new. Leads (begin_failed result) (count s) Always s new)
         replica.old replica.new }
     ensures keeps { Continues K.Keeper (begin_failed result) replica.old replica.new }
@@ -58,7 +63,8 @@ pub fn begin_job<K: Keeper>(
     }
 }
 
-/// Delivers what was found for a job, which may be one of many.
+/// Delivers what was found for a job, which may be one of many. What it does, and its answer, are those of
+/// `Replica::deliver`.
 pub fn deliver_job<K: Keeper>(
     alloc: Global,
     replica: &mut Replica<K>,
@@ -67,6 +73,8 @@ pub fn deliver_job<K: Keeper>(
 ) -> Result<Delivered, DrainEnd>
     requires runs { replica.old.stopped ≡ false }
     requires digest { FoundHas job.cid found }
+    ensures call { Becomes K.Keeper (λ rose. JobCall (λ s. DeliverEvents s job.cid (found_in found))
+        (λ s. DeliverShort s job.cid) rose result) replica.old replica.new }
     ensures leads { Becomes K.Keeper (λ rose s new. LeadsBy (begin_failed result)
         (count s + all_processes (delivery s.state.durable.graph job.cid (found_in found)))
         (TakenFor job.cid (found_in found)) (FoundFor job.cid (found_in found)) s new) replica.old replica.new }
@@ -99,6 +107,7 @@ pub fn deliver_job<K: Keeper>(
 /// Gives a job back, which may be one of many: its block comes to the back of those that wait, where it is in flight.
 /// It takes no memory and can't fail.
 pub fn give_job_back<K: Keeper>(replica: &mut Replica<K>, job: Job)
+    ensures goes { HappensTo K.Keeper (back_events job.cid) replica.old replica.new }
     ensures leads { Becomes K.Keeper (λ rose s new. Leads false (count s) Always s new) replica.old replica.new }
     ensures keeps { Continues K.Keeper false replica.old replica.new }
     ensures rest { RestSame replica.old replica.new }
@@ -159,6 +168,7 @@ pub(crate) fn deliver<K: Keeper>(
     ensures rest { RestSame replica.old replica.new }
     ensures broken { IfSome result IsBroken }
     ensures flight { keeper_failed result ≡ false → (shown replica.new.queue).flight ≡ [] }
+    ensures ends { result ≡ None → EndsJob (shown replica.old.queue) (shown replica.new.queue) job.cid }
     ensures stuck { IfSome (replica_state K.told K.fuse replica.old) (λ s. result ≡ None →
         IsNoBlock job.cid (found_in found) → (shown replica.new.queue).waiting ≡ (shown replica.old.queue).waiting) }
 {
@@ -201,12 +211,14 @@ pub(crate) fn recall<K: Keeper>(replica: &mut Replica<K>)
     replica.recall();
 }
 
-// What is missing and what is bad is tried again.
-pub(crate) fn requeue<K: Keeper>(replica: &mut Replica<K>)
+/// What is missing, and then what is bad, comes to the back of what waits, so that it is tried again. Nothing that is
+/// stored changes. It takes no memory and can't fail.
+pub fn requeue<K: Keeper>(replica: &mut Replica<K>)
     ensures leads { Becomes K.Keeper (λ rose s new. Leads false (count s) Always s new) replica.old replica.new }
     ensures keeps { Continues K.Keeper false replica.old replica.new }
     ensures rest { RestSame replica.old replica.new }
     ensures wants { shown replica.new.queue ≡ requeue (shown replica.old.queue) }
+    ensures stored { Becomes K.Keeper (λ rose s new. new.state.durable ≡ s.state.durable) replica.old replica.new }
 {
     found_drains_go_on();
     order_and_store_grow();

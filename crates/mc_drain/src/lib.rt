@@ -18,6 +18,6 @@ pub use draining::drain;
 pub use end::DrainEnd;
 pub use finishing::{finish_work, leave_off};
 pub use giving::give_up;
-pub use jobs::{begin_job, deliver_job, give_job_back};
+pub use jobs::{begin_job, deliver_job, give_job_back, requeue};
 pub use repairing::{Repaired, begin_repair, finish_repair, repair};
 pub use working::{WorkError, Worked, work};

@@ -6,7 +6,7 @@ ghost use Rattle.mc_queue.specs.Views.{shown};
 ghost use Rattle.mc_core.specs.Exact.{RestSame};
 ghost use Rattle.mc_core.specs.Words.{Becomes, Continues};
 ghost use Rattle.mc_drain.specs.Leads.{Leads, count};
-ghost use Rattle.mc_drain.specs.Words.{Fetched, FetchedFor, keeper_failed, peer_failed};
+ghost use Rattle.mc_drain.specs.Words.{EndsJob, Fetched, FetchedFor, Turns, keeper_failed, peer_failed};
 
 use crate::DrainEnd;
 use crate::end::end_by;
@@ -33,6 +33,7 @@ pub(crate) fn take_turn<K: Keeper, F: Fetch, W: Wait>(
     ensures rest { RestSame replica.old replica.new }
     ensures asks { Asks F.Fetch (peer_failed result) fetch.old fetch.new }
     ensures flight { keeper_failed result ≡ false → (shown replica.new.queue).flight ≡ [] }
+    ensures turn { result ≡ None → Turns (shown replica.old.queue) (shown replica.new.queue) }
     ensures idle { result ≡ Some DrainEnd.Idle → (shown replica.new.queue).waiting ≡ [] }
     ensures unspent { result ≢ Some DrainEnd.Spent }
 {
@@ -60,6 +61,7 @@ fn do_job<K: Keeper, F: Fetch, W: Wait>(
     ensures rest { RestSame replica.old replica.new }
     ensures asks { Asks F.Fetch (peer_failed result) fetch.old fetch.new }
     ensures flight { keeper_failed result ≡ false → (shown replica.new.queue).flight ≡ [] }
+    ensures ends { result ≡ None → EndsJob (shown replica.old.queue) (shown replica.new.queue) job.cid }
     ensures idle { result ≢ Some DrainEnd.Idle }
     ensures unspent { result ≢ Some DrainEnd.Spent }
 {

@@ -54,9 +54,9 @@ pub enum WorkError {
 /// Works through the wanted blocks of a replica on the caller's thread: what is missing or bad is tried again, and the
 /// blocks that wait are looked up and processed, until nothing waits or as many are processed as the budget says. Where
 /// it is known what is found, `Done` comes exactly where no wanted block has a good offer any more, and the processed
-/// blocks are then the closure of what was wanted; else it is `Again`, and the blocks with a good offer wait and the
-/// others are missing or bad. `Stopped` comes exactly where an earlier call answered `KeeperFault`, and changes
-/// nothing.
+/// blocks are then the closure of what was wanted; else it is `Again`, and all that wait have a good offer. After
+/// `Again`, `PeerFault` and `Memory` each block that was wanted is processed or still wanted. `Stopped` comes exactly
+/// where an earlier call answered `KeeperFault`, and changes nothing.
 pub fn work<K: Keeper, F: Fetch, W: Wait>(
     alloc: Global,
     replica: &mut Replica<K>,

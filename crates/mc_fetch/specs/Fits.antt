@@ -39,11 +39,6 @@ abbrev pub NextFits : Option Map → List Cid → Option Job → Type 0
 NextFits map kept None = ⊤
 NextFits map kept (Some job) = JobFits map kept job
 
--- bytes that were found have the digest, and are the map's
-abbrev pub FoundFits : Option Map → Cid → Found → Type 0
-FoundFits map cid (Bytes bytes) = HasDigest cid bytes × IsOffered map cid bytes
-FoundFits map cid Missing = ⊤
-
 -- where the map is known, a fetch that tells finds its bytes for each block that isn't kept
 abbrev pub FetchFits : Option Map → List Cid → Option Map → Type 0
 FetchFits None kept found = ⊤

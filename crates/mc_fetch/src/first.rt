@@ -11,9 +11,9 @@ use std::alloc::Global;
 use std::sync::Wait;
 
 /// The bytes of the first place that offers some whose SHA-256 is the identifier's digest, or none where no place does.
-/// An offer of another digest is passed over, so whatever is offered, bytes that come back have the digest. The places
-/// are asked in their order, and none after the one that decides. Each offer is digested once, and the bytes are moved.
-/// `Failed` comes where a place failed: the fetch's count rose, and no further place was asked.
+/// An offer of another digest is passed over, so whatever is offered, bytes that come back have the digest. `Failed`
+/// comes exactly where a call of the fetch failed, which was the last one. Which places were asked before that, and how
+/// often, is not promised.
 pub fn first_match<F: Fetch, W: Wait>(
     alloc: Global,
     fetch: &mut F,

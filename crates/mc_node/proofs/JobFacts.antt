@@ -6,7 +6,8 @@ use Rattle.mc_base.specs.Told.{Told}
 use Rattle.mc_base.proofs.Telling.{told_weaker}
 use Rattle.mc_base.specs.declared.cid.Cid.{Cid}
 use Rattle.mc_base.specs.declared.counted.Counted as counted
-use Rattle.mc_fetch.specs.Fits.{FoundFits, FoundHas, Map, NextFits, OwnFits}
+use Rattle.mc_fetch.specs.Fits.{FoundHas, Map, NextFits, OwnFits}
+use Rattle.mc_worker.specs.Lookups.{FoundFits}
 use Rattle.mc_fetch.specs.Offers.{HasDigest}
 use Rattle.mc_fetch.specs.declared.job.Job.{Job}
 use Rattle.mc_fetch.specs.declared.job.Found.{Found}

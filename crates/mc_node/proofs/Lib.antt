@@ -8,6 +8,7 @@ pub mod ReplicaFacts
 pub mod SeatFacts
 pub mod JobFacts
 pub mod SealedFacts
+pub mod ServeFacts
 pub mod Spread
 pub mod Chains
 pub mod WriterFacts

@@ -5,7 +5,8 @@ use Rattle.std.proofs.lemmas.Bool.{false≢true}
 use Rattle.std.proofs.lemmas.List.{take-append-drop}
 use Rattle.std.proofs.Math.Seq.{take-append_seam}
 use Rattle.mc_base.specs.declared.cid.Cid.{Cid}
-use Rattle.mc_fetch.specs.Fits.{FoundFits, Map}
+use Rattle.mc_fetch.specs.Fits.{Map}
+use Rattle.mc_worker.specs.Lookups.{FoundFits}
 use Rattle.mc_fetch.specs.declared.job.Found.{Found}
 use Rattle.mc_fetch.specs.declared.job.Found.TheVariants.{Bytes, Missing}
 use Rattle.mc_keep.specs.Causes.{Kind, Refusal, Fault, Shortage, is_fault_kind}

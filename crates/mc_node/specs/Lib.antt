@@ -5,6 +5,7 @@ pub mod Items
 pub mod Jobs
 pub mod Moves
 pub mod Seats
+pub mod Serves
 pub mod Ties
 pub mod Tooks
 pub mod Tries

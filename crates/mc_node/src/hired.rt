@@ -34,8 +34,9 @@ impl<T, K: Keeper> Hired<T, K> {
         }
     }
 
-    /// The seat alone.
+    /// The seat alone. Condition: it has no job out, so none is lost.
     pub fn into_seat(self) -> NodeSeat<T, K>
+        requires idle { self.out ≡ None }
         ensures { result ≡ self.seat }
     {
         let Hired {

@@ -43,7 +43,7 @@ pub struct NodeRefused<K: Keeper> {
 pub struct Seen<A> {
     /// What is answered, over the first `length` processed blocks.
     pub answer: A,
-    /// How many blocks were processed then, at most `u64::MAX`: not fewer than any earlier answer on the same seat
-    /// was over.
+    /// How many blocks were processed then, at most `u64::MAX`. On a node that isn't sealed they begin with those of
+    /// any earlier answer on the same seat.
     pub length: u64,
 }

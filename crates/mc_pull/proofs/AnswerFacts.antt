@@ -90,7 +90,7 @@ repair_leads shows (Ok value) budget offers s new leads = leads
 repair_leads shows (Err KeeperFault) budget offers s new leads = leads
 repair_leads true (Err PeerFault) budget offers s new leads = leads
 repair_leads false (Err PeerFault) budget offers s new leads =
-    record { grows = leads.grows; within = leads.within; fuse = leads.fuse; counts = tt; reaches = tt; sound = leads.sound; is = λ map f. (leads.is map f).1 }
+    record { grows = leads.grows; within = leads.within; fuse = leads.fuse; counts = tt; reaches = tt; sound = leads.sound; is = λ map f. let is = leads.is map f in (is.1, is.2) }
 repair_leads shows (Err Stopped) budget offers s new leads = leads
 repair_leads shows (Err Memory) budget offers s new leads = leads
 

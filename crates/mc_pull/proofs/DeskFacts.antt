@@ -1,5 +1,5 @@
 -- What calls through a fetch leave of the desks that were lent to it.
-use Rattle.std.proofs.Common.{◌≡◌, ◌≤◌, ◌<◌, ℕ, zero, suc, Bool, true, false, cond, All, List, [], ◌∷◌, length, slice_index_or, Option, refl, sym, ap, ◌∙◌, subst, arith}
+use Rattle.std.proofs.Common.{◌≡◌, ◌≤◌, ◌<◌, ℕ, zero, suc, Bool, true, false, cond, All, List, [], ◌∷◌, length, slice_index_or, Option, Some, None, refl, sym, ap, ◌∙◌, subst, arith}
 use Rattle.std.specs.Prelude.{nat_eq, Vec}
 use Rattle.std.specs.List.{AllZip, list_all}
 use Rattle.std.specs.Option.{option_map}
@@ -11,7 +11,7 @@ use Rattle.mc_pull.specs.Hands.{FetchLeft, found_first}
 use Rattle.mc_fetch.specs.Calls.{Members as Asked}
 use Rattle.mc_fetch.specs.Fits.{Map}
 use Rattle.mc_fetch.specs.Offers.{found_by}
-use Rattle.mc_fetch.specs.Peers.{ViewGoes, offers_at, offers_told, onto_peers, peers_told, places_of}
+use Rattle.mc_fetch.specs.Peers.{SamePlan, ViewGoes, offers_at, offers_told, onto_peers, peers_told, places_of}
 use Rattle.mc_fetch.specs.declared.peers.PeerFetch.{PeerFetch}
 use Rattle.mc_fetch.specs.declared.peers.PeerView.{PeerView}
 use Rattle.mc_fetch.specs.declared.plants.Planted.{Planted}
@@ -23,7 +23,7 @@ use Rattle.mc_lend.specs.Rows.{AllViewed, lists_of}
 use Rattle.mc_lend.specs.declared.site.Site.{Site}
 use Rattle.mc_model.specs.Found.{PeerOffers}
 use Rattle.mc_model.specs.Kept.{Kept}
-use Rattle.mc_pull.specs.Pulls.{DeskListGoes, DesksGo, are_quiet, found_at, is_calm, sites_told, told_at}
+use Rattle.mc_pull.specs.Pulls.{DeskGoes, DeskListGoes, DesksGo, are_quiet, found_at, is_calm, sites_told, told_at}
 
 -- ---- how many views there are
 
@@ -84,20 +84,31 @@ module _ {K D : Type 0} (quiet : K → Bool) (quiet_desk : D → Bool) (desk_fau
   all_viewed sites (fetch ∷ fetches) (new ∷ asked) of all =
       (as_many IsViewOf (peers_in sites) (views_of fetch) of.0 ∙ as_many (ViewGoes quiet quiet_desk desk_faults plan) (views_of fetch) (views_of new) all.0, all_viewed sites fetches asked of.1 all.1)
 
-abbrev AskedOf : {K D : Type 0} → Members K D → (D → ℕ) → (D → Option DeskSchedule) → PeerFetch K D → PeerFetch K D → Type 0
-AskedOf k desk_faults plan = AskedViews k.quiet k.quiet_desk desk_faults plan
+abbrev AskedOf : {K D : Type 0} → Members K D → (D → ℕ) → PeerFetch K D → PeerFetch K D → Type 0
+AskedOf k desk_faults = AskedViews k.quiet k.quiet_desk desk_faults k.desk_schedule
 
 -- ---- what becomes of the desks
 
-module _ {K D : Type 0} (k : Members K D) (desk_faults : D → ℕ) (plan : D → Option DeskSchedule) where
+same_plan : (plan : Option DeskSchedule) → SamePlan plan plan
+same_plan None = tt
+same_plan (Some plan) = refl
+
+module _ {K D : Type 0} (k : Members K D) (desk_faults : D → ℕ) where
   abbrev Goes : PeerView K D → PeerView K D → Type 0
-  Goes = ViewGoes k.quiet k.quiet_desk desk_faults plan
+  Goes = ViewGoes k.quiet k.quiet_desk desk_faults k.desk_schedule
 
   abbrev ListGoes : Bool → List D → List D → Type 0
   ListGoes = DeskListGoes k desk_faults
 
-  same_list : (quiet : Bool) (list : List D) → ListGoes quiet list list
-  same_list quiet list = record { many = refl; later = omega arith; calm = λ q c. c }
+  same_desk : (quiet : Bool) (desk : D) → DeskGoes k desk_faults quiet desk desk
+  same_desk quiet desk = record { grows = omega arith; plan = same_plan (k.desk_schedule desk); still = λ q s. (s, refl) }
+
+  same_desks : (quiet : Bool) (list : List D) → AllZip (DeskGoes k desk_faults quiet) list list
+  same_desks quiet [] = tt
+  same_desks quiet (desk ∷ list) = (same_desk quiet desk, same_desks quiet list)
+
+  pub same_list : (quiet : Bool) (list : List D) → ListGoes quiet list list
+  same_list quiet list = record { each = same_desks quiet list; many = refl; later = omega arith; calm = λ q c. c }
 
   pub same_lists : (quiet : Bool) (lists : List (List D)) → AllZip (ListGoes quiet) lists lists
   same_lists quiet [] = tt
@@ -117,6 +128,7 @@ module _ {K D : Type 0} (k : Members K D) (desk_faults : D → ℕ) (plan : D �
 
   first_goes : (quiet : Bool) (site : Site K) (old new : PeerView K D) (row now : List D) → (quiet ≡ true → k.quiet site.keeper.now ≡ true) → IsViewOf site old → Goes old new → ListGoes quiet row now → ListGoes quiet (old.desk ∷ row) (new.desk ∷ now)
   first_goes quiet site old new row now of_quiet of goes rest = record {
+    each = (record { grows = goes.later; plan = goes.plan; still = λ q s. goes.still_quiet (ap k.quiet of.keeper ∙ of_quiet q) s }, rest.each);
     many = ap suc rest.many;
     later = let a = sum_by-cons desk_faults old.desk row in let b = sum_by-cons desk_faults new.desk now in let later = goes.later in omega (arith, a, b, later, rest.later);
     calm = λ q c. and_from (is_calm k desk_faults new.desk) (list_all (is_calm k desk_faults) now)
@@ -145,7 +157,7 @@ module _ {K D : Type 0} (k : Members K D) (desk_faults : D → ℕ) (plan : D �
       (lists_go quiet sites rows nows (λ q. (and_parts (k.quiet site.keeper.now) (are_quiet k desk_faults sites) (of_quiet q)).1) all.1) views news of goes
 
   -- the desks of all fetches, once they were asked
-  pub all_go : (quiet : Bool) (sites : List (Site K)) (fetches asked : List (PeerFetch K D)) (rows : List (List D)) → (quiet ≡ true → are_quiet k desk_faults sites ≡ true) → AreFetches sites fetches → AllZip (AskedOf k desk_faults plan) fetches asked
+  pub all_go : (quiet : Bool) (sites : List (Site K)) (fetches asked : List (PeerFetch K D)) (rows : List (List D)) → (quiet ≡ true → are_quiet k desk_faults sites ≡ true) → AreFetches sites fetches → AllZip (AskedOf k desk_faults) fetches asked
       → AllZip (ListGoes quiet) (with_all (marks_of sites) (desks_lent fetches) rows) (with_all (marks_of sites) (desks_lent asked) rows)
   all_go quiet sites [] [] rows of_quiet of all = same_lists quiet rows
   all_go quiet sites [] (new ∷ asked) rows of_quiet of all = absurd all
@@ -155,7 +167,7 @@ module _ {K D : Type 0} (k : Members K D) (desk_faults : D → ℕ) (plan : D �
       (all_go quiet sites fetches asked rows of_quiet of.1 all.1) (views_of fetch) (views_of new) of.0 all.0
 
   -- and they came back
-  pub desks_go : {Z : Type 0} (sites : List (Site K)) (olds news : List (List D)) (rows : List (Vec D Z)) (fetches asked : List (PeerFetch K D)) → AreFetches sites fetches → AllZip (AskedOf k desk_faults plan) fetches asked
+  pub desks_go : {Z : Type 0} (sites : List (Site K)) (olds news : List (List D)) (rows : List (Vec D Z)) (fetches asked : List (PeerFetch K D)) → AreFetches sites fetches → AllZip (AskedOf k desk_faults) fetches asked
       → olds ≡ with_all (marks_of sites) (desks_lent fetches) (lists_of rows) → news ≡ with_all (marks_of sites) (desks_lent asked) (lists_of rows) → DesksGo k desk_faults sites olds news
   desks_go sites olds news rows fetches asked of goes was is =
       subst (λ (lists : List (List D)). DesksGo k desk_faults sites lists news) (sym was)

@@ -99,9 +99,16 @@ module _ {F : Type 0} (f : Members F) where
   pub left_at : ((fetch : F) → f.follows fetch fetch) → (failed : Bool) (x y : F) (fs all : List F) → all ≡ x ∷ fs → Asks f failed x y → AllZip (FetchLeft f) all (y ∷ fs)
   left_at same failed x y fs all is asked = subst (λ l. AllZip (FetchLeft f) l (y ∷ fs)) (sym is) (left_first same failed x y fs asked)
 
+  -- and did not fail
+  pub calm_at : ((fetch : F) → f.follows fetch fetch) → (failed : Bool) (x y : F) (fs all : List F) → all ≡ x ∷ fs → Asks f failed x y → failed ≡ false → AllZip (Asks f false) all (y ∷ fs)
+  calm_at same failed x y fs all is asked well = subst (λ l. AllZip (Asks f false) l (y ∷ fs)) (sym is) (subst (λ (b : Bool). Asks f b x y) well asked, calm_itself same fs)
+
   -- calls after calls of which none failed
   pub left_more : ((first second third : F) → f.follows first second → f.follows second third → f.follows first third) → (xs ys zs : List F) → AllZip (Asks f false) xs ys → AllZip (FetchLeft f) ys zs → AllZip (FetchLeft f) xs zs
   left_more on xs ys zs a b = zip_then (Asks f false) (FetchLeft f) (FetchLeft f) (λ x y z p q. record { failed = q.failed; asked = asks_more on p q.asked }) xs ys zs a b
+
+  pub calm_more : ((first second third : F) → f.follows first second → f.follows second third → f.follows first third) → (xs ys zs : List F) → AllZip (Asks f false) xs ys → AllZip (Asks f false) ys zs → AllZip (Asks f false) xs zs
+  calm_more on xs ys zs a b = zip_then (Asks f false) (Asks f false) (Asks f false) (λ x y z p q. asks_more on p q) xs ys zs a b
 
   pub rose_more : (xs ys zs : List F) → AllZip (Asks f false) xs ys → SomeRose f.faults ys zs → SomeRose f.faults xs zs
   rose_more [] [] zs a rose = absurd rose

@@ -1,4 +1,5 @@
 pub mod AnswerFacts
+pub mod CalmFacts
 pub mod DeskFacts
 pub mod Hiring
 pub mod Left

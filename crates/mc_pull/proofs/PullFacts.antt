@@ -55,8 +55,8 @@ module _ {K D Z : Type 0} (told : K → Option Kept) (count : ℕ) (sites : List
     one_rose back e shows rose = desk_rose quiet quiet_desk desk_faults plan count sites desks back rows fetches asked are_lent.of viewed are_lent.holds are_lent.lent
         (e ∙ ap (λ (l : List (PeerFetch K D)). with_all (marks_of sites) (desks_lent l) (lists_of rows)) same) shows rose
 
-  pub all_desks_go : (k : Members K D) (desk_faults : D → ℕ) (plan : D → Option DeskSchedule) (f : Asked (PeerFetch K D)) → ((old new : PeerFetch K D) → f.follows old new → AskedViews k.quiet k.quiet_desk desk_faults plan old new)
+  pub all_desks_go : (k : Members K D) (desk_faults : D → ℕ) (f : Asked (PeerFetch K D)) → ((old new : PeerFetch K D) → f.follows old new → AskedViews k.quiet k.quiet_desk desk_faults k.desk_schedule old new)
       → (asked now : List (PeerFetch K D)) → AllZip (FetchLeft f) fetches asked → now ≡ asked → (back : List (List D)) → back ≡ with_all (marks_of sites) (desks_lent now) (lists_of rows) → DesksGo k desk_faults sites desks back
-  all_desks_go k desk_faults plan f each asked now left same back e =
-      desks_go k desk_faults plan sites desks back rows fetches asked are_lent.of (views_asked k.quiet k.quiet_desk desk_faults plan f each fetches asked left) are_lent.lent
+  all_desks_go k desk_faults f each asked now left same back e =
+      desks_go k desk_faults sites desks back rows fetches asked are_lent.of (views_asked k.quiet k.quiet_desk desk_faults k.desk_schedule f each fetches asked left) are_lent.lent
       (e ∙ ap (λ (l : List (PeerFetch K D)). with_all (marks_of sites) (desks_lent l) (lists_of rows)) same)

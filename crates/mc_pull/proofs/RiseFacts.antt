@@ -134,7 +134,7 @@ module _ {K D : Type 0} (quiet : K → Bool) (quiet_desk : D → Bool) (desk_fau
   firsts_many (true ∷ marks) [] (list ∷ lists) many = ap suc (firsts_many marks [] lists (omega (arith, many)))
   firsts_many (true ∷ marks) (first ∷ firsts) (list ∷ lists) many = ap suc (firsts_many marks firsts lists (omega (arith, many)))
 
-  all_many : (marks : List Bool) (lent : List (List D)) (lists : List (List D)) → length lists ≡ length marks → length (with_all marks lent lists) ≡ length marks
+  pub all_many : (marks : List Bool) (lent : List (List D)) (lists : List (List D)) → length lists ≡ length marks → length (with_all marks lent lists) ≡ length marks
   all_many marks [] lists many = many
   all_many marks (firsts ∷ lent) lists many = firsts_many marks firsts (with_all marks lent lists) (all_many marks lent lists many)
 
@@ -156,7 +156,7 @@ module _ {K D : Type 0} (quiet : K → Bool) (quiet_desk : D → Bool) (desk_fau
   all_rise sites (fetch ∷ fetches) (new ∷ asked) rows many of all shows (inr rose) =
       firsts_rise (marks_of sites) (views_of fetch) (views_of new) (with_all (marks_of sites) (desks_lent fetches) rows) (with_all (marks_of sites) (desks_lent asked) rows) all.0 (all_rise sites fetches asked rows many of.1 all.1 shows.1 rose)
 
-  rows_many : {Z : Type 0} (there out : ℕ) (marks : List Bool) (rows : List (Vec D Z)) → Holds there out marks rows → length (lists_of rows) ≡ length marks
+  pub rows_many : {Z : Type 0} (there out : ℕ) (marks : List Bool) (rows : List (Vec D Z)) → Holds there out marks rows → length (lists_of rows) ≡ length marks
   rows_many there out [] [] holds = refl
   rows_many there out [] (row ∷ rows) holds = absurd holds
   rows_many there out (mark ∷ marks) [] holds = absurd holds

@@ -1,5 +1,5 @@
 -- A round, and what the caller did after it.
-use Rattle.std.proofs.Common.{◌≡◌, ◌+◌, ◌||◌, ℕ, Bool, true, false, cond, [], Option, Some, None, Result, Ok, Err, refl, sym, ap, ◌∙◌, subst}
+use Rattle.std.proofs.Common.{◌≡◌, ◌+◌, ◌||◌, ℕ, Bool, true, false, cond, [], Option, Some, None, Result, Ok, Err, refl, sym, ap, ◌∙◌, subst, length, arith}
 use Rattle.std.proofs.lemmas.Bool.{false≢true}
 use Rattle.std.specs.Prelude.{◌≢◌, IfSome}
 use Rattle.mc_base.specs.Told.{Told}
@@ -9,6 +9,7 @@ use Rattle.mc_keep.specs.Plan.{Schedule}
 use Rattle.mc_keep.specs.declared.fuse.Fuse.{Fuse}
 use Rattle.mc_keep.specs.declared.keeper.Keeper as keeper
 use Rattle.mc_model.specs.Kept.{Kept}
+use Rattle.mc_model.specs.State.{Durable}
 use Rattle.mc_model.specs.Wanted.{Queue}
 use Rattle.mc_core.specs.Counted.{capped}
 use Rattle.mc_core.specs.Events.{ReplicaState}
@@ -17,12 +18,13 @@ use Rattle.mc_core.specs.declared.replica.Replica.{Replica}
 use Rattle.mc_core.proofs.Keeps.{continues_more}
 use Rattle.mc_drain.specs.declared.repairing.Repaired.{Repaired}
 use Rattle.mc_drain.specs.declared.working.WorkError.{WorkError}
-use Rattle.mc_drain.specs.declared.working.WorkError.TheVariants.{KeeperFault, PeerFault, Stopped}
+use Rattle.mc_drain.specs.declared.working.WorkError.TheVariants.{KeeperFault, Memory, PeerFault, Stopped}
 use Rattle.mc_drain.specs.declared.working.Worked.{Worked}
-use Rattle.mc_drain.specs.Leads.{LeadsBy, Never, count, up_to}
+use Rattle.mc_drain.specs.Leads.{Always, Leads, LeadsBy, Never, count, up_to}
 use Rattle.mc_drain.specs.Repairs.{RepairLeads, RepairWants}
 use Rattle.mc_drain.specs.Rounds.{FindsFrom, HasWalkedFrom, HasWorkedFrom}
-use Rattle.mc_drain.specs.Works.{WorkLeads, WorkWants, keeper_broke, peer_broke}
+use Rattle.mc_drain.specs.Works.{WorkLeads, WorkWants, keeper_broke, none_broke, peer_broke}
+use Rattle.mc_drain.proofs.GoOnFacts.{leads_go_on}
 
 -- what the calls of a round lead to
 abbrev pub Led : Bool → ℕ → Option Map → ReplicaState → ReplicaState → Type 0
@@ -30,6 +32,26 @@ Led failed limit offers s new = LeadsBy failed (up_to limit s) (FindsFrom offers
 
 worked_from : (failed : Bool) (before budget limit : ℕ) (offers : Option Map) (s mid : ReplicaState) → limit ≡ capped (before + budget) → before ≡ capped (count s) → Led failed limit offers s mid → HasWorkedFrom failed before budget offers s mid
 worked_from failed before budget limit offers s mid is at led = record { counted = at; leads = subst (λ (n : ℕ). Led failed n offers s mid) is led }
+
+-- what was missing and bad was requeued before the round
+pub requeued_led : (failed : Bool) (limit : ℕ) (offers : Option Map) (a r m : Option ReplicaState) → Told a r (λ s new. Leads false (count s) Always s new) → Told a r (λ s new. new.state.durable ≡ s.state.durable) → Told r m (λ s new. Led failed limit offers s new)
+    → Told a m (λ s new. Led failed limit offers s new)
+requeued_led failed limit offers None r m first same led = tt
+requeued_led failed limit offers (Some s) None m first same led = absurd first
+requeued_led failed limit offers (Some s) (Some mid) None first same led = absurd led
+requeued_led failed limit offers (Some s) (Some mid) (Some new) first same led =
+    leads_go_on failed (count s) (up_to limit mid) (up_to limit s) (FindsFrom offers s.state.durable.graph) (FindsFrom offers mid.state.durable.graph) Never s mid new begun led (let e = ap (λ (d : Durable). length d.order) same in omega (arith, e))
+    (λ map kept old start p h. subst (λ (d : Durable). FindsFrom offers d.graph map kept) (sym same) p)
+  where
+    begun : LeadsBy false (count s) (FindsFrom offers s.state.durable.graph) Never s mid
+    begun = record {
+      grows = first.grows;
+      few = first.few;
+      fuse = first.fuse;
+      goes = λ e map kept p. first.goes e map kept tt;
+      parts = λ e map kept never. absurd never;
+      breaks = λ e map kept p. first.breaks e map kept tt;
+    }
 
 -- the work was left after the round
 pub work_left : (failed : Bool) (before budget limit : ℕ) (offers : Option Map) (why : WorkError) (a m b : Option ReplicaState) → limit ≡ capped (before + budget) → IfSome a (λ s. before ≡ capped (count s)) → Told a m (λ s new. Led failed limit offers s new)
@@ -80,6 +102,19 @@ pub left_peer : (T : Type 0) (failed stopped : Bool) (why : WorkError) → why �
 left_peer T true stopped why is over broke = refl
 left_peer T false true why is over broke = absurd (false≢true (ap (λ (e : WorkError). peer_broke {T = T} (Err e)) (sym is) ∙ broke))
 left_peer T false false why is over broke = over
+
+-- one of the two failed
+pub left_broke : (T : Type 0) (stopped : Bool) (why : WorkError) → why ≡ cond stopped KeeperFault PeerFault → none_broke {T = T} (Err why) ≡ true → ⊥
+left_broke T true why is e = false≢true (ap (λ (x : WorkError). none_broke {T = T} (Err x)) (sym is) ∙ e)
+left_broke T false why is e = false≢true (ap (λ (x : WorkError). none_broke {T = T} (Err x)) (sym is) ∙ e)
+
+-- or neither
+pub none_peer : {T : Type 0} (result : Result T WorkError) → none_broke result ≡ true → peer_broke result ≡ false
+none_peer (Ok value) e = refl
+none_peer (Err KeeperFault) e = refl
+none_peer (Err PeerFault) e = absurd (false≢true e)
+none_peer (Err Stopped) e = refl
+none_peer (Err Memory) e = refl
 
 abbrev is_stop : WorkError → Bool
 is_stop Stopped = true

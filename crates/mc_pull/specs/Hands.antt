@@ -15,9 +15,10 @@ pub record IsHired (Owned Under Sealed : Type 0) (out : Option Cid) (Fits : Type
   pub idle : out ≡ None
   pub fits : Fits
 
--- a hand that has worked: its seat is one of the node's, and its fetch was asked
-pub record HasRun (Owned Asked : Type 0) : Type 0 where
+-- a hand that has worked: its seat is one of the node's and has no job out, and its fetch was asked
+pub record HasRun (Owned : Type 0) (out : Option Cid) (Asked : Type 0) : Type 0 where
   pub own : Owned
+  pub idle : out ≡ None
   pub asked : Asked
 
 -- a fetch that was asked, and may have failed at last

@@ -3,9 +3,9 @@ ghost use Rattle.std.specs.Prelude.{◌≡◌, ◌≤◌, ◌↔◌, true, Err};
 ghost use Rattle.mc_queue.specs.Views.{shown};
 ghost use Rattle.mc_core.specs.Words.{Becomes, Continues};
 ghost use Rattle.mc_drain.specs.Repairs.{RepairLeads, RepairWants, has_walked};
-ghost use Rattle.mc_drain.specs.Works.{keeper_broke, peer_broke};
+ghost use Rattle.mc_drain.specs.Works.{keeper_broke, none_broke, peer_broke};
 ghost use Rattle.mc_lend.specs.Lending.{HaveDesks, marks_of};
-ghost use Rattle.mc_pull.specs.Pulls.{DeskRose, DesksGo, found_at};
+ghost use Rattle.mc_pull.specs.Pulls.{DeskRose, DesksGo, NoneFailed, found_at};
 
 use crate::answers::answer;
 use crate::shows::all_show;
@@ -47,6 +47,7 @@ where
     ensures still { replica.stopped ≡ true → result.0 ≡ replica }
     ensures wants { RepairWants result.1 (shown result.0.queue) }
     ensures desks { DesksGo K.Keeper K.Desk.faults sites.now desks.old desks.new }
+    ensures calm { none_broke result.1 ≡ true → NoneFailed K.Desk.faults desks.old desks.new }
     ensures peers { peer_broke result.1 ≡ true → DeskRose K.Desk.faults (marks_of sites.now) desks.old desks.new }
 {
     let Lent { fetches, rows } = match lend(alloc, sites, desks, workers as usize) {

@@ -3,9 +3,9 @@ ghost use Rattle.std.specs.Prelude.{◌≡◌, ◌≤◌, ◌↔◌, true, Err};
 ghost use Rattle.mc_queue.specs.Views.{shown};
 ghost use Rattle.mc_core.specs.Exact.{RestSame};
 ghost use Rattle.mc_core.specs.Words.{Becomes, Continues};
-ghost use Rattle.mc_drain.specs.Works.{WorkLeads, WorkWants, keeper_broke, peer_broke};
+ghost use Rattle.mc_drain.specs.Works.{WorkLeads, WorkWants, keeper_broke, none_broke, peer_broke};
 ghost use Rattle.mc_lend.specs.Lending.{HaveDesks, marks_of};
-ghost use Rattle.mc_pull.specs.Pulls.{DeskRose, DesksGo, found_at};
+ghost use Rattle.mc_pull.specs.Pulls.{DeskRose, DesksGo, NoneFailed, found_at};
 
 use crate::answers::answer;
 use crate::shows::all_show;
@@ -20,10 +20,10 @@ use std::sync::Wait;
 use std::thread::Threads;
 
 /// Works through the wanted blocks of a replica with so many workers beside one another, each in a thread of its own,
-/// as
-/// `crew::work` does, and gives the replica back. The workers fetch from the sites that are peers, in order: of each
-/// its planted offer, and then its stored block, which each worker reads through a desk of its own, the first worker
-/// through the first one. The sites and the lists of their desks are in one order. Each desk comes back to its place.
+/// as `crew::work` does, and gives the replica back. The workers fetch from the sites that are peers, in order: of each
+/// its planted offer, and then its stored block, which each worker reads through a desk of its own. The sites and the
+/// lists of their desks are in one order, and the desk at each place afterwards is what calls leave of the one that
+/// stood there: by its count, its plan, and whether it is quiet.
 /// `PeerFault` comes only where a desk of a peer has failed in this call, and after `Memory`, which may be that of the
 /// desks too, nothing is in flight.
 ///
@@ -52,6 +52,7 @@ where
     ensures still { replica.stopped ≡ true → result.0 ≡ replica }
     ensures wants { WorkWants result.1 (shown result.0.queue) }
     ensures desks { DesksGo K.Keeper K.Desk.faults sites.now desks.old desks.new }
+    ensures calm { none_broke result.1 ≡ true → NoneFailed K.Desk.faults desks.old desks.new }
     ensures peers { peer_broke result.1 ≡ true → DeskRose K.Desk.faults (marks_of sites.now) desks.old desks.new }
 {
     let Lent { fetches, rows } = match lend(alloc, sites, desks, workers as usize) {

@@ -2,10 +2,10 @@
 use Rattle.std.proofs.Common.{◌≡◌, ◌<◌, ℕ, suc, List, [], ◌∷◌, Option, Some, None, length, slice_index_or, arith}
 use Rattle.std.specs.List.{AllZip}
 use Rattle.mc_base.specs.declared.cid.Cid.{Cid}
-use Rattle.mc_fetch.specs.Fits.{FetchFits, FoundFits, FoundHas, Map, OwnFits}
+use Rattle.mc_fetch.specs.Fits.{FetchFits, FoundHas, Map, OwnFits}
 use Rattle.mc_fetch.specs.declared.job.Found.{Found}
 use Rattle.mc_fetch.specs.declared.job.Found.TheVariants.{Bytes, Missing}
-use Rattle.mc_worker.specs.Lookups.{LooksUp, bytes_of}
+use Rattle.mc_worker.specs.Lookups.{FoundFits, LooksUp, bytes_of}
 
 pub record IsWorking (Owned : Type 0) (taken : Option Cid) (Asked : Type 0) : Type 0 where
   pub own : Owned
@@ -14,7 +14,7 @@ pub record IsWorking (Owned : Type 0) (taken : Option Cid) (Asked : Type 0) : Ty
 
 fits_map : (map : Map) (cid : Cid) (found : Found) → FoundHas cid found → map cid ≡ bytes_of found → FoundFits (Some map) cid found
 fits_map map cid (Bytes bytes) digest is = (digest, is)
-fits_map map cid Missing digest is = tt
+fits_map map cid Missing digest is = is
 
 fits_none : (cid : Cid) (found : Found) → FoundHas cid found → FoundFits None cid found
 fits_none cid (Bytes bytes) digest = (digest, tt)

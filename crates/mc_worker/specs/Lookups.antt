@@ -1,9 +1,20 @@
 -- What is found for a job.
-use Rattle.std.specs.Prelude.{◌≡◌, ℕ, List, Option, Some, None}
+use Rattle.std.specs.Prelude.{◌≡◌, ⊤, ℕ, List, Option, Some, None}
 use Rattle.mc_base.specs.declared.cid.Cid.{Cid}
-use Rattle.mc_fetch.specs.Fits.{FetchFits, FoundHas, Map, OwnFits}
+use Rattle.mc_fetch.specs.Fits.{FetchFits, FoundHas, IsOffered, Map, OwnFits}
+use Rattle.mc_fetch.specs.Offers.{HasDigest}
 use Rattle.mc_fetch.specs.declared.job.Found.{Found}
 use Rattle.mc_fetch.specs.declared.job.Found.TheVariants.{Bytes, Missing}
+
+-- where the map is known, it has nothing for the block
+abbrev pub IsNowhere : Option Map → Cid → Type 0
+IsNowhere None cid = ⊤
+IsNowhere (Some map) cid = map cid ≡ None
+
+-- bytes that were found have the digest, and are the map's; and what is missing is what the map has nothing for
+abbrev pub FoundFits : Option Map → Cid → Found → Type 0
+FoundFits map cid (Bytes bytes) = HasDigest cid bytes × IsOffered map cid bytes
+FoundFits map cid Missing = IsNowhere map cid
 
 -- the bytes that were found, or none
 abbrev pub bytes_of : Found → Option (List ℕ)

@@ -7,7 +7,7 @@ use thiserror::Error;
 /// Why a call of a shop gives no answer.
 #[derive(Clone, Copy, Debug, PartialEq, Eq, Error)]
 pub enum ShopError {
-    /// The keeper behind the shop failed in this call.
+    /// The keeper behind the shop failed. Each shop says when: `Shop::nexts`, `Shop::delivers`.
     #[error("a keeper failed")]
     KeeperFault,
     /// The keeper had failed in an earlier call.

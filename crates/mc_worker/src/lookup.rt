@@ -1,8 +1,9 @@
 // What is found for a job.
-ghost use Rattle.std.specs.Prelude.{◌≡◌, None, IfOk, IfSome};
+ghost use Rattle.std.specs.Prelude.{◌≡◌, None, Ok, IfOk, IfSome};
 ghost use Rattle.mc_fetch.specs.Calls.{Asks};
 ghost use Rattle.mc_fetch.specs.Causes.{is_peer_fault};
 ghost use Rattle.mc_fetch.specs.Offers.{HasDigest, found_by};
+ghost use Rattle.mc_fetch.specs.declared.job.Found.TheVariants.{Bytes as FoundBytes};
 ghost use Rattle.mc_worker.specs.Lookups.{LooksUp};
 
 use mc_base::Cid;
@@ -11,7 +12,7 @@ use std::alloc::Global;
 use std::sync::Wait;
 
 /// What is found for a job: its own bytes, which are taken out of it, and without any the first offer of the fetch that
-/// has the digest. The bytes are moved, and own bytes are not digested again.
+/// has the digest. Where the job has own bytes the fetch is not asked, and there is no fault.
 pub fn look_up<F: Fetch, W: Wait>(
     alloc: Global,
     fetch: &mut F,
@@ -21,6 +22,7 @@ pub fn look_up<F: Fetch, W: Wait>(
     requires own { IfSome job.old.own (λ bytes. HasDigest job.old.cid bytes) }
     ensures cid { job.new.cid ≡ job.old.cid }
     ensures found { IfOk result (LooksUp (found_by (F.offers fetch.old)) job.old.cid job.old.own) }
+    ensures own { IfSome job.old.own (λ bytes. (result ≡ Ok (FoundBytes bytes)) × (fetch.new ≡ fetch.old)) }
     ensures asks { Asks F.Fetch (is_peer_fault result) fetch.old fetch.new }
 {
     match job.own.take() {

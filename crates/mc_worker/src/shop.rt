@@ -1,8 +1,9 @@
 // Where jobs come from.
-ghost use Rattle.std.specs.Prelude.{◌≡◌, List, Option, None, Some, IfOk};
+ghost use Rattle.std.specs.Prelude.{◌≡◌, List, Option, None, Some, Result, IfOk};
 ghost use Rattle.mc_base.specs.declared.cid.Cid.{Cid as CidOf};
-ghost use Rattle.mc_fetch.specs.Fits.{FoundFits, Map, NextFits};
+ghost use Rattle.mc_fetch.specs.Fits.{Map, NextFits};
 ghost use Rattle.mc_worker.specs.Ends.{deliver_ends, job_out, next_ends};
+ghost use Rattle.mc_worker.specs.Lookups.{FoundFits};
 
 use crate::{HandEnd, ShopError};
 use mc_fetch::{Delivered, Found, Job};
@@ -15,7 +16,11 @@ use std::sync::Wait;
 /// A seat has at most one job out: `next_job` is called where it has none, and what is delivered or given back is the
 /// one that it has. So a worker that keeps to these conditions loses no job.
 pub trait Shop {
+    ghost use Rattle.mc_fetch.specs.declared.job.Delivered.{Delivered as Answer};
+    ghost use Rattle.mc_fetch.specs.declared.job.Found.{Found as FoundOf};
+    ghost use Rattle.mc_fetch.specs.declared.job.Job.{Job as JobOf};
     ghost use Rattle.mc_worker.specs.declared.ends.HandEnd.{HandEnd as End};
+    ghost use Rattle.mc_worker.specs.declared.ends.ShopError.{ShopError as Error};
 
     /// What one worker calls the shop with.
     type Seat;
@@ -35,12 +40,21 @@ pub trait Shop {
     /// The blocks whose bytes the shop has itself.
     ghost kept: { List CidOf };
 
+    /// What a call that asks for a job does, by its answer: over the seat before and after it.
+    ghost nexts: { Result (Option JobOf) Error → Self.Seat → Self.Seat → Type 0 };
+
+    /// What a delivery of this for a block does, by its answer.
+    ghost delivers: { CidOf → FoundOf → Result Answer Error → Self.Seat → Self.Seat → Type 0 };
+
+    /// What a call does that gives the job of a block back.
+    ghost returns: { CidOf → Self.Seat → Self.Seat → Type 0 };
+
     /// How the latest `next_job` or `deliver` of the seat ended: `Idle` where there was no job, the end of the same
     /// name where it gave no answer, and none after every other answer and before the first call.
     fn last(seat: &Self::Seat) -> Option<HandEnd>
         ensures { result ≡ ended seat.now };
 
-    /// The next job, or none where nothing waits.
+    /// The next job, or none. What each answer says is `nexts`.
     fn next_job<W: Wait>(
         &self,
         alloc: Global,
@@ -52,9 +66,11 @@ pub trait Shop {
         ensures own { owns self.now seat.new }
         ensures ended { ended seat.new ≡ next_ends result }
         ensures out { out seat.new ≡ job_out result }
-        ensures job { IfOk result (NextFits found kept) };
+        ensures job { IfOk result (NextFits found kept) }
+        ensures does { nexts result seat.old seat.new };
 
-    /// Takes what was found for the seat's job. Found bytes have the digest that names the block.
+    /// Takes what was found for the seat's job: bytes that have the digest which names the block, and what is missing
+    /// only where nothing is found for the block. What each answer says is `delivers`.
     fn deliver<W: Wait>(
         &self,
         alloc: Global,
@@ -68,7 +84,8 @@ pub trait Shop {
         requires fits { FoundFits found job.cid bytes }
         ensures own { owns self.now seat.new }
         ensures ended { ended seat.new ≡ deliver_ends result }
-        ensures out { out seat.new ≡ None };
+        ensures out { out seat.new ≡ None }
+        ensures does { delivers job.cid bytes result seat.old seat.new };
 
     /// Takes the seat's job back, for whoever asks next. It takes no memory, and does not fail.
     fn give_back<W: Wait>(&self, seat: &mut Self::Seat, job: Job, wait: &W)
@@ -76,5 +93,6 @@ pub trait Shop {
         requires taken { out seat.old ≡ Some job.cid }
         ensures own { owns self.now seat.new }
         ensures ended { ended seat.new ≡ ended seat.old }
-        ensures out { out seat.new ≡ None };
+        ensures out { out seat.new ≡ None }
+        ensures does { returns job.cid seat.old seat.new };
 }

@@ -24,8 +24,8 @@ use std::alloc::Global;
 use std::sync::Wait;
 
 impl<K: Keeper, J: Naming> Node<Stored<K, J>> {
-    /// The value of a key over the blocks that are processed when the turn is got, or none where it has none. These
-    /// begin with all that the seat has seen. Refusals: `Stopped`, exactly where the log says that the keeper has
+    /// The value of a key over the blocks that are processed when the turn is got, or none where it has none. On a
+    /// node that isn't sealed these begin with all that the seat has seen. Refusals: `Stopped`, exactly where the log says that the keeper has
     /// failed.
     pub fn get<W: Wait>(
         &self,

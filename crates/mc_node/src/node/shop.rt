@@ -2,10 +2,13 @@
 ghost use Rattle.std.specs.Prelude.{◌≡◌, true, IfOk};
 ghost use Rattle.mc_turn.specs.Lists.{Begins};
 ghost use Rattle.mc_turn.specs.Seats.{IsSeatOf};
-ghost use Rattle.mc_fetch.specs.Fits.{FoundFits, NextFits};
+ghost use Rattle.mc_fetch.specs.Fits.{NextFits};
 ghost use Rattle.mc_worker.specs.Ends.{deliver_ends, job_out, next_ends};
-ghost use Rattle.mc_node.specs.Entries.{is_sealed_log};
+ghost use Rattle.mc_worker.specs.Lookups.{FoundFits};
+ghost use Rattle.mc_node.specs.Entries.{is_sealed_log, items};
 ghost use Rattle.mc_node.specs.Seats.{knows};
+ghost use Rattle.mc_node.specs.Serves.{BackDoes, DeliverDoes, NextDoes};
+ghost use Rattle.mc_node.specs.Views.{Turned};
 ghost use Rattle.mc_node.specs.Works.{IsUnder};
 
 use super::{Node, NodeSeat};
@@ -19,14 +22,18 @@ use std::alloc::Global;
 use std::sync::Wait;
 
 /// A sealed node is a shop: a worker's seat is one of the node's, with a limit of at most `J.most`. Each call takes the
-/// turn, makes one call of the replica, and gives the turn back. `Stopped` goes first, and then `Spent`, which comes
-/// exactly where the replica has at least as many processed blocks as the seat's limit; the job of a delivery that is
-/// spent waits again.
+/// turn, makes one call of the replica, and gives the turn back; what the seat has seen then begins with the log that it
+/// took. `Stopped` comes exactly where the log says that the keeper has failed, and `KeeperFault` where this call noted
+/// that. Then comes `Spent`, where the keeper tells exactly where the replica has at least as many processed blocks as
+/// the seat's limit. The job of a delivery that is `Spent`, or wants memory, waits again, behind all that wait, where it
+/// is in flight.
 impl<K: Keeper, J: Naming> Shop for Node<Stored<K, J>> {
     ghost use Rattle.std.specs.Prelude.{◌≡◌, true};
     ghost use Rattle.mc_turn.specs.Seats.{IsSeatOf};
-    ghost use Rattle.mc_node.specs.Entries.{is_sealed_log};
+    ghost use Rattle.mc_node.specs.Entries.{is_sealed_log, items};
     ghost use Rattle.mc_node.specs.Seats.{knows};
+    ghost use Rattle.mc_node.specs.Serves.{BackDoes, DeliverDoes, NextDoes};
+    ghost use Rattle.mc_node.specs.Views.{Turned};
     ghost use Rattle.mc_node.specs.Works.{IsUnder};
 
     type Seat = Hired<Stored<K, J>, K>;
@@ -41,6 +48,18 @@ impl<K: Keeper, J: Naming> Shop for Node<Stored<K, J>> {
     ghost found = { J.found };
 
     ghost kept = { J.kept };
+
+    ghost nexts = { λ result before after. (after.limit ≡ before.limit)
+        × Turned (knows before.seat) (knows after.seat) (λ old new.
+        NextDoes before.limit result (items K.Keeper old) (items K.Keeper new)) };
+
+    ghost delivers = { λ cid found result before after. (after.limit ≡ before.limit)
+        × Turned (knows before.seat) (knows after.seat) (λ old new.
+        DeliverDoes before.limit cid found result (items K.Keeper old) (items K.Keeper new)) };
+
+    ghost returns = { λ cid before after. (after.limit ≡ before.limit)
+        × Turned (knows before.seat) (knows after.seat) (λ old new.
+        BackDoes cid (items K.Keeper old) (items K.Keeper new)) };
 
     fn last(seat: &Hired<Stored<K, J>, K>) -> Option<HandEnd> {
         seat.last
@@ -93,6 +112,8 @@ impl<K: Keeper, J: Naming> Node<Stored<K, J>> {
         ensures seen { Begins (knows seat.old).seen (knows seat.new).seen }
         ensures sealed { is_sealed_log (knows seat.new).seen ≡ true }
         ensures job { IfOk result (NextFits J.found J.kept) }
+        ensures turned { Turned (knows seat.old) (knows seat.new) (λ old new.
+            NextDoes limit result (items K.Keeper old) (items K.Keeper new)) }
     {
         let mut held = self.turn.take(&mut seat.seat, wait);
         let result = held.value.next_job(alloc, limit);
@@ -117,6 +138,8 @@ impl<K: Keeper, J: Naming> Node<Stored<K, J>> {
         ensures own { IsSeatOf self.now.turn seat.new.seat }
         ensures seen { Begins (knows seat.old).seen (knows seat.new).seen }
         ensures sealed { is_sealed_log (knows seat.new).seen ≡ true }
+        ensures turned { Turned (knows seat.old) (knows seat.new) (λ old new.
+            DeliverDoes limit job.cid found result (items K.Keeper old) (items K.Keeper new)) }
     {
         let mut held = self.turn.take(&mut seat.seat, wait);
         let result = held.value.deliver(alloc, limit, job, found);
@@ -131,6 +154,8 @@ impl<K: Keeper, J: Naming> Node<Stored<K, J>> {
         ensures own { IsSeatOf self.now.turn seat.new.seat }
         ensures seen { Begins (knows seat.old).seen (knows seat.new).seen }
         ensures sealed { is_sealed_log (knows seat.new).seen ≡ true }
+        ensures turned { Turned (knows seat.old) (knows seat.new) (λ old new.
+            BackDoes job.cid (items K.Keeper old) (items K.Keeper new)) }
     {
         let mut held = self.turn.take(&mut seat.seat, wait);
         held.value.give_back(job);

@@ -1,14 +1,16 @@
 // The calls of workers on a sealed node. A fault of the keeper alone is noted.
-ghost use Rattle.std.specs.Prelude.{◌≡◌, [], cond, false, true, None, Ok, Err, IfOk, IfSome, length};
+ghost use Rattle.std.specs.Prelude.{◌≡◌, false, true, IfOk};
 ghost use Rattle.mc_turn.specs.Lists.{Begins};
-ghost use Rattle.mc_fetch.specs.Fits.{FoundFits, NextFits};
-ghost use Rattle.mc_model.specs.Graph.{has};
-ghost use Rattle.mc_model.specs.Wanted.{give_back};
+ghost use Rattle.mc_fetch.specs.Fits.{NextFits};
 ghost use Rattle.mc_queue.specs.Views.{shown};
-ghost use Rattle.mc_core.specs.Counted.{capped};
+ghost use Rattle.mc_core.specs.Exact.{RestSame};
+ghost use Rattle.mc_core.specs.Words.{Continues, HappensTo};
+ghost use Rattle.mc_drain.specs.JobCalls.{back_events};
 ghost use Rattle.mc_drain.specs.Words.{begin_failed};
-ghost use Rattle.mc_node.specs.Entries.{is_sealed_log};
-ghost use Rattle.mc_node.specs.Jobs.{KeepsLimit, StopsWhere, halt_if, shop_answer};
+ghost use Rattle.mc_worker.specs.Lookups.{FoundFits};
+ghost use Rattle.mc_node.specs.Entries.{is_sealed_log, items};
+ghost use Rattle.mc_node.specs.Jobs.{halt_if, shop_answer};
+ghost use Rattle.mc_node.specs.Serves.{BackDoes, BackWants, DeliverDoes, NextDoes};
 ghost use Rattle.mc_node.specs.Works.{IsUnder};
 
 use super::Stored;
@@ -27,10 +29,7 @@ impl<K: Keeper, J: Naming> Stored<K, J> {
         requires sealed { is_sealed_log self.old.log.items ≡ true }
         ensures extends { Begins self.old.log.items self.new.log.items }
         ensures job { IfOk result (NextFits J.found J.kept) }
-        ensures stopped { StopsWhere self.old.replica.stopped result }
-        ensures limit { IfSome (K.told self.old.replica.keeper) (λ kept.
-            KeepsLimit limit (capped (length kept.order)) result) }
-        ensures idle { result ≡ Ok None → (shown self.old.replica.queue).waiting ≡ [] }
+        ensures does { NextDoes limit result (items K.Keeper self.old.log.items) (items K.Keeper self.new.log.items) }
     {
         kept_is_durable();
         if self.is_stopped() {
@@ -62,13 +61,8 @@ impl<K: Keeper, J: Naming> Stored<K, J> {
         requires limit { IsUnder J.most limit }
         requires fits { FoundFits J.found job.cid found }
         ensures extends { Begins self.old.log.items self.new.log.items }
-        ensures stopped { StopsWhere self.old.replica.stopped result }
-        ensures limit { IfSome (K.told self.old.replica.keeper) (λ kept.
-            KeepsLimit limit (capped (length kept.order)) result) }
-        ensures back { result ≡ Err ShopError.Spent → shown self.new.replica.queue
-            ≡ cond (has job.cid (shown self.old.replica.queue).flight)
-            (give_back (shown self.old.replica.queue) job.cid)
-            (shown self.old.replica.queue) }
+        ensures does { DeliverDoes limit job.cid found result (items K.Keeper self.old.log.items)
+            (items K.Keeper self.new.log.items) }
     {
         kept_is_durable();
         if self.is_stopped() {
@@ -97,10 +91,12 @@ impl<K: Keeper, J: Naming> Stored<K, J> {
         requires sealed { is_sealed_log self.old.log.items ≡ true }
         ensures log { self.new.log.items ≡ self.old.log.items }
         ensures extends { Begins self.old.log.items self.new.log.items }
-        ensures back { self.old.replica.stopped ≡ false → shown self.new.replica.queue
-            ≡ cond (has job.cid (shown self.old.replica.queue).flight)
-            (give_back (shown self.old.replica.queue) job.cid)
-            (shown self.old.replica.queue) }
+        ensures goes { HappensTo K.Keeper (back_events job.cid) self.old.replica self.new.replica }
+        ensures keeps { Continues K.Keeper false self.old.replica self.new.replica }
+        ensures rest { RestSame self.old.replica self.new.replica }
+        ensures wants { BackWants job.cid self.old.replica.stopped (shown self.old.replica.queue)
+            (shown self.new.replica.queue) }
+        ensures does { BackDoes job.cid (items K.Keeper self.old.log.items) (items K.Keeper self.new.log.items) }
     {
         kept_is_durable();
         if self.is_stopped() {

@@ -1,6 +1,7 @@
 // What the caller does after a round: it goes on alone, over the first fetch, or leaves off.
 ghost use Rattle.std.specs.Prelude.{◌≡◌, ◌≢◌, ◌≤◌, ◌||◌, length, true, false, Err};
 ghost use Rattle.std.specs.List.{AllZip};
+ghost use Rattle.mc_fetch.specs.Calls.{Asks};
 ghost use Rattle.mc_queue.specs.Views.{shown};
 ghost use Rattle.mc_core.specs.Events.{ReplicaState};
 ghost use Rattle.mc_core.specs.Exact.{RestSame};
@@ -51,6 +52,7 @@ pub(crate) fn go_on<K: Keeper, F: Fetch, W: Wait>(
     ensures keeps { Continues K.Keeper (keeper_broke result) replica.old replica.new }
     ensures rest { RestSame replica.old replica.new }
     ensures left { AllZip (FetchLeft F.Fetch) fetches.old.items fetches.new.items }
+    ensures calm { peer_broke result ≡ false → AllZip (Asks F.Fetch false) fetches.old.items fetches.new.items }
     ensures peer { peer_broke result ≡ true → SomeRose F.faults fetches.old.items fetches.new.items }
     ensures runs { result ≢ Err WorkError.Stopped }
     ensures wants { WorkWants result (shown replica.new.queue) }
@@ -75,6 +77,7 @@ fn go_on_first<K: Keeper, F: Fetch, W: Wait>(
     ensures keeps { Continues K.Keeper (keeper_broke result) replica.old replica.new }
     ensures rest { RestSame replica.old replica.new }
     ensures left { AllZip (FetchLeft F.Fetch) fetches.old fetches.new }
+    ensures calm { peer_broke result ≡ false → AllZip (Asks F.Fetch false) fetches.old fetches.new }
     ensures peer { peer_broke result ≡ true → SomeRose F.faults fetches.old fetches.new }
     ensures runs { result ≢ Err WorkError.Stopped }
     ensures wants { WorkWants result (shown replica.new.queue) }
@@ -103,6 +106,7 @@ pub(crate) fn go_on_repairing<K: Keeper, F: Fetch, W: Wait>(
     ensures keeps { Continues K.Keeper (keeper_broke result) replica.old replica.new }
     ensures rest { RestSame replica.old replica.new }
     ensures left { AllZip (FetchLeft F.Fetch) fetches.old.items fetches.new.items }
+    ensures calm { peer_broke result ≡ false → AllZip (Asks F.Fetch false) fetches.old.items fetches.new.items }
     ensures peer { peer_broke result ≡ true → SomeRose F.faults fetches.old.items fetches.new.items }
     ensures runs { result ≢ Err WorkError.Stopped }
     ensures wants { RepairWants result (shown replica.new.queue) }
@@ -128,6 +132,7 @@ fn repair_over_first<K: Keeper, F: Fetch, W: Wait>(
     ensures keeps { Continues K.Keeper (keeper_broke result) replica.old replica.new }
     ensures rest { RestSame replica.old replica.new }
     ensures left { AllZip (FetchLeft F.Fetch) fetches.old fetches.new }
+    ensures calm { peer_broke result ≡ false → AllZip (Asks F.Fetch false) fetches.old fetches.new }
     ensures peer { peer_broke result ≡ true → SomeRose F.faults fetches.old fetches.new }
     ensures runs { result ≢ Err WorkError.Stopped }
     ensures wants { RepairWants result (shown replica.new.queue) }

@@ -97,7 +97,7 @@ where
         (is_sealed_log (knows hand.seat.seat).seen ≡ true) hand.seat.out
         (FetchFits J.found J.kept (found_by (F.offers hand.fetch)))) hands.old.items }
     ensures length { length hands.new.items ≡ length hands.old.items }
-    ensures ran { AllZip (λ old new. HasRun (IsSeatOf node.now.turn new.seat.seat.seat)
+    ensures ran { AllZip (λ old new. HasRun (IsSeatOf node.now.turn new.seat.seat.seat) new.seat.out
         (Asks F.Fetch (is_peer new.end) old.fetch new.fetch)) hands.old.items hands.new.items }
 {
     run_slice(alloc, node, hands.as_mut_slice(), gate, threads, wait);
@@ -125,7 +125,7 @@ where
         (is_sealed_log (knows hand.seat.seat).seen ≡ true) hand.seat.out
         (FetchFits J.found J.kept (found_by (F.offers hand.fetch)))) hands.old }
     ensures length { length hands.new ≡ length hands.old }
-    ensures ran { AllZip (λ old new. HasRun (IsSeatOf node.now.turn new.seat.seat.seat)
+    ensures ran { AllZip (λ old new. HasRun (IsSeatOf node.now.turn new.seat.seat.seat) new.seat.out
         (Asks F.Fetch (is_peer new.end) old.fetch new.fetch)) hands.old hands.new }
 {
     run_workers(alloc, node, hands, gate, threads, wait);
@@ -152,10 +152,11 @@ fn noted(failed: bool, end: HandEnd) -> bool
     failed || is_peer(end)
 }
 
-// What comes back of a hand.
+// What comes back of a hand that has no job out.
 fn freed<K: Keeper, J: Naming, F: Fetch>(
     hand: Hand<Node<Stored<K, J>>, F>,
 ) -> (NodeSeat<Stored<K, J>, K>, F, HandEnd)
+    requires idle { hand.seat.out ≡ None }
     ensures seat { result.0 ≡ hand.seat.seat }
     ensures fetch { result.1 ≡ hand.fetch }
     ensures end { result.2 ≡ hand.end }
@@ -172,7 +173,7 @@ fn release<K: Keeper, J: Naming, F: Fetch>(
     fetches: &mut Vec<F>,
 ) -> bool
     requires own { IsSeatOf node.now.turn seat.old.seat }
-    requires owned { All (λ hand. IsSeatOf node.now.turn hand.seat.seat.seat) hands.items }
+    requires owned { All (λ hand. IsSeatOf node.now.turn hand.seat.seat.seat × (hand.seat.out ≡ None)) hands.items }
     requires empty { fetches.old.items ≡ [] }
     requires room { length hands.items ≤ vec_capacity fetches.old }
     ensures own { IsSeatOf node.now.turn seat.new.seat }

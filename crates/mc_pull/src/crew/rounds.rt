@@ -4,11 +4,13 @@ ghost use Rattle.std.specs.List.{AllZip};
 ghost use Rattle.mc_fetch.specs.Calls.{Asks};
 ghost use Rattle.mc_fetch.specs.Fits.{FetchFits};
 ghost use Rattle.mc_fetch.specs.Offers.{found_by};
+ghost use Rattle.mc_queue.specs.Views.{shown};
 ghost use Rattle.mc_core.specs.Exact.{RestSame};
 ghost use Rattle.mc_core.specs.Replica.{replica_state};
 ghost use Rattle.mc_core.specs.Words.{Becomes, Continues};
 ghost use Rattle.mc_drain.specs.Leads.{LeadsBy, Never, up_to};
 ghost use Rattle.mc_drain.specs.Rounds.{FindsFrom};
+ghost use Rattle.mc_drain.specs.Words.{NoneStuck};
 ghost use Rattle.mc_node.specs.Ties.{IsWithin, StoresFound};
 ghost use Rattle.mc_node.specs.Works.{IsUnder, WorkersLead};
 ghost use Rattle.mc_pull.specs.Hands.{FetchLeft, SomeRose, found_first};
@@ -82,7 +84,8 @@ where
 /// and has stopped where its keeper failed, and so do the fetches, and whether one of them failed. Where there is no
 /// memory for it nobody works.
 ///
-/// Conditions: at most 16 fetches, which all find the same for each block.
+/// Conditions: at most 16 fetches, which all find the same for each block; and nothing is missing or bad, so the
+/// workers try all that is wanted.
 pub(crate) fn round<
     K: Keeper + Send + Sync,
     F: Fetch + Send,
@@ -101,6 +104,7 @@ pub(crate) fn round<
 where
     K::Desk: Send,
     requires runs { replica.stopped ≡ false }
+    requires fresh { NoneStuck (shown replica.queue) }
     requires few { length fetches.items ≤ 16 }
     requires same { All (λ f. found_by (F.offers f) ≡ found_first F.offers fetches.items) fetches.items }
     ensures leads { Becomes K.Keeper (λ rose s new. LeadsBy result.0.stopped (up_to limit s)

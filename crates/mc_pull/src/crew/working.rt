@@ -1,18 +1,19 @@
 // A work of the wanted blocks with workers beside one another.
-ghost use Rattle.std.specs.Prelude.{◌≡◌, ◌≤◌, ◌↔◌, All, length, true, Err};
+ghost use Rattle.std.specs.Prelude.{◌≡◌, ◌≤◌, ◌↔◌, All, length, false, true, Err};
 ghost use Rattle.std.specs.List.{AllZip};
+ghost use Rattle.mc_fetch.specs.Calls.{Asks};
 ghost use Rattle.mc_fetch.specs.Offers.{found_by};
 ghost use Rattle.mc_queue.specs.Views.{shown};
 ghost use Rattle.mc_core.specs.Exact.{RestSame};
 ghost use Rattle.mc_core.specs.Words.{Becomes, Continues};
-ghost use Rattle.mc_drain.specs.Works.{WorkLeads, WorkWants, keeper_broke, peer_broke};
+ghost use Rattle.mc_drain.specs.Works.{WorkLeads, WorkWants, keeper_broke, none_broke, peer_broke};
 ghost use Rattle.mc_pull.specs.Hands.{FetchLeft, SomeRose, found_first};
 
 use crate::crew::finishing::{go_on, is_over};
 use crate::crew::laws::fetches_follow;
 use crate::crew::rounds::round;
 use mc_core::Replica;
-use mc_drain::{WorkError, Worked, leave_off};
+use mc_drain::{WorkError, Worked, leave_off, requeue};
 use mc_fetch::Fetch;
 use mc_keep::Keeper;
 use mc_worker::Gate;
@@ -20,12 +21,14 @@ use std::alloc::Global;
 use std::sync::Wait;
 use std::thread::Threads;
 
-/// Works through the wanted blocks of a replica, and gives it back: one worker for each fetch, each in a thread of its
-/// own where one can be made, and then the caller alone, over the first fetch, as `mc_drain::work` does. Workers and
-/// caller together process no more blocks than the budget says. The answer is that of the whole work: `Done` comes
-/// exactly where no wanted block has a good offer any more, and the processed blocks are then the closure of what was
-/// wanted; else it is `Again`. `PeerFault` comes only where the count of a fetch has risen, and then the caller doesn't
-/// go on. `Stopped` comes exactly where an earlier call answered `KeeperFault`, and changes nothing. The fetches come
+/// Works through the wanted blocks of a replica, and gives it back. What is missing or bad waits again, so the workers
+/// try it too: one worker for each fetch, each in a thread of its own where one can be made; and then the caller goes on
+/// alone, over the first fetch, as `mc_drain::work` does. Workers and caller together process no more blocks than the
+/// budget says. The answer is that of the whole work. Where it is known what is found, `Done` comes exactly where no
+/// wanted block has a good offer any more, and the processed blocks are then the closure of what was wanted; after
+/// `Again`, `PeerFault` and `Memory` each block that was wanted is processed or still wanted. `PeerFault` comes only
+/// where the count of a fetch has risen, and every answer but that and `KeeperFault` only where no call of a fetch has
+/// failed. `Stopped` comes exactly where an earlier call answered `KeeperFault`, and changes nothing. The fetches come
 /// back in their order.
 ///
 /// Conditions: 1 to 16 fetches, which all find the same for each block.
@@ -54,6 +57,7 @@ where
     ensures keeps { Continues K.Keeper (keeper_broke result.2) replica result.0 }
     ensures rest { RestSame replica result.0 }
     ensures left { AllZip (FetchLeft F.Fetch) fetches.items result.1.items }
+    ensures calm { none_broke result.2 ≡ true → AllZip (Asks F.Fetch false) fetches.items result.1.items }
     ensures peer { peer_broke result.2 ≡ true → SomeRose F.faults fetches.items result.1.items }
     ensures stopped { result.2 ≡ Err WorkError.Stopped ↔ replica.stopped ≡ true }
     ensures still { replica.stopped ≡ true → result.0 ≡ replica }
@@ -66,6 +70,8 @@ where
         Err(_) => return (replica, fetches, Err(WorkError::Stopped)),
     };
     let limit = before.saturating_add(budget);
+    let mut replica = replica;
+    requeue(&mut replica);
     let (replica, fetches, failed) = round(alloc, replica, fetches, limit, gate, threads, wait);
     let mut replica = replica;
     let mut fetches = fetches;

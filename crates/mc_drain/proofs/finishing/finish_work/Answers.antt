@@ -9,7 +9,7 @@ use Rattle.mc_drain.proofs.finishing.finish_work.Goals as goal
 pub returns-clause-leads : goal.returns-clause-leads
 returns-clause-leads g c =
     let laws = c.found_drains_go_on.ensures in
-    finish_told laws.begins laws.closed laws.so_far c.parts_stay_right.ensures.drained c.drain-end.result c.args.budget c.saturating_add-limit.result c.args.before (found_by (g.F.Fetch.offers c.args.fetch.now))
+    finish_told laws.begins laws.closed c.parts_stay_right.ensures.drained c.drain-end.result c.args.budget c.saturating_add-limit.result c.args.before (found_by (g.F.Fetch.offers c.args.fetch.now))
     (shown c.drain-end.new.replica.queue) c.answer.result _ _ c.saturating_add-limit.ensures c.answer.ensures
     (leaves_shown c.drain-end.result _ _ _ _ (λ e. c.drain-end.ensures.keeps.stops ∙ ap (λ (b : Bool). b || c.args.replica.now.stopped) e ∙ c.requires.runs) c.is_sound.ensures.state c.drain-end.ensures.flight c.drain-end.ensures.idle)
     c.drain-end.ensures.leads

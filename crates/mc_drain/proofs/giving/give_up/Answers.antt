@@ -14,7 +14,7 @@ pub returns-in-Err-clause-keeps : goal.returns-in-Err-clause-keeps
 returns-in-Err-clause-keeps g c = still_on refl refl refl
 
 pub returns-clause-works : goal.returns-clause-works
-returns-clause-works g c = let laws = c.found_drains_go_on.ensures in λ budget offers. work_given_up laws.begins laws.closed laws.so_far c.parts_stay_right.ensures.drained budget offers _ _ c.is_sound-2.ensures.state c.recall.ensures.leads
+returns-clause-works g c = let laws = c.found_drains_go_on.ensures in λ budget offers. work_given_up laws.begins laws.closed c.parts_stay_right.ensures.drained budget offers _ _ c.is_sound-2.ensures.state c.recall.ensures.leads
 
 pub returns-clause-repairs : goal.returns-clause-repairs
 returns-clause-repairs g c =

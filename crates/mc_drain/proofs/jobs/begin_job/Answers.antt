@@ -1,6 +1,8 @@
 use Rattle.std.proofs.Common.{◌∙◌, true, false, Ok, Err, refl, sym}
 use Rattle.std.specs.Prelude.{⊤}
 use Rattle.mc_base.specs.Causes.{Rose}
+use Rattle.mc_core.specs.Jobs.{NextEvents, NextShort}
+use Rattle.mc_drain.proofs.JobFacts.{job_faults, job_short}
 use Rattle.mc_drain.proofs.TurnFacts.{next_told, own_told, runs_where}
 use Rattle.mc_drain.proofs.jobs.begin_job.Goals as goal
 
@@ -15,3 +17,12 @@ returns-then-is_fault-clause-leads g c = next_told c.order_and_store_grow.ensure
 
 pub returns-else-is_fault-clause-leads : goal.returns-else-is_fault-clause-leads
 returns-else-is_fault-clause-leads g c = next_told c.order_and_store_grow.ensures c.found_drains_go_on.ensures.goes c.parts_stay_right.ensures.stay (Rose (g.K.Keeper.own c.args.replica.now.keeper) (g.K.Keeper.own c.next_job.new.self.keeper)) (Err c.in-Err.error) false _ _ (sym c.is_fault.ensures ∙ c.if-is_fault.false) c.is_sound.ensures.state (runs_where _ _ _ _ c.requires.runs) c.in-Err.ensures.call
+
+pub returns-in-Ok-clause-call : goal.returns-in-Ok-clause-call
+returns-in-Ok-clause-call g c = c.in-Ok.ensures.call
+
+pub returns-then-is_fault-clause-call : goal.returns-then-is_fault-clause-call
+returns-then-is_fault-clause-call g c = job_faults NextEvents NextShort (Rose (g.K.Keeper.own c.args.replica.now.keeper) (g.K.Keeper.own c.next_job.new.self.keeper)) c.in-Err.error _ _ (sym c.is_fault.ensures ∙ c.if-is_fault.true) c.in-Err.ensures.call
+
+pub returns-else-is_fault-clause-call : goal.returns-else-is_fault-clause-call
+returns-else-is_fault-clause-call g c = job_short NextEvents NextShort (Rose (g.K.Keeper.own c.args.replica.now.keeper) (g.K.Keeper.own c.next_job.new.self.keeper)) c.in-Err.error _ _ (sym c.is_fault.ensures ∙ c.if-is_fault.false) (runs_where _ _ _ _ c.requires.runs) c.in-Err.ensures.call

@@ -15,6 +15,9 @@ returns-in-Ok-clause-leads g c = alike_told false (λ s. count s + all_processes
 pub returns-then-is_keeper-clause-leads : goal.returns-then-is_keeper-clause-leads
 returns-then-is_keeper-clause-leads g c = alike_told (is_keeper c.in-Err.end) (λ s. count s + all_processes (delivery s.state.durable.graph c.args.job.cid (found_in c.args.found))) c.args.job.cid (found_in c.args.found) _ _ c.in-Err.ensures.leads
 
+pub returns-in-Ok-clause-ends : goal.returns-in-Ok-clause-ends
+returns-in-Ok-clause-ends g c = λ e. record { delivered = c.in-Ok._delivered; after = c.in-Ok.ensures.wants }
+
 pub returns-in-Ok-clause-flight : goal.returns-in-Ok-clause-flight
 returns-in-Ok-clause-flight g c = λ e. flight_after c.in-Ok._delivered _ _ c.args.job.cid c.requires.flight c.in-Ok.ensures.wants c.in-Ok.ensures.known
 

@@ -1,9 +1,11 @@
-use Rattle.std.proofs.Common.{◌+◌, arith}
+use Rattle.std.proofs.Common.{◌+◌, arith, subst}
+use Rattle.mc_base.specs.declared.cid.Cid.{Cid}
+use Rattle.mc_queue.specs.Views.{shown}
 use Rattle.mc_fetch.specs.Offers.{found_by}
 use Rattle.mc_model.specs.Draining.{delivery}
 use Rattle.mc_core.specs.Jobs.{found_in}
 use Rattle.mc_drain.specs.Leads.{all_processes, count}
-use Rattle.mc_drain.specs.Words.{FetchedFor, keeper_failed}
+use Rattle.mc_drain.specs.Words.{EndsJob, FetchedFor, keeper_failed}
 use Rattle.mc_drain.proofs.CallFacts.{delivery_processes}
 use Rattle.mc_drain.proofs.TurnFacts.{fetch_told, job_told}
 use Rattle.mc_drain.proofs.turns.do_job.Goals as goal
@@ -14,3 +16,6 @@ returns-in-Ok-clause-leads g c = job_told (keeper_failed c.deliver.result) (λ s
 
 pub returns-in-Err-clause-leads : goal.returns-in-Err-clause-leads
 returns-in-Err-clause-leads g c = fetch_told c.in-Err.error c.end_by.result (λ s. count s + 1) (FetchedFor (found_by (g.F.Fetch.offers c.args.fetch.now)) c.args.job.cid c.args.job.own) _ _ c.end_by.ensures (λ s. omega arith) c.back.ensures.leads
+
+pub returns-in-Ok-clause-ends : goal.returns-in-Ok-clause-ends
+returns-in-Ok-clause-ends g c = λ e. subst (λ (cid : Cid). EndsJob (shown c.args.replica.now.queue) (shown c.deliver.new.replica.queue) cid) c.look_up.ensures.cid (c.deliver.ensures.ends e)

@@ -1,8 +1,10 @@
-use Rattle.std.proofs.Common.{◌+◌, false, arith}
+use Rattle.std.proofs.Common.{◌+◌, false, arith, subst}
+use Rattle.mc_model.specs.Wanted.{Queue}
+use Rattle.mc_queue.specs.Views.{shown}
 use Rattle.mc_core.proofs.Keeps.{continues_more}
 use Rattle.mc_fetch.specs.Offers.{found_by}
 use Rattle.mc_drain.specs.Leads.{Always, count}
-use Rattle.mc_drain.specs.Words.{Fetched, is_keeper, keeper_failed}
+use Rattle.mc_drain.specs.Words.{EndsJob, Fetched, is_keeper, keeper_failed}
 use Rattle.mc_drain.proofs.TurnFacts.{turn_told, weaker_told}
 use Rattle.mc_drain.proofs.turns.take_turn.Goals as goal
 
@@ -18,3 +20,10 @@ returns-in-Ok-None-clause-leads g c = weaker_told false count (λ s. count s + 1
 
 pub returns-in-Err-clause-leads : goal.returns-in-Err-clause-leads
 returns-in-Err-clause-leads g c = weaker_told (is_keeper c.in-Err.end) count (λ s. count s + 1) Always (Fetched (found_by (g.F.Fetch.offers c.args.fetch.now))) _ _ (λ s. omega arith) (λ known kept f. tt) c.in-Err.ensures.leads
+
+pub returns-in-Ok-Some-clause-turn : goal.returns-in-Ok-Some-clause-turn
+returns-in-Ok-Some-clause-turn g c = let begins = rw c.in-Ok-Some.field-0-is at c.in-Ok-Some.ensures.begins in λ e. record {
+  first = c.in-Ok-Some.job.cid;
+  takes = begins.0;
+  ends = subst (λ (q : Queue). EndsJob q (shown c.do_job.new.replica.queue) c.in-Ok-Some.job.cid) begins.1 (c.do_job.ensures.ends e);
+}

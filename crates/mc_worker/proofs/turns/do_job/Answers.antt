@@ -1,5 +1,5 @@
 use Rattle.std.proofs.Common.{subst, sym}
-use Rattle.mc_fetch.specs.Fits.{FoundFits}
+use Rattle.mc_worker.specs.Lookups.{FoundFits}
 use Rattle.mc_worker.proofs.WorkerFacts.{looked_fits}
 use Rattle.mc_worker.proofs.turns.do_job.Goals as goal
 

@@ -1,7 +1,13 @@
-use Rattle.std.proofs.Common.{◌∙◌, ap, arith, sym}
+use Rattle.std.proofs.Common.{◌∙◌, ap, arith, refl, sym}
+use Rattle.std.specs.Prelude.{Err}
+use Rattle.mc_core.specs.Jobs.{DeliverEvents, DeliverShort, found_in}
+use Rattle.mc_drain.specs.JobCalls.{GivesBack}
 use Rattle.mc_drain.specs.Words.{begin_failed}
-use Rattle.mc_node.proofs.JobFacts.{answer_runs, deliver_told, found_has, job_ends, unspent}
+use Rattle.mc_worker.specs.declared.ends.ShopError.TheVariants.{Memory, Spent, Stopped}
+use Rattle.mc_node.specs.Serves.{AnswersAt, DeliverWants, WorkerCall}
+use Rattle.mc_node.proofs.JobFacts.{deliver_told, found_has, job_ends, spent_at}
 use Rattle.mc_node.proofs.ReplicaFacts.{adds_begins}
+use Rattle.mc_node.proofs.ServeFacts.{back_runs, deliver_wants, job_serves, said_of_none, serves_by, serves_nothing, short_back}
 use Rattle.mc_node.proofs.stored.Stored.deliver.Goals as goal
 
 pub deliver_job-result-requires-clause-digest : goal.deliver_job-result-requires-clause-digest
@@ -15,11 +21,35 @@ invariant_of-self g c = record {
       c.halted-entry.ensures c.note.ensures;
 }
 
+pub returns-then-is_stopped-clause-does : goal.returns-then-is_stopped-clause-does
+returns-then-is_stopped-clause-does g c =
+    serves_nothing g.K.Keeper.told g.K.Keeper.fuse g.K.Keeper.own g.K.Counted.faults g.K.Keeper.quiet g.K.Keeper.schedule (AnswersAt c.args.limit (Err Stopped)) (WorkerCall (λ s. DeliverEvents s c.args.job.cid (found_in c.args.found)) (GivesBack c.args.job.cid) (GivesBack c.args.job.cid) (Err Stopped)) (DeliverWants c.args.job.cid (Err Stopped)) _ c.args.self.now.replica _ _ c.args.self.now.tied refl
+    (record { stopped = sym c.is_stopped.ensures ∙ c.if-is_stopped.true; spent = said_of_none (g.K.Keeper.told c.args.self.now.replica.keeper) }) (λ s. refl) (λ q. refl)
+
+pub returns-in-Err-clause-does : goal.returns-in-Err-clause-does
+returns-in-Err-clause-does g c =
+    serves_by g.K.Keeper.told g.K.Keeper.fuse g.K.Keeper.own g.K.Counted.faults g.K.Keeper.quiet g.K.Keeper.schedule (AnswersAt c.args.limit (Err Memory)) (WorkerCall (λ s. DeliverEvents s c.args.job.cid (found_in c.args.found)) (GivesBack c.args.job.cid) (GivesBack c.args.job.cid) (Err Memory)) (DeliverWants c.args.job.cid (Err Memory)) _ _ c.begin.new.self.replica c.give_back.new.self.replica
+    c.args.self.now.log.items c.begin.new.self.log.items c.give_back.new.self.log.items c.begin.new.self.tied c.in-Err.ensures.log c.give_back.new.self.tied
+    (record { stopped = ap (λ r. r.stopped) c.in-Err.ensures.replica ∙ sym c.is_stopped.ensures ∙ c.if-is_stopped.false; spent = said_of_none (g.K.Keeper.told c.begin.new.self.replica.keeper) })
+    c.give_back.ensures.goes c.give_back.ensures.keeps c.give_back.ensures.rest tt c.give_back.ensures.log
+
+pub returns-then-processed-limit-clause-does : goal.returns-then-processed-limit-clause-does
+returns-then-processed-limit-clause-does g c =
+    serves_by g.K.Keeper.told g.K.Keeper.fuse g.K.Keeper.own g.K.Counted.faults g.K.Keeper.quiet g.K.Keeper.schedule (AnswersAt c.args.limit (Err Spent)) (WorkerCall (λ s. DeliverEvents s c.args.job.cid (found_in c.args.found)) (GivesBack c.args.job.cid) (GivesBack c.args.job.cid) (Err Spent)) (DeliverWants c.args.job.cid (Err Spent)) _ _ c.begin.new.self.replica c.give_back-then-processed-limit.new.self.replica
+    c.args.self.now.log.items c.begin.new.self.log.items c.give_back-then-processed-limit.new.self.log.items c.begin.new.self.tied c.in-Ok.ensures.log c.give_back-then-processed-limit.new.self.tied
+    (record { stopped = c.in-Ok.ensures.runs; spent = spent_at (g.K.Keeper.told c.begin.new.self.replica.keeper) c.args.limit c.in-Ok.processed (omega (arith, c.if-processed-limit.true)) c.in-Ok.ensures.length })
+    c.give_back-then-processed-limit.ensures.goes c.give_back-then-processed-limit.ensures.keeps c.give_back-then-processed-limit.ensures.rest (back_runs c.args.job.cid c.begin.new.self.replica.stopped _ _ c.in-Ok.ensures.runs c.give_back-then-processed-limit.ensures.wants) c.give_back-then-processed-limit.ensures.log
+
 pub returns-clause-extends : goal.returns-clause-extends
 returns-clause-extends g c = adds_begins c.halted-entry.result c.deliver_job-result.new.replica _ _ _ c.in-Ok.ensures.log c.note.ensures
 
-pub returns-clause-stopped : goal.returns-clause-stopped
-returns-clause-stopped g c = answer_runs _ c.deliver_job-result.result c.answered.result c.answered.ensures (ap (λ r. r.stopped) (sym c.in-Ok.ensures.replica) ∙ c.in-Ok.ensures.runs)
-
-pub returns-clause-back : goal.returns-clause-back
-returns-clause-back g c = λ e. absurd (unspent c.deliver_job-result.result c.answered.result c.answered.ensures e)
+pub returns-clause-does : goal.returns-clause-does
+returns-clause-does g c =
+    let tied = job_ends g.K.Keeper.told g.K.Keeper.fuse g.K.Keeper.own g.K.Counted.faults g.K.Keeper.quiet g.K.Keeper.schedule c.kept_is_durable.ensures.back _ c.begin.new.self.replica c.deliver_job-result.new.replica c.args.self.now.log.items c.begin.new.self.log.items c.note.new.log.items c.halted-entry.result
+    (begin_failed c.deliver_job-result.result) c.begin.new.self.tied c.in-Ok.ensures.log c.requires.sealed c.in-Ok.ensures.runs c.is_sound.ensures.kept c.deliver_job-result.ensures.keeps c.deliver_job-result.ensures.rest
+    (deliver_told _ c.args.limit c.in-Ok.processed _ c.args.job.cid c.args.found _ _ _ _ _ c.requires.limit c.requires.fits (omega (arith, c.if-processed-limit.false)) (omega arith) c.in-Ok.ensures.length c.deliver_job-result.ensures.leads)
+    c.halted-entry.ensures c.note.ensures in
+    job_serves g.K.Keeper.told g.K.Keeper.fuse g.K.Keeper.own g.K.Counted.faults g.K.Keeper.quiet g.K.Keeper.schedule (λ s. DeliverEvents s c.args.job.cid (found_in c.args.found)) (GivesBack c.args.job.cid) (λ s. DeliverShort s c.args.job.cid) (GivesBack c.args.job.cid) (short_back c.args.job.cid) (DeliverWants c.args.job.cid) _ c.args.limit c.in-Ok.processed c.begin.new.self.replica c.deliver_job-result.new.replica
+    c.args.self.now.log.items c.begin.new.self.log.items c.note.new.log.items c.halted-entry.result c.deliver_job-result.result c.answered.result c.answered.ensures c.begin.new.self.tied c.in-Ok.ensures.log tied
+    c.in-Ok.ensures.runs (omega (arith, c.if-processed-limit.false)) c.in-Ok.ensures.length c.deliver_job-result.ensures.call c.deliver_job-result.ensures.keeps c.deliver_job-result.ensures.rest
+    (deliver_wants c.args.job.cid _ _ _ _ c.deliver_job-result.ensures.wants c.deliver_job-result.ensures.known) c.halted-entry.ensures c.note.ensures

@@ -1,7 +1,10 @@
 use Rattle.std.proofs.Common.{rules}
 use Rattle.mc_drain.specs.Works.{peer_broke}
-use Rattle.mc_pull.proofs.Left.{left_at}
+use Rattle.mc_pull.proofs.Left.{calm_at, left_at}
 use Rattle.mc_pull.proofs.crew.finishing.go_on_first.Goals as goal
 
 pub returns-clause-left : goal.returns-clause-left
 returns-clause-left g c = left_at _ g.met.F.Fetch.follows_itself (peer_broke c.finish_work.result) c.in-Some.fetch.now c.finish_work.new.fetch c.in-Some._others.now c.args.fetches.now (search rules) c.finish_work.ensures.asks
+
+pub returns-clause-calm : goal.returns-clause-calm
+returns-clause-calm g c = λ none. calm_at _ g.met.F.Fetch.follows_itself (peer_broke c.finish_work.result) c.in-Some.fetch.now c.finish_work.new.fetch c.in-Some._others.now c.args.fetches.now (search rules) c.finish_work.ensures.asks none

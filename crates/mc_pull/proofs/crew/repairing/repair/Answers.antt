@@ -1,11 +1,12 @@
-use Rattle.std.proofs.Common.{◌∙◌, sym}
+use Rattle.std.proofs.Common.{◌∙◌, ap, sym}
+use Rattle.mc_model.specs.Wanted.{Queue}
 use Rattle.mc_core.proofs.Keeps.{continues_more}
 use Rattle.mc_queue.specs.Views.{shown}
 use Rattle.mc_drain.specs.declared.repairing.Repaired.{Repaired}
 use Rattle.mc_drain.proofs.RepairFacts.{unwalked_told}
 use Rattle.mc_pull.specs.Hands.{found_first}
-use Rattle.mc_pull.proofs.Left.{found_left, left_itself, left_more, rose_more}
-use Rattle.mc_pull.proofs.WorkFacts.{gone_on_keeps, left_keeps, left_peer, left_repair_wants, left_runs, over_none, repair_gone_on, repair_left}
+use Rattle.mc_pull.proofs.Left.{calm_itself, calm_more, found_left, left_itself, left_more, rose_more}
+use Rattle.mc_pull.proofs.WorkFacts.{gone_on_keeps, left_broke, left_keeps, left_peer, left_repair_wants, left_runs, none_peer, over_none, repair_gone_on, repair_left, requeued_led}
 use Rattle.mc_pull.proofs.crew.repairing.repair.Goals as goal
 
 pub returns-in-Err-clause-leads : goal.returns-in-Err-clause-leads
@@ -16,16 +17,16 @@ returns-in-Err-clause-left g c = left_itself _ c.fetches_follow.ensures.itself _
 
 pub returns-then-is_over-clause-leads : goal.returns-then-is_over-clause-leads
 returns-then-is_over-clause-leads g c =
-    repair_left _ c.in-Ok.before c.args.budget c.saturating_add-limit.result (found_first g.F.Fetch.offers c.args.fetches.items) c.leave_off-why.result _ _ _ _ c.saturating_add-limit.ensures c.in-Ok.ensures.walks c.round-replica.ensures.leads c.leave_off-why.ensures.repairs
+    repair_left _ c.in-Ok.before c.args.budget c.saturating_add-limit.result (found_first g.F.Fetch.offers c.args.fetches.items) c.leave_off-why.result _ _ _ _ c.saturating_add-limit.ensures c.in-Ok.ensures.walks (requeued_led _ c.saturating_add-limit.result _ _ _ _ c.requeue.ensures.leads c.requeue.ensures.stored c.round-replica.ensures.leads) c.leave_off-why.ensures.repairs
 
 pub returns-then-is_over-clause-keeps : goal.returns-then-is_over-clause-keeps
-returns-then-is_over-clause-keeps g c = continues_more c.in-Ok.ensures.keeps (left_keeps Repaired _ c.leave_off-why.result _ _ _ c.leave_off-why.ensures.why c.round-replica.ensures.keeps c.leave_off-why.ensures.keeps c.leave_off-why.ensures.still)
+returns-then-is_over-clause-keeps g c = continues_more c.in-Ok.ensures.keeps (left_keeps Repaired _ c.leave_off-why.result _ _ _ c.leave_off-why.ensures.why (continues_more c.requeue.ensures.keeps c.round-replica.ensures.keeps) c.leave_off-why.ensures.keeps c.leave_off-why.ensures.still)
 
 pub returns-then-is_over-clause-whole : goal.returns-then-is_over-clause-whole
-returns-then-is_over-clause-whole g c = λ e. c.leave_off-why.ensures.rest.whole_same ∙ c.round-replica.ensures.rest.whole_same ∙ c.in-Ok.ensures.whole
+returns-then-is_over-clause-whole g c = λ e. c.leave_off-why.ensures.rest.whole_same ∙ c.round-replica.ensures.rest.whole_same ∙ c.requeue.ensures.rest.whole_same ∙ c.in-Ok.ensures.whole
 
 pub returns-then-is_over-clause-batch : goal.returns-then-is_over-clause-batch
-returns-then-is_over-clause-batch g c = c.leave_off-why.ensures.rest.batch_same ∙ c.round-replica.ensures.rest.batch_same ∙ c.in-Ok.ensures.batch
+returns-then-is_over-clause-batch g c = c.leave_off-why.ensures.rest.batch_same ∙ c.round-replica.ensures.rest.batch_same ∙ c.requeue.ensures.rest.batch_same ∙ c.in-Ok.ensures.batch
 
 pub returns-then-is_over-clause-peer : goal.returns-then-is_over-clause-peer
 returns-then-is_over-clause-peer g c = λ e. c.round-replica.ensures.peer (left_peer Repaired _ _ c.leave_off-why.result c.leave_off-why.ensures.why (sym c.is_over.ensures ∙ c.if-is_over.true) e)
@@ -43,18 +44,18 @@ pub returns-clause-leads : goal.returns-clause-leads
 returns-clause-leads g c =
     let both = over_none _ _ (sym c.is_over.ensures ∙ c.if-is_over.false) in
     repair_gone_on _ c.in-Ok.before c.args.budget c.saturating_add-limit.result (found_first g.F.Fetch.offers c.args.fetches.items) _ c.go_on_repairing-answer.result _ _ _ _ both.1 (found_left _ _ _ c.round-replica.ensures.left) c.saturating_add-limit.ensures
-    c.in-Ok.ensures.walks c.round-replica.ensures.leads c.go_on_repairing-answer.ensures.leads
+    c.in-Ok.ensures.walks (requeued_led _ c.saturating_add-limit.result _ _ _ _ c.requeue.ensures.leads c.requeue.ensures.stored c.round-replica.ensures.leads) c.go_on_repairing-answer.ensures.leads
 
 pub returns-clause-keeps : goal.returns-clause-keeps
 returns-clause-keeps g c =
     let both = over_none _ _ (sym c.is_over.ensures ∙ c.if-is_over.false) in
-    continues_more c.in-Ok.ensures.keeps (gone_on_keeps _ _ _ _ _ both.1 c.round-replica.ensures.keeps c.go_on_repairing-answer.ensures.keeps)
+    continues_more c.in-Ok.ensures.keeps (gone_on_keeps _ _ _ _ _ both.1 (continues_more c.requeue.ensures.keeps c.round-replica.ensures.keeps) c.go_on_repairing-answer.ensures.keeps)
 
 pub returns-clause-batch : goal.returns-clause-batch
-returns-clause-batch g c = c.go_on_repairing-answer.ensures.rest.batch_same ∙ c.round-replica.ensures.rest.batch_same ∙ c.in-Ok.ensures.batch
+returns-clause-batch g c = c.go_on_repairing-answer.ensures.rest.batch_same ∙ c.round-replica.ensures.rest.batch_same ∙ c.requeue.ensures.rest.batch_same ∙ c.in-Ok.ensures.batch
 
 pub returns-clause-whole : goal.returns-clause-whole
-returns-clause-whole g c = λ e. c.go_on_repairing-answer.ensures.rest.whole_same ∙ c.round-replica.ensures.rest.whole_same ∙ c.in-Ok.ensures.whole
+returns-clause-whole g c = λ e. c.go_on_repairing-answer.ensures.rest.whole_same ∙ c.round-replica.ensures.rest.whole_same ∙ c.requeue.ensures.rest.whole_same ∙ c.in-Ok.ensures.whole
 
 pub returns-clause-left : goal.returns-clause-left
 returns-clause-left g c =
@@ -71,3 +72,17 @@ returns-clause-stopped g c = (λ e. absurd (c.go_on_repairing-answer.ensures.run
 
 pub returns-clause-still : goal.returns-clause-still
 returns-clause-still g c = λ up. absurd (let f = c.in-Ok.ensures.stopped.1 up in cc f)
+
+pub returns-in-Err-clause-calm : goal.returns-in-Err-clause-calm
+returns-in-Err-clause-calm g c = λ none. calm_itself _ c.fetches_follow.ensures.itself _
+
+pub returns-then-is_over-clause-calm : goal.returns-then-is_over-clause-calm
+returns-then-is_over-clause-calm g c = λ none. absurd (left_broke Repaired _ c.leave_off-why.result c.leave_off-why.ensures.why none)
+
+pub returns-clause-calm : goal.returns-clause-calm
+returns-clause-calm g c = λ none.
+    let both = over_none _ _ (sym c.is_over.ensures ∙ c.if-is_over.false) in
+    calm_more _ c.fetches_follow.ensures.on _ _ _ (c.round-replica.ensures.calm both.0) (c.go_on_repairing-answer.ensures.calm (none_peer c.go_on_repairing-answer.result none))
+
+pub round-replica-requires-clause-fresh : goal.round-replica-requires-clause-fresh
+round-replica-requires-clause-fresh g c κs within = (ap (λ (q : Queue). q.missing) c.requeue.ensures.wants, ap (λ (q : Queue). q.bad) c.requeue.ensures.wants)

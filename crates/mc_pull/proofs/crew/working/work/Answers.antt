@@ -1,12 +1,13 @@
-use Rattle.std.proofs.Common.{◌∙◌, refl, sym}
-use Rattle.mc_core.proofs.Keeps.{rest_more, still_on}
+use Rattle.std.proofs.Common.{◌∙◌, ap, refl, sym}
+use Rattle.mc_model.specs.Wanted.{Queue}
+use Rattle.mc_core.proofs.Keeps.{continues_more, rest_more, still_on}
 use Rattle.mc_queue.specs.Views.{shown}
 use Rattle.mc_drain.specs.declared.working.Worked.{Worked}
 use Rattle.mc_drain.proofs.TurnFacts.{report_count}
-use Rattle.mc_drain.proofs.WorkFacts.{still_works}
+use Rattle.mc_drain.proofs.WorkFacts.{not_true, still_works}
 use Rattle.mc_pull.specs.Hands.{found_first}
-use Rattle.mc_pull.proofs.Left.{found_left, left_itself, left_more, rose_more}
-use Rattle.mc_pull.proofs.WorkFacts.{gone_on_keeps, left_keeps, left_peer, left_runs, left_wants, over_none, work_gone_on, work_left}
+use Rattle.mc_pull.proofs.Left.{calm_itself, calm_more, found_left, left_itself, left_more, rose_more}
+use Rattle.mc_pull.proofs.WorkFacts.{gone_on_keeps, left_broke, left_keeps, left_peer, left_runs, left_wants, none_peer, over_none, requeued_led, work_gone_on, work_left}
 use Rattle.mc_pull.proofs.crew.working.work.Goals as goal
 
 pub returns-in-Err-clause-leads : goal.returns-in-Err-clause-leads
@@ -20,13 +21,13 @@ returns-in-Err-clause-left g c = left_itself _ c.fetches_follow.ensures.itself _
 
 pub returns-then-is_over-clause-leads : goal.returns-then-is_over-clause-leads
 returns-then-is_over-clause-leads g c =
-    work_left _ c.in-Ok.report.processed c.args.budget c.saturating_add-limit.result (found_first g.F.Fetch.offers c.args.fetches.items) c.leave_off-why.result _ _ _ c.saturating_add-limit.ensures (report_count _ _ _ _ c.in-Ok.report c.in-Ok.ensures.report) c.round-replica.ensures.leads c.leave_off-why.ensures.works
+    work_left _ c.in-Ok.report.processed c.args.budget c.saturating_add-limit.result (found_first g.F.Fetch.offers c.args.fetches.items) c.leave_off-why.result _ _ _ c.saturating_add-limit.ensures (report_count _ _ _ _ c.in-Ok.report c.in-Ok.ensures.report) (requeued_led _ c.saturating_add-limit.result _ _ _ _ c.requeue.ensures.leads c.requeue.ensures.stored c.round-replica.ensures.leads) c.leave_off-why.ensures.works
 
 pub returns-then-is_over-clause-keeps : goal.returns-then-is_over-clause-keeps
-returns-then-is_over-clause-keeps g c = left_keeps Worked _ c.leave_off-why.result _ _ _ c.leave_off-why.ensures.why c.round-replica.ensures.keeps c.leave_off-why.ensures.keeps c.leave_off-why.ensures.still
+returns-then-is_over-clause-keeps g c = left_keeps Worked _ c.leave_off-why.result _ _ _ c.leave_off-why.ensures.why (continues_more c.requeue.ensures.keeps c.round-replica.ensures.keeps) c.leave_off-why.ensures.keeps c.leave_off-why.ensures.still
 
 pub returns-then-is_over-clause-rest : goal.returns-then-is_over-clause-rest
-returns-then-is_over-clause-rest g c = rest_more c.round-replica.ensures.rest c.leave_off-why.ensures.rest
+returns-then-is_over-clause-rest g c = rest_more (rest_more c.requeue.ensures.rest c.round-replica.ensures.rest) c.leave_off-why.ensures.rest
 
 pub returns-then-is_over-clause-peer : goal.returns-then-is_over-clause-peer
 returns-then-is_over-clause-peer g c = λ e. c.round-replica.ensures.peer (left_peer Worked _ _ c.leave_off-why.result c.leave_off-why.ensures.why (sym c.is_over.ensures ∙ c.if-is_over.true) e)
@@ -44,15 +45,15 @@ pub returns-clause-leads : goal.returns-clause-leads
 returns-clause-leads g c =
     let both = over_none _ _ (sym c.is_over.ensures ∙ c.if-is_over.false) in
     work_gone_on _ c.in-Ok.report.processed c.args.budget c.saturating_add-limit.result (found_first g.F.Fetch.offers c.args.fetches.items) _ c.go_on-answer.result _ _ _ both.1 (found_left _ _ _ c.round-replica.ensures.left) c.saturating_add-limit.ensures
-    (report_count _ _ _ _ c.in-Ok.report c.in-Ok.ensures.report) c.round-replica.ensures.leads c.go_on-answer.ensures.leads
+    (report_count _ _ _ _ c.in-Ok.report c.in-Ok.ensures.report) (requeued_led _ c.saturating_add-limit.result _ _ _ _ c.requeue.ensures.leads c.requeue.ensures.stored c.round-replica.ensures.leads) c.go_on-answer.ensures.leads
 
 pub returns-clause-keeps : goal.returns-clause-keeps
 returns-clause-keeps g c =
     let both = over_none _ _ (sym c.is_over.ensures ∙ c.if-is_over.false) in
-    gone_on_keeps _ _ _ _ _ both.1 c.round-replica.ensures.keeps c.go_on-answer.ensures.keeps
+    gone_on_keeps _ _ _ _ _ both.1 (continues_more c.requeue.ensures.keeps c.round-replica.ensures.keeps) c.go_on-answer.ensures.keeps
 
 pub returns-clause-rest : goal.returns-clause-rest
-returns-clause-rest g c = rest_more c.round-replica.ensures.rest c.go_on-answer.ensures.rest
+returns-clause-rest g c = rest_more (rest_more c.requeue.ensures.rest c.round-replica.ensures.rest) c.go_on-answer.ensures.rest
 
 pub returns-clause-left : goal.returns-clause-left
 returns-clause-left g c =
@@ -69,3 +70,20 @@ returns-clause-stopped g c = (λ e. absurd (c.go_on-answer.ensures.runs e), λ u
 
 pub returns-clause-still : goal.returns-clause-still
 returns-clause-still g c = λ up. absurd (c.in-Ok.ensures.stopped up)
+
+pub returns-in-Err-clause-calm : goal.returns-in-Err-clause-calm
+returns-in-Err-clause-calm g c = λ none. calm_itself _ c.fetches_follow.ensures.itself _
+
+pub returns-then-is_over-clause-calm : goal.returns-then-is_over-clause-calm
+returns-then-is_over-clause-calm g c = λ none. absurd (left_broke Worked _ c.leave_off-why.result c.leave_off-why.ensures.why none)
+
+pub returns-clause-calm : goal.returns-clause-calm
+returns-clause-calm g c = λ none.
+    let both = over_none _ _ (sym c.is_over.ensures ∙ c.if-is_over.false) in
+    calm_more _ c.fetches_follow.ensures.on _ _ _ (c.round-replica.ensures.calm both.0) (c.go_on-answer.ensures.calm (none_peer c.go_on-answer.result none))
+
+pub round-replica-requires-clause-fresh : goal.round-replica-requires-clause-fresh
+round-replica-requires-clause-fresh g c κs within = (ap (λ (q : Queue). q.missing) c.requeue.ensures.wants, ap (λ (q : Queue). q.bad) c.requeue.ensures.wants)
+
+pub round-replica-requires-clause-runs : goal.round-replica-requires-clause-runs
+round-replica-requires-clause-runs g c κs within = c.requeue.ensures.keeps.stops ∙ not_true _ c.in-Ok.ensures.stopped
