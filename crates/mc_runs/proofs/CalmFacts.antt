@@ -37,7 +37,7 @@ names_nothing : (numbers : List ℕ) → names_none numbers ≡ true → numbers
 names_nothing [] e = refl
 names_nothing (number ∷ numbers) e = absurd (true≢false (sym e))
 
-entry_none : (answer : Answer) → owns_none (Some answer) ≡ true → NamesNone answer.entry
+pub entry_none : (answer : Answer) → owns_none (Some answer) ≡ true → NamesNone answer.entry
 entry_none answer e = (names_nothing answer.entry.own (first_true _ _ e), names_nothing answer.entry.desks (second_true (names_none answer.entry.own) _ e))
 
 same_of : {A : Type 0} {x y : A} → Some x ≡ Some y → x ≡ y

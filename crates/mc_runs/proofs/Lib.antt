@@ -9,3 +9,4 @@ pub mod FuseFacts
 pub mod StopFacts
 pub mod ReachFacts
 pub mod CalmFacts
+pub mod OneFacts

@@ -19,6 +19,9 @@ ghost use Rattle.mc_runs.specs.Promises.{AfterLine, AroundLine, FuseFired, HasCo
 ghost use Rattle.mc_runs.specs.Promises.{HasSettled, HasStormed, IsLineAt, OnlyGrows, SinceLine};
 ghost use Rattle.mc_runs.specs.Promises.{asks_running, fired_at, is_read, read_at, same_pair};
 ghost use Rattle.mc_runs.specs.Promises.{some_stopped, tells_at};
+ghost use Rattle.std.specs.List.{AllByRecursion};
+ghost use Rattle.mc_script.specs.Line.{line_of};
+ghost use Rattle.mc_runs.specs.OneText.{AreOpen, IsOne, replies_in};
 ghost use Rattle.mc_runs.specs.Runs.{Answer, IsWithin, Runs, own_free, owns_in};
 ghost use Rattle.mc_seats.specs.Step.{Step, with_link};
 ghost use Rattle.mc_seats.specs.Worlds.{Place, WorldState, is_linked, state_at};
@@ -181,4 +184,16 @@ pub fn clean_repairs_are_reached()
 {
     kept_is_durable();
     clean_replicas_are_reached();
+}
+
+/// The text of a run is one: two runs of the same lines from the same first world give equal replies and come to equal
+/// worlds, where each replica tells its content, no fuse is armed, and no keeper and no desk failed by itself. The
+/// commands whose workers or writers take turns are not among these lines, nor is a delete.
+pub fn runs_are_one()
+    ensures { (lines : List (List ℕ)) (answers answers2 : List (Option Answer)) (first last last2 : WorldState) →
+        AreOpen first → AllByRecursion (λ line. IsOne (line_of line)) lines → own_free answers ≡ true →
+        own_free answers2 ≡ true → Runs first lines answers last → Runs first lines answers2 last2 →
+        (replies_in answers ≡ replies_in answers2) × (last ≡ last2) }
+{
+    kept_is_durable();
 }
