@@ -1,7 +1,7 @@
 -- From what a command did at a seat to what it did in a world.
-use Rattle.std.proofs.Common.{◌≡◌, ◌++◌, arith, not, ◌&&◌, ℕ, Bool, true, false, true≢false, List, [], ◌∷◌, Option, Some, None, Result, Ok, Err, refl, sym, subst, ap, inl, inr, ◌∙◌, ◌<◌, length, map, nat_lt, set}
+use Rattle.std.proofs.Common.{◌≡◌, ◌++◌, arith, not, ◌&&◌, ℕ, Bool, true, false, true≢false, List, [], ◌∷◌, Option, Some, None, Result, Ok, Err, refl, sym, subst, ap, inl, inr, ◌∙◌, ◌<◌, ◌≤◌, length, map, nat_lt, set, zero, suc}
 use Rattle.std.specs.Prelude.{◌||◌, ◌+◌, ◌-◌, cond, IfOk, IfSome, IsErrOf, unwrap_or}
-use Rattle.std.specs.List.{list_all, slice_get}
+use Rattle.std.specs.List.{list_all, slice_get, sum_by}
 use Rattle.std.specs.Option.{option_map}
 use Rattle.std.specs.Result.{is_ok}
 use Rattle.std.proofs.lemmas.Bool.{eq-eqb, lt-ltb, ltb-true}
@@ -33,13 +33,13 @@ use Rattle.mc_seats.specs.Asks.{among_by, arms, fail_by, focus, focus_by, has_me
 use Rattle.mc_seats.specs.Calls.{calls_by, is_call}
 use Rattle.mc_seats.specs.Doing.{Act, At, Calls, Casts, Doing, Tends, doing}
 use Rattle.mc_seats.specs.Tending.{fuses}
-use Rattle.mc_seats.specs.Keepers.{IsPaid, WorldGoes, armed_at, armed_in, desk_count, desks_in, is_calm_desk, is_calm_keeper, keeper_of, own_in}
+use Rattle.mc_seats.specs.Keepers.{AllLater, IsPaid, WorldGoes, armed_at, armed_in, desk_count, desks_in, is_calm_desk, is_calm_keeper, keeper_of, own_in}
 use Rattle.mc_seats.specs.Effects.{AsksAt, DoneAt, Leaves, RefusedAt, asks_by, refused_by}
 use Rattle.mc_seats.specs.Record.{RoseAt, RoseIn}
 use Rattle.mc_seats.specs.Step.{CutShort, LeavesStep, Row, Says, Sets, ShortAt, ShortIn, StillRuns, answers_fault, asked_by, is_fault, refuses_by, says_by, sets_by}
 use Rattle.mc_seats.specs.Words.{ActsOn, CastActs, EarlyRow, KeeperGoes, SaysHeads, SeatActsIn, SeatRow, can_fail, has_some, place, state}
 use Rattle.mc_seats.specs.Worlds.{AtPlace, MovedAt, Place, WorldState, is_down, places_of, state_at}
-use Rattle.mc_seats.proofs.SeatFacts.{all_of_set, both, first, get_of_set, paid_beside, paid_of_set, rest, set_of_get}
+use Rattle.mc_seats.proofs.SeatFacts.{all_of_set, both, first, get_of_set, paid_beside, paid_none, paid_of_set, rest, set_of_get}
 use Rattle.mc_seats.proofs.WorkedFacts.{pull_by, short_from}
 
 -- a command of one replica
@@ -161,6 +161,20 @@ pub ok_map : {T E : Type 0} (result : Result T E) (P Q : T → Type 0) → ((val
 ok_map (Ok value) P Q f holds = f value holds
 ok_map (Err error) P Q f holds = tt
 
+-- counts that have not fallen
+
+pub later_same : {A : Type 0} (count : A → ℕ) (xs : List A) → AllLater count xs xs
+later_same count [] = tt
+later_same count (x ∷ xs) = (omega arith, later_same count xs)
+
+pub later_set : {A : Type 0} (count : A → ℕ) (olds mids : List A) (r : ℕ) (x y : A) → AllLater count olds mids → slice_get mids r ≡ Some x → count x ≤ count y → AllLater count olds (set mids r y)
+later_set count [] [] r x y all stands later = tt
+later_set count [] (m ∷ mids) r x y all stands later = absurd all
+later_set count (o ∷ olds) [] r x y all stands later = absurd all
+later_set count (o ∷ olds) (m ∷ mids) zero x y all stands later =
+    let was = all.0 in let same = ap (λ s. count (unwrap_or s m)) stands in (omega (arith, was, same, later), all.1)
+later_set count (o ∷ olds) (m ∷ mids) (suc r) x y all stands later = (all.0, later_set count olds mids r x y all.1 stands later)
+
 -- a command that has left a replica as it was
 still_runs : (run : Option Running) → StillRuns run run
 still_runs None = refl
@@ -201,6 +215,22 @@ module _ {K D : Type 0} {g : keeper.Ghosts K D} {h : counted.Ghosts K} {i : coun
   same_state : (old new : World K D g h i) → (state k desk_faults new).places ≡ (state k desk_faults old).places → (state k desk_faults new).around ≡ (state k desk_faults old).around → state k desk_faults new ≡ state k desk_faults old
   same_state old new places around = λ t. record { places = places t; around = around t }
 
+  -- nothing is counted where the replicas and their desks are as they were
+  pub around_goes : (arming : ℕ) (old new : World K D g h i) → new.seats.items ≡ old.seats.items → new.desks.items ≡ old.desks.items → WorldGoes k desk_faults 0 arming old new
+  around_goes arming old new seats desks = record {
+    paid = subst (λ (n : ℕ). IsPaid 0 arming (own_in k old.seats.items + desks_in desk_faults old.desks.items) (armed_in k old.seats.items) n (armed_in k new.seats.items)) (λ t. own_in k (sym seats t) + desks_in desk_faults (sym desks t))
+        (subst (λ (n : ℕ). IsPaid 0 arming (own_in k old.seats.items + desks_in desk_faults old.desks.items) (armed_in k old.seats.items) (own_in k old.seats.items + desks_in desk_faults old.desks.items) n) (λ t. armed_in k (sym seats t)) (paid_none arming (own_in k old.seats.items + desks_in desk_faults old.desks.items) (armed_in k old.seats.items)));
+    calm = λ is. both _ _
+        (subst (λ (l : List (Seat K D g h i)). list_all (λ (seat : Seat K D g h i). is_calm_keeper k (keeper_of seat)) l ≡ true) (sym seats) (first _ _ is))
+        (subst (λ (l : List (List D)). list_all (λ (list : List D). list_all (is_calm_desk k desk_faults) list) l ≡ true) (sym desks) (rest _ _ is));
+    own_later = subst (λ (l : List (Seat K D g h i)). AllLater (λ (seat : Seat K D g h i). k.own (keeper_of seat)) old.seats.items l) (sym seats) (later_same (λ (seat : Seat K D g h i). k.own (keeper_of seat)) old.seats.items);
+    desks_later = subst (λ (l : List (List D)). AllLater (λ (list : List D). sum_by desk_faults list) old.desks.items l) (sym desks) (later_same (λ (list : List D). sum_by desk_faults list) old.desks.items);
+  }
+
+  -- and no fault is answered
+  pub around_says : (arming : ℕ) (reply : Reply) (old new : World K D g h i) → is_fault reply ≡ false → new.seats.items ≡ old.seats.items → new.desks.items ≡ old.desks.items → WorldGoes k desk_faults (cond (is_fault reply) 1 0) arming old new
+  around_says arming reply old new plain seats desks = subst (λ (b : Bool). WorldGoes k desk_faults (cond b 1 0) arming old new) (sym plain) (around_goes arming old new seats desks)
+
   -- what its keeper counts is what the world counts
   pub goes_of : (r : ℕ) (x y : Seat K D g h i) (old new : World K D g h i) → slice_get old.seats.items r ≡ Some x → new.seats.items ≡ set old.seats.items r y → new.desks.items ≡ old.desks.items → (faults arming : ℕ) → KeeperGoes k faults arming (keeper_of x) (keeper_of y) → WorldGoes k desk_faults faults arming old new
   goes_of r x y old new stands seats desks faults arming goes = record {
@@ -208,6 +238,9 @@ module _ {K D : Type 0} {g : keeper.Ghosts K D} {h : counted.Ghosts K} {i : coun
     calm = λ is. both _ _
         (subst (λ (l : List (Seat K D g h i)). list_all (λ (seat : Seat K D g h i). is_calm_keeper k (keeper_of seat)) l ≡ true) (sym seats) (all_of_set (λ (seat : Seat K D g h i). is_calm_keeper k (keeper_of seat)) old.seats.items r x y stands goes.calm (first _ _ is)))
         (subst (λ (l : List (List D)). list_all (λ (list : List D). list_all (is_calm_desk k desk_faults) list) l ≡ true) (sym desks) (rest _ _ is));
+    own_later = subst (λ (l : List (Seat K D g h i)). AllLater (λ (seat : Seat K D g h i). k.own (keeper_of seat)) old.seats.items l) (sym seats)
+        (later_set (λ (seat : Seat K D g h i). k.own (keeper_of seat)) old.seats.items old.seats.items r x y (later_same (λ (seat : Seat K D g h i). k.own (keeper_of seat)) old.seats.items) stands goes.paid.later);
+    desks_later = subst (λ (l : List (List D)). AllLater (λ (list : List D). sum_by desk_faults list) old.desks.items l) (sym desks) (later_same (λ (list : List D). sum_by desk_faults list) old.desks.items);
   }
     where
       desks_sum : List (List D) → ℕ

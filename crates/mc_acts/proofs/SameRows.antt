@@ -1,7 +1,7 @@
 -- A comparison of two replicas as what it does in a world.
 use Rattle.std.proofs.Common.{◌≡◌, ◌≤◌, ◌+◌, ◌-◌, ℕ, zero, suc, Bool, true, false, true≢false, ◌&&◌, List, [], ◌∷◌, Option, Some, None, Result, Ok, Err, refl, sym, ap, subst, ◌∙◌, inl, inr, ◌⊎◌, ◌<◌, length, set, arith}
 use Rattle.std.specs.Prelude.{◌^◌, ◌↔◌, ◌||◌, ◌==◌, IfSome, is_some, unwrap_or}
-use Rattle.std.specs.List.{AllZip, list_all, slice_get}
+use Rattle.std.specs.List.{AllZip, list_all, slice_get, sum_by}
 use Rattle.std.specs.Option.{option_and_then, option_map, option_or}
 use Rattle.std.proofs.lemmas.Bool.{eq-eqb, ltb-true}
 use Rattle.std.proofs.lemmas.List.{length-map, length-set}
@@ -30,7 +30,7 @@ use Rattle.mc_seats.specs.declared.seat.Held.TheVariants.{Up, Down}
 use Rattle.mc_seats.specs.declared.seat.Seat.{Seat}
 use Rattle.mc_seats.specs.declared.world.World.{World}
 use Rattle.mc_seats.specs.Asks.{is_among, is_named, is_there}
-use Rattle.mc_seats.specs.Keepers.{IsPaid, WorldGoes, armed_at, armed_in, desks_in, is_calm_desk, is_calm_keeper, keeper_in, keeper_of, own_in}
+use Rattle.mc_seats.specs.Keepers.{AllLater, IsPaid, WorldGoes, armed_at, armed_in, desks_in, is_calm_desk, is_calm_keeper, keeper_in, keeper_of, own_in}
 use Rattle.mc_seats.specs.Effects.{EventsOf, stop_reply}
 use Rattle.mc_seats.specs.Record.{RoseAt, RoseIn}
 use Rattle.mc_acts.specs.Sames.{AllStay, Compares, FailsAt, IfBoth, IsUpAt, SeatStays, all_in, both_up, content_at, is_up_seat, up_at}
@@ -38,7 +38,7 @@ use Rattle.mc_seats.specs.Step.{CutShort, SameProcessed, either_reply}
 use Rattle.mc_seats.specs.Words.{ActsOn, place, state}
 use Rattle.mc_seats.specs.Worlds.{Around, AtPlace, Place, is_up, place_with, places_of, state_at}
 use Rattle.mc_seats.proofs.GoesFacts.{paid_then}
-use Rattle.mc_acts.proofs.LiftFacts.{at_place, memory_is_not_bad, no_err, set_at, stands_at}
+use Rattle.mc_acts.proofs.LiftFacts.{around_goes, at_place, later_same, later_set, memory_is_not_bad, no_err, set_at, stands_at}
 use Rattle.mc_acts.proofs.RecordFacts.{get_within}
 use Rattle.mc_acts.proofs.SameFacts.{length_stays, places_stay, up_read}
 use Rattle.mc_seats.proofs.SeatFacts.{all_of_set, both, first, get_of_set, paid_beside, paid_none, paid_of_set, rest}
@@ -146,6 +146,12 @@ module _ {K D : Type 0} {g : keeper.Ghosts K D} {h : counted.Ghosts K} {i : coun
   calm_stay (x ∷ xs) [] stay is = absurd stay
   calm_stay (x ∷ xs) (y ∷ ys) stay is = both (calm_of y) (list_all calm_of ys) (stay.0.goes.calm (first (calm_of x) (list_all calm_of xs) is)) (calm_stay xs ys stay.1 (rest (calm_of x) (list_all calm_of xs) is))
 
+  own_stay : (xs ys : List (Seat K D g h i)) → AllStay k xs ys → AllLater own_at xs ys
+  own_stay [] [] stay = tt
+  own_stay [] (y ∷ ys) stay = absurd stay
+  own_stay (x ∷ xs) [] stay = absurd stay
+  own_stay (x ∷ xs) (y ∷ ys) stay = (stay.0.goes.paid.later, own_stay xs ys stay.1)
+
   -- two worlds that differ in reads, and perhaps in a last read that failed
   pub record OnlyRead (old new : World K D g h i) : Type 0 where
     pub desks : new.desks.items ≡ old.desks.items
@@ -157,21 +163,24 @@ module _ {K D : Type 0} {g : keeper.Ghosts K D} {h : counted.Ghosts K} {i : coun
   around_read old new same = λ t. record { bag = same.bag t; down = same.down t }
 
   goes_by : (faults : ℕ) (old new : World K D g h i) → OnlyRead old new → IsPaid faults 0 (own_in k old.seats.items) (armed_in k old.seats.items) (own_in k new.seats.items) (armed_in k new.seats.items)
-      → (list_all calm_of old.seats.items ≡ true → list_all calm_of new.seats.items ≡ true) → WorldGoes k desk_faults faults 0 old new
-  goes_by faults old new same paid calm = record {
+      → (list_all calm_of old.seats.items ≡ true → list_all calm_of new.seats.items ≡ true) → AllLater own_at old.seats.items new.seats.items → WorldGoes k desk_faults faults 0 old new
+  goes_by faults old new same paid calm later = record {
     paid = subst (λ (l : List (List D)). IsPaid faults 0 (own_in k old.seats.items + desks_in desk_faults old.desks.items) (armed_in k old.seats.items) (own_in k new.seats.items + desks_in desk_faults l) (armed_in k new.seats.items)) (sym same.desks)
         (paid_beside faults 0 (own_in k old.seats.items) (armed_in k old.seats.items) (own_in k new.seats.items) (armed_in k new.seats.items) (desks_in desk_faults old.desks.items) paid);
     calm = λ is. both _ _ (calm (first _ _ is)) (subst (λ (l : List (List D)). list_all (λ (list : List D). list_all (is_calm_desk k desk_faults) list) l ≡ true) (sym same.desks) (rest _ _ is));
+    own_later = later;
+    desks_later = subst (λ (l : List (List D)). AllLater (λ (list : List D). sum_by desk_faults list) old.desks.items l) (sym same.desks) (later_same (λ (list : List D). sum_by desk_faults list) old.desks.items);
   }
 
   goes_read : (old new : World K D g h i) → OnlyRead old new → AllStay k old.seats.items new.seats.items → WorldGoes k desk_faults 0 0 old new
-  goes_read old new same stay = goes_by 0 old new same (paid_stay old.seats.items new.seats.items stay) (calm_stay old.seats.items new.seats.items stay)
+  goes_read old new same stay = goes_by 0 old new same (paid_stay old.seats.items new.seats.items stay) (calm_stay old.seats.items new.seats.items stay) (own_stay old.seats.items new.seats.items stay)
 
   goes_failed : (at : ℕ) (old new : World K D g h i) → OnlyRead old new → FailsAt k at old.seats.items new.seats.items → WorldGoes k desk_faults 1 0 old new
   goes_failed at old new same fails = goes_by 1 old new same
       (paid_then 0 0 1 0 (own_in k old.seats.items) (armed_in k old.seats.items) (own_in k fails.mid) (armed_in k fails.mid) (own_in k new.seats.items) (armed_in k new.seats.items) (paid_stay old.seats.items fails.mid fails.stay)
       (subst (λ (l : List (Seat K D g h i)). IsPaid 1 0 (own_in k fails.mid) (armed_in k fails.mid) (own_in k l) (armed_in k l)) (sym fails.falls.after) (paid_of_set own_at armed_of 1 0 fails.mid at fails.falls.old fails.falls.new fails.falls.stands fails.falls.holds.goes.paid)))
       (λ is. subst (λ (l : List (Seat K D g h i)). list_all calm_of l ≡ true) (sym fails.falls.after) (all_of_set calm_of fails.mid at fails.falls.old fails.falls.new fails.falls.stands fails.falls.holds.goes.calm (calm_stay old.seats.items fails.mid fails.stay is)))
+      (subst (λ (l : List (Seat K D g h i)). AllLater own_at old.seats.items l) (sym fails.falls.after) (later_set own_at old.seats.items fails.mid at fails.falls.old fails.falls.new (own_stay old.seats.items fails.mid fails.stay) fails.falls.stands fails.falls.holds.goes.paid.later))
 
   -- neither of the two is refused
 
@@ -293,7 +302,7 @@ module _ {K D : Type 0} {g : keeper.Ghosts K D} {h : counted.Ghosts K} {i : coun
     row = inl (inl (inl (record { cause = sym ((λ t. either_reply (stands_at k desk_faults world.seats.items r x stands t) (stands_at k desk_faults world.seats.items other y stands_other t)) ∙ one_stopped (place k x).run (place k y).run not_both); same = refl })));
     short = λ no. absurd (no_err Stopped Memory no);
     not_bad = no_err Stopped BadLine;
-    goes = record { paid = paid_none 0 _ _; calm = λ is. is };
+    goes = around_goes k desk_faults 0 world world refl refl;
     entries_same = refl;
   }
 

@@ -35,7 +35,7 @@ use Rattle.mc_seats.specs.declared.seat.Seat.{Seat}
 use Rattle.mc_seats.specs.declared.world.World.{World}
 use Rattle.mc_seats.specs.Asks.{is_named}
 use Rattle.mc_seats.specs.Fetching.{IsFound, found_among, offers_of}
-use Rattle.mc_seats.specs.Keepers.{IsPaid, WorldGoes, armed_at, armed_in, desk_count, desks_in, is_calm, is_calm_desk, is_calm_keeper, keeper_of, own_in}
+use Rattle.mc_seats.specs.Keepers.{AllLater, IsPaid, WorldGoes, armed_at, armed_in, desk_count, desks_in, is_calm, is_calm_desk, is_calm_keeper, keeper_of, own_in}
 use Rattle.mc_seats.specs.Effects.{AsksAt, DoneAt, RefusedAt}
 use Rattle.mc_seats.specs.Record.{RoseAt, RoseIn}
 use Rattle.mc_seats.specs.Step.{CutShort, GivesBack, LeavesStep, PeerBreaks, Row, ShortAt, ShortIn, answers_fault, is_fault}
@@ -46,6 +46,7 @@ use Rattle.mc_seats.proofs.BeginFacts.{allowed_at, is_no_error, never, short_is_
 use Rattle.mc_seats.proofs.DeliverFacts.{in_flight}
 use Rattle.mc_seats.proofs.GoesFacts.{keeper_same, keeper_then}
 use Rattle.mc_seats.proofs.PeerFacts.{all_still}
+use Rattle.mc_acts.proofs.LiftFacts.{later_same, later_set}
 
 -- what is found is the first with the digest
 
@@ -163,6 +164,12 @@ module _ {K D : Type 0} (k : Members K D) (desk_faults : D → ℕ) where
       let first = goes.0.later in
       let others = desks_later quiet olds news goes.1 in
       omega (arith, was, now, first, others)
+
+  each_desks_later : (quiet : Bool) (olds news : List (List D)) → AllDesksGo k desk_faults quiet olds news → AllLater (λ (list : List D). sum_by desk_faults list) olds news
+  each_desks_later quiet [] [] goes = tt
+  each_desks_later quiet [] (n ∷ news) goes = absurd goes
+  each_desks_later quiet (o ∷ olds) [] goes = absurd goes
+  each_desks_later quiet (o ∷ olds) (n ∷ news) goes = (goes.0.later, each_desks_later quiet olds news goes.1)
 
   rose_some : (first now : ℕ) → Rose (min first (2 ^ 64 - 1)) (min now (2 ^ 64 - 1)) → Rose first now
   rose_some first now rose = grind (arith, rose)
@@ -309,10 +316,16 @@ module _ {K D : Type 0} {g : keeper.Ghosts K D} {h : counted.Ghosts K} {i : coun
         let parts = and_parts (are_calm k old.seats.items) (list_all (λ (list : List D). list_all (is_calm_desk k desk_faults) list) old.desks.items) all in
         and_from _ _ (ap (are_calm k) after ∙ calm_set k old.seats.items r x y stands goes parts.0) (desks_calm k desk_faults quiet old.desks.items new.desks.items desks (still parts.0) parts.1)
 
+    own_later_in : {faults : ℕ} → KeeperGoes k faults 0 (keeper_of x) (keeper_of y) → AllLater (λ (seat : Seat K D g h i). k.own (keeper_of seat)) old.seats.items new.seats.items
+    own_later_in goes = subst (λ (l : List (Seat K D g h i)). AllLater (λ (seat : Seat K D g h i). k.own (keeper_of seat)) old.seats.items l) (sym after)
+        (later_set (λ (seat : Seat K D g h i). k.own (keeper_of seat)) old.seats.items old.seats.items r x y (later_same (λ (seat : Seat K D g h i). k.own (keeper_of seat)) old.seats.items) stands goes.paid.later)
+
     pub goes_in : (faults : ℕ) → KeeperGoes k faults 0 (keeper_of x) (keeper_of y) → WorldGoes k desk_faults faults 0 old new
     goes_in faults goes = record {
       paid = add_desks faults _ _ _ _ _ _ (desks_later k desk_faults quiet old.desks.items new.desks.items desks) (paid_in faults goes);
       calm = calm_in goes;
+      own_later = own_later_in goes;
+      desks_later = each_desks_later k desk_faults quiet old.desks.items new.desks.items desks;
     }
 
     pub goes_failed : (row : List Bool) → PeerFailed desk_faults row old.desks.items new.desks.items → KeeperGoes k 0 0 (keeper_of x) (keeper_of y) → WorldGoes k desk_faults 1 0 old new
@@ -321,6 +334,8 @@ module _ {K D : Type 0} {g : keeper.Ghosts K D} {h : counted.Ghosts K} {i : coun
         record {
           paid = add_fault _ _ _ _ _ _ (desks_rose k desk_faults quiet old.desks.items new.desks.items failed.at desks failed.rose) (desks_later k desk_faults quiet old.desks.items new.desks.items desks) paid.later paid.paid;
           calm = calm_in goes;
+          own_later = own_later_in goes;
+          desks_later = each_desks_later k desk_faults quiet old.desks.items new.desks.items desks;
         }
 
 -- a job that has begun is in flight

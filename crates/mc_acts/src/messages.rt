@@ -34,8 +34,13 @@ pub fn send_in<K: Keeper>(
 ) -> Result<Reply, ActError>
     ensures acts { ActsOn K.Keeper K.Desk.faults (Wire bytes.now) result world.old world.new }
 {
-    let text = Bytes::from_slice(alloc, bytes)?;
-    Ok(send(&mut world.bag, text)?)
+    match Bytes::from_slice(alloc, bytes) {
+        Ok(text) => match send(&mut world.bag, text) {
+            Ok(reply) => Ok(reply),
+            Err(AllocError) => Err(ActError::Memory),
+        },
+        Err(AllocError) => Err(ActError::Memory),
+    }
 }
 
 /// A replica hears a message that was sent.

@@ -18,7 +18,7 @@ use mc_seats::{
     ActError, Held, Idle, Seat, World, call_at, open_at, plant_at, put_at, set_link, state_at,
     stop_at, take_at,
 };
-use std::alloc::Global;
+use std::alloc::{AllocError, Global};
 
 /// Executes a command that is one call of a replica.
 pub fn call_in<K: Keeper>(
@@ -66,8 +66,10 @@ pub fn link_in<K: Keeper>(
     requires there { is_there (state K.Keeper K.Desk.faults world.old) (LinkOf r other up) ≡ true }
     ensures acts { ActsOn K.Keeper K.Desk.faults (LinkOf r other up) result world.old world.new }
 {
-    set_link(&mut world.down, r, other, up)?;
-    Ok(Reply::Done)
+    match set_link(&mut world.down, r, other, up) {
+        Ok(()) => Ok(Reply::Done),
+        Err(AllocError) => Err(ActError::Memory),
+    }
 }
 
 /// Stops a replica.

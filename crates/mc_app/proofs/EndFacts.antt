@@ -1,7 +1,7 @@
 -- How a run ends, and what its keepers tell then.
-use Rattle.std.proofs.Common.{◌≡◌, ◌≤◌, ◌+◌, ◌-◌, ◌^◌, ℕ, List, [], ◌∷◌, length, Option, None, Some, refl, sym, ◌∙◌, ap, subst, arith, inl, inr, false}
+use Rattle.std.proofs.Common.{true, ◌≡◌, ◌≤◌, ◌+◌, ◌-◌, ◌^◌, ℕ, List, [], ◌∷◌, length, Option, None, Some, refl, sym, ◌∙◌, ap, subst, arith, inl, inr, false}
 use Rattle.std.specs.Prelude.{map, min}
-use Rattle.std.specs.List.{sum_by}
+use Rattle.std.specs.List.{list_all, sum_by}
 use Rattle.std.proofs.Math.Seq.{take-length}
 use Rattle.std.proofs.lemmas.List.Sums.{sum_by-cons}
 use Rattle.mc_base.specs.Causes.{Rose}
@@ -21,14 +21,23 @@ use Rattle.mc_seats.specs.declared.seat.Seat.{Seat}
 use Rattle.mc_seats.specs.declared.world.Part.{Part}
 use Rattle.mc_seats.specs.Keepers.{desks_in, keeper_in, keeper_of, own_in}
 use Rattle.mc_seats.specs.Openings.{AreLeft, AreRefused, counted_of, owns_of, parts_of, starts_of}
-use Rattle.mc_app.specs.Outcome.{EndsAt, Outcome, TakenFrom, TakesSome, contents_of, unopened_status}
+use Rattle.mc_app.specs.Generating.{IsStoppedShort}
+use Rattle.mc_app.specs.Outcome.{EndsAt, Outcome, TakenFrom, TakesSome, unopened_status}
+use Rattle.mc_app.specs.Keeping.{EndsParts, HaveAll, HaveSome, TakesParts}
+use Rattle.mc_app.proofs.KeepingFacts.{taken_told, told_in}
+use Rattle.mc_keep.specs.declared.fused.Fused.{Fused}
+use Rattle.mc_seats.specs.Desked.{desks_each, is_full_list}
+use Rattle.mc_seats.proofs.OpeningFacts.{first_true, second_true}
+use Rattle.std.proofs.lemmas.Bool.{eqb-true}
 use Rattle.mc_seats.specs.Effects.{OpensAs}
 use Rattle.mc_runs.specs.Runs.{Answer, MayAnswer}
+use Rattle.mc_app.specs.LineWords.{MayEnd}
+use Rattle.mc_seats.specs.Keepers.{Tally}
 use Rattle.mc_seats.specs.Words.{place}
 use Rattle.mc_seats.specs.Worlds.{Place, WorldState, place_with}
 use Rattle.mc_app.specs.declared.status.Status.{Status}
 use Rattle.mc_app.specs.declared.status.Status.TheVariants as status
-use Rattle.mc_app.proofs.RunFacts.{gives_up_first, nothing_said, untouched}
+use Rattle.mc_app.proofs.RunFacts.{gives_up_first, nothing_said, nothing_yet, untouched}
 use Rattle.mc_seats.specs.Starts.{AreStarts, IsFirst}
 
 -- a replica that was opened over what a keeper tells
@@ -54,10 +63,6 @@ is_first starts = (all starts, refl)
     all [] = tt
     all (told ∷ starts) = (record { content = refl; no_fuse = refl; nothing_planted = refl; opened = runs told }, all starts)
 
-first_contents : (starts : List (Option Kept)) → contents_of (first_world starts) ≡ starts
-first_contents [] = refl
-first_contents (told ∷ starts) = ap (λ l. told ∷ l) (first_contents starts)
-
 module _ {K D : Type 0} {g : keeper.Ghosts K D} {h : counted.Ghosts K} {i : counted.Ghosts D} (k : Members K D) (desk_faults : D → ℕ) where
   content_in : (planted : List _) (held : Held K D g h i) → (place_with k.told k.fuse planted held).content ≡ k.told (keeper_in held)
   content_in planted (Up replica) = refl
@@ -70,6 +75,12 @@ module _ {K D : Type 0} {g : keeper.Ghosts K D} {h : counted.Ghosts K} {i : coun
       ap (λ t. t ∷ starts_of k.told (parts_of seats desks)) (sym (content_in seat.planted seat.held)) ∙ ap (λ l. (place k seat).content ∷ l) (parts_told seats desks (omega (arith, same)))
   parts_told [] (first ∷ desks) same = absurd (omega (arith, same))
   parts_told (seat ∷ seats) [] same = absurd (omega (arith, same))
+
+  -- each with all its desks
+  pub parts_full : (seats : List (Seat K D g h i)) (desks : List (List D)) → list_all is_full_list desks ≡ true → HaveAll (parts_of seats desks)
+  parts_full [] desks full = tt
+  parts_full (seat ∷ seats) [] full = tt
+  parts_full (seat ∷ seats) (first ∷ desks) full = (eqb-true (length first) desks_each (first_true (is_full_list first) (list_all is_full_list desks) full), parts_full seats desks (second_true (is_full_list first) (list_all is_full_list desks) full))
 
   pub parts_counted : (seats : List (Seat K D g h i)) (desks : List (List D)) → length seats ≡ length desks → counted_of k desk_faults (parts_of seats desks) ≡ own_in k seats + desks_in desk_faults desks
   parts_counted [] [] same = refl
@@ -89,6 +100,12 @@ module _ {K D : Type 0} (k : Members K D) where
   left_told [] (back ∷ lefts) left = absurd left
   left_told (part ∷ parts) [] left = absurd left
 
+  left_few : (parts lefts : List (Part K D)) → AreLeft k parts lefts → HaveSome lefts
+  left_few [] [] left = tt
+  left_few (part ∷ parts) (back ∷ lefts) left = (left.0.few, left_few parts lefts left.1)
+  left_few [] (back ∷ lefts) left = absurd left
+  left_few (part ∷ parts) [] left = absurd left
+
   owns_within : (desk_faults : D → ℕ) (parts : List (Part K D)) → owns_of k parts ≤ counted_of k desk_faults parts
   owns_within desk_faults [] = omega arith
   owns_within desk_faults (part ∷ parts) =
@@ -98,13 +115,23 @@ module _ {K D : Type 0} (k : Members K D) where
 
   module _ (desk_faults : D → ℕ) (cause : OpenCause) (parts lefts : List (Part K D)) (refused : AreRefused k cause parts lefts) where
     -- nothing was read or written, and the parts tell the same
-    pub refused_outcome : (end : Status) (first old : Option (List ℕ)) (calm : Type 0) → end ≡ unopened_status cause → Told first first (λ script left. Outcome end script left (IsFirst (starts_of k.told parts)) (MayAnswer calm 0 (counted_of k desk_faults lefts)) (λ w. contents_of w ≡ starts_of k.told lefts) old old)
-    refused_outcome end first old calm is = subst (λ (s : Status). Told first first (λ script left. Outcome s script left (IsFirst (starts_of k.told parts)) (MayAnswer calm 0 (counted_of k desk_faults lefts)) (λ w. contents_of w ≡ starts_of k.told lefts) old old)) (sym is) (by_cause cause)
+    pub refused_outcome : (end : Status) (first old : Option (List ℕ)) (calm : Type 0) → end ≡ unopened_status cause → Told first first (λ script left. Outcome end script left (IsFirst (starts_of k.told parts)) (MayAnswer calm 0 (counted_of k desk_faults lefts)) (EndsParts k.told end (starts_of k.told parts) lefts) old old)
+    refused_outcome end first old calm is = subst (λ (s : Status). Told first first (λ script left. Outcome s script left (IsFirst (starts_of k.told parts)) (MayAnswer calm 0 (counted_of k desk_faults lefts)) (EndsParts k.told s (starts_of k.told parts) lefts) old old)) (sym is) (by_cause cause)
       where
-        by_cause : (cause : OpenCause) → Told first first (λ script left. Outcome (unopened_status cause) script left (IsFirst (starts_of k.told parts)) (MayAnswer calm 0 (counted_of k desk_faults lefts)) (λ w. contents_of w ≡ starts_of k.told lefts) old old)
+        by_cause : (cause : OpenCause) → Told first first (λ script left. Outcome (unopened_status cause) script left (IsFirst (starts_of k.told parts)) (MayAnswer calm 0 (counted_of k desk_faults lefts)) (EndsParts k.told (unopened_status cause) (starts_of k.told parts) lefts) old old)
         by_cause causes.KeeperFault = untouched first old
-        by_cause causes.Memory = gives_up_first (IsFirst (starts_of k.told parts)) (MayAnswer calm 0 (counted_of k desk_faults lefts)) (λ w. contents_of w ≡ starts_of k.told lefts) (first_world (starts_of k.told parts)) first old
-            (is_first (starts_of k.told parts)) (nothing_said calm 0 (counted_of k desk_faults lefts) (omega arith)) (first_contents (starts_of k.told parts) ∙ sym (left_told parts lefts refused.left))
+        by_cause causes.Memory = gives_up_first (IsFirst (starts_of k.told parts)) (MayAnswer calm 0 (counted_of k desk_faults lefts)) (EndsParts k.told status.Memory (starts_of k.told parts) lefts) (first_world (starts_of k.told parts)) first old
+            (is_first (starts_of k.told parts)) (nothing_said calm 0 (counted_of k desk_faults lefts) (omega arith)) (inr (refl, is_first (starts_of k.told parts), left_told parts lefts refused.left))
+
+    -- so is it of a generated script
+    pub refused_short : (end : Status) (script : List ℕ) (calm : Type 0) → end ≡ status.Memory → IsStoppedShort script (IsFirst (starts_of k.told parts)) (MayAnswer calm 0 (counted_of k desk_faults lefts)) (EndsParts k.told end (starts_of k.told parts) lefts)
+    refused_short end script calm is = record {
+      progress = nothing_yet script (IsFirst (starts_of k.told parts)) (first_world (starts_of k.told parts)) (MayAnswer calm 0 (counted_of k desk_faults lefts)) (is_first (starts_of k.told parts)) (nothing_said calm 0 (counted_of k desk_faults lefts) (omega arith));
+      last = inl (inr (is, is_first (starts_of k.told parts), left_told parts lefts refused.left));
+    }
+
+    pub refused_few : HaveSome lefts
+    refused_few = left_few parts lefts refused.left
 
     is_cause : (cause : OpenCause) → unopened_status cause ≡ status.KeeperFault → cause ≡ causes.KeeperFault
     is_cause causes.KeeperFault e = refl
@@ -117,21 +144,46 @@ module _ {K D : Type 0} (k : Members K D) where
     refused_rose end is none e = let rose = refused.rose (is_cause cause (sym is ∙ e)) in let within = owns_within desk_faults lefts in omega (arith, none, rose, within)
 
 -- what may be answered, where nothing was counted before
-pub may_fresh : (calm still : Type 0) (before armed count now : ℕ) (lines : List (List ℕ)) (answers : List (Option Answer)) → before ≡ 0 → armed ≡ 0 → now ≡ count → (calm → still) → MayAnswer still before (count + armed) lines answers → MayAnswer calm 0 now lines answers
-may_fresh calm still before armed count now lines answers none unarmed same stays may = (omega (arith, none, unarmed, same, may.0), λ c. may.1 (stays c))
+pub may_fresh : (calm : Type 0) (first : Tally) (count now : ℕ) (lines : List (List ℕ)) (answers : List (Option Answer)) → first.count ≡ 0 → first.armed ≡ 0 → now ≡ count → (calm → first.calm ≡ true) → MayEnd first count lines answers → MayAnswer calm 0 now lines answers
+may_fresh calm first count now lines answers none unarmed same stays may =
+    let paid = may.paid in
+    let own_paid = may.own_paid in record {
+      paid = omega (arith, none, unarmed, same, paid);
+      own_paid = omega (arith, none, same, own_paid);
+      own_none = λ c. may.own_none (stays c);
+    }
 
 -- and where the keepers are given back
 pub may_lost : (calm still : Type 0) (count lost mid after : ℕ) (lines : List (List ℕ)) (answers : List (Option Answer)) → mid ≡ lost → min (mid + count) (2 ^ 64 - 1) ≤ after → (calm → still) → MayAnswer still 0 count lines answers → MayAnswer calm lost after lines answers
-may_lost calm still count lost mid after lines answers same later stays may = (omega (arith, same, later, may.0), λ c. may.1 (stays c))
+may_lost calm still count lost mid after lines answers same later stays may =
+    let paid = may.paid in
+    let own_paid = may.own_paid in record {
+      paid = omega (arith, same, later, paid);
+      own_paid = omega (arith, same, later, own_paid);
+      own_none = λ c. may.own_none (stays c);
+    }
+
+-- under a weaker word for calm
+pub may_calm : (calm still : Type 0) (before now : ℕ) (lines : List (List ℕ)) (answers : List (Option Answer)) → (calm → still) → MayAnswer still before now lines answers → MayAnswer calm before now lines answers
+may_calm calm still before now lines answers stays may = record { paid = may.paid; own_paid = may.own_paid; own_none = λ c. may.own_none (stays c) }
+
+-- parts that have all their desks have no more
+pub all_some : {K D : Type 0} (parts : List (Part K D)) → HaveAll parts → HaveSome parts
+all_some [] all = tt
+all_some (part ∷ parts) all = let many = all.0 in (omega (arith, many), all_some parts all.1)
 
 module _ {M K D : Type 0} (takes : M → K → List D → M → Type 0) (told : K → Option Kept) where
-  -- the keepers of the last world are given back
-  pub ends_taken : (end : Status) (starts contents : List (Option Kept)) (before last : M) (w : WorldState) → contents_of w ≡ contents → TakenFrom takes told before contents last → EndsAt takes told end starts last w
-  ends_taken end starts contents before last w same taken = inl (before, subst (λ (l : List (Option Kept)). TakenFrom takes told before l last) (sym same) taken)
-
   -- all keepers that were made were taken back as they were
-  pub all_taken : (starts contents : List (Option Kept)) (before last : M) → contents ≡ starts → TakenFrom takes told before contents last → TakesSome takes told starts last
-  all_taken starts contents before last same taken = (length starts, (before, subst (λ (l : List (Option Kept)). TakenFrom takes told before l last) (same ∙ sym (take-length starts)) taken))
+  pub all_taken : (starts : List (Option Kept)) (parts : List (Part (Fused K) D)) (before last : M) → TakesParts takes before parts last → HaveSome parts → starts_of (told_in told) parts ≡ starts → TakesSome takes told starts last
+  all_taken starts parts before last taken few same =
+      (length starts, before, subst (λ (l : List (Option Kept)). TakenFrom takes told (λ many. many ≤ desks_each) before l last) (same ∙ sym (take-length starts)) (taken_told takes told (λ many. many ≤ desks_each) before last parts taken few))
+
+  -- the keepers of the last world are given back
+  pub ends_taken : (end : Status) (given starts : List (Option Kept)) (parts : List (Part (Fused K) D)) (before last : M) (w : WorldState) → TakesParts takes before parts last → HaveSome parts → given ≡ starts → EndsParts (told_in told) end given parts w → EndsAt takes told end starts last w
+  ends_taken end given starts parts before last w taken few same (inl (ends, full)) =
+      inl (before, subst (λ (l : List (Option Kept)). TakenFrom takes told (λ many. many ≡ desks_each) before l last) (sym ends) (taken_told takes told (λ many. many ≡ desks_each) before last parts taken full))
+  ends_taken end given starts parts before last w taken few same (inr (is, begins, back)) =
+      inr (is, subst (λ (l : List (Option Kept)). IsFirst l w) same begins, all_taken starts parts before last taken few (back ∙ same))
 
   -- not all keepers were made
   pub unmade_outcome : (cause : OpenCause) (end : Status) (starts : List (Option Kept)) (last : M) (calm : Type 0) (lost lost_now : ℕ) (first old : Option (List ℕ)) → end ≡ unopened_status cause → TakesSome takes told starts last → min lost (2 ^ 64 - 1) ≤ lost_now
@@ -141,3 +193,10 @@ module _ {M K D : Type 0} (takes : M → K → List D → M → Type 0) (told : 
       by_cause : (cause : OpenCause) → Told first first (λ script left. Outcome (unopened_status cause) script left (IsFirst starts) (MayAnswer calm lost lost_now) (EndsAt takes told (unopened_status cause) starts last) old old)
       by_cause causes.KeeperFault = untouched first old
       by_cause causes.Memory = gives_up_first (IsFirst starts) (MayAnswer calm lost lost_now) (EndsAt takes told status.Memory starts last) (first_world starts) first old (is_first starts) (nothing_said calm lost lost_now later) (inr (refl, is_first starts, taken))
+
+  pub unmade_short : (end : Status) (script : List ℕ) (starts : List (Option Kept)) (last : M) (calm : Type 0) (lost lost_now : ℕ) → TakesSome takes told starts last → min lost (2 ^ 64 - 1) ≤ lost_now → end ≡ status.Memory
+      → IsStoppedShort script (IsFirst starts) (MayAnswer calm lost lost_now) (EndsAt takes told end starts last)
+  unmade_short end script starts last calm lost lost_now taken later is = record {
+    progress = nothing_yet script (IsFirst starts) (first_world starts) (MayAnswer calm lost lost_now) (is_first starts) (nothing_said calm lost lost_now later);
+    last = inl (inr (is, is_first starts, taken));
+  }

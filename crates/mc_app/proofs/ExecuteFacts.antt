@@ -3,7 +3,6 @@ use Rattle.std.proofs.Common.{◌≡◌, ℕ, zero, suc, Bool, true, false, true
 use Rattle.std.specs.Prelude.{OnOk, IfOk, IsErrOf, ◌||◌, ◌⊎◌, nat_eq}
 use Rattle.std.specs.List.{list_all, sum_by}
 use Rattle.std.specs.Io.KnownBytes.{Appends}
-use Rattle.std.proofs.lemmas.Bool.{eq-eqb}
 use Rattle.std.proofs.lemmas.Bool.Decides.{nat_tests}
 use Rattle.std.proofs.lemmas.List.Sums.{sum_by-cons}
 use Rattle.mc_base.specs.Told.{AppendsPart}
@@ -23,57 +22,82 @@ use Rattle.mc_seats.specs.Keepers.{WorldGoes, desk_count, is_calm, is_calm_desk,
 use Rattle.mc_app.specs.LineWords.{AnswersIn}
 use Rattle.mc_seats.specs.Record.{NamesNone, RoseIn}
 use Rattle.mc_runs.specs.Runs.{Answer, names_none, owns_none}
-use Rattle.mc_seats.specs.Step.{LeavesStep, Row, Step, answers_fault, is_fault}
+use Rattle.mc_seats.specs.Step.{IsFaulted, IsPeerFault, LeavesStep, Row, Step, answers_fault, is_fault}
 use Rattle.mc_seats.specs.Words.{DeskRose, KeeperRose, OwnRose, Records, Shortens, state, tally}
 use Rattle.mc_seats.specs.Worlds.{WorldState}
 use Rattle.mc_seats.proofs.OpeningFacts.{both_true, first_true, second_true}
 use Rattle.mc_seats.proofs.WorkedFacts.{cut_map}
+use Rattle.mc_app.proofs.OwnFacts.{named_first, named_one, own_paid, rises_or}
 
-named_itself : (r : ℕ) → is_named (r ∷ []) r ≡ true
-named_itself r = ap (λ (b : Bool). b || false) (eq-eqb r r refl)
-
--- The entry of a command that was done and not recorded: it names what failed, and where all was calm none that failed by
--- itself.
-pub record IsEntry (w : WorldState) (command : Command) (calm : Bool) (reply : Reply) (w2 : WorldState) : Type 0 where
+-- The entry of a command that was done and not recorded: it names none but what failed, and where all was calm none that
+-- failed by itself.
+pub record IsEntry (w : WorldState) (command : Command) (calm : Bool) (own desk : ℕ → Type 0) (reply : Reply) (w2 : WorldState) : Type 0 where
   pub entry : LineEntry
   pub step : Step w command entry reply w2
+  pub owns : (r : ℕ) → is_named entry.own r ≡ true → own r
+  pub desked : (r : ℕ) → is_named entry.desks r ≡ true → desk r
   pub owned : calm ≡ true → NamesNone entry
 
-pub entry_of : (w : WorldState) (command : Command) (calm : Bool) (named own desk : ℕ → Type 0) (reply : Reply) (w2 : WorldState) → is_there w command ≡ true → (calm ≡ true → (r : ℕ) → own r → ⊥) → (calm ≡ true → (r : ℕ) → desk r → ⊥)
-    → Row w command named own desk reply w2 → IsEntry w command calm reply w2
-entry_of w command calm named own desk reply w2 there no_own no_desk (inl (inl (inl refused))) = record { entry = record { keepers = []; desks = []; own = [] }; step = record { there = there; row = inl (inl (inl refused)) }; owned = λ e. (refl, refl) }
-entry_of w command calm named own desk reply w2 there no_own no_desk (inl (inl (inr done))) = record { entry = record { keepers = []; desks = []; own = [] }; step = record { there = there; row = inl (inl (inr done)) }; owned = λ e. (refl, refl) }
-entry_of w command calm named own desk reply w2 there no_own no_desk (inl (inr fault)) = by_calm calm no_own
-  where
-    row_of : (list : List ℕ) → (own fault.at → is_named list fault.at ≡ true) → Step w command (record { keepers = fault.at ∷ []; desks = []; own = list }) reply w2
-    row_of list f = record {
-      there = there;
-      row = inl (inr (record {
-        at = fault.at;
-        among = fault.among;
-        asked = fault.asked;
-        cause = named_itself fault.at;
-        says = fault.says;
-        moved = record { old = fault.moved.old; new = fault.moved.new; stands = fault.moved.stands; after = fault.moved.after; holds = cut_map w command (own fault.at) (is_named list fault.at ≡ true) fault.moved.old fault.moved.new f fault.moved.holds };
-        around = fault.around;
-      }));
-    }
+none_named : (P : ℕ → Type 0) (r : ℕ) → is_named [] r ≡ true → P r
+none_named P r e = absurd (true≢false (sym e))
 
-    by_calm : (calm : Bool) → (calm ≡ true → (r : ℕ) → own r → ⊥) → IsEntry w command calm reply w2
-    by_calm true none = record { entry = record { keepers = fault.at ∷ []; desks = []; own = [] }; step = row_of [] (λ failed. absurd (none refl fault.at failed)); owned = λ e. (refl, refl) }
-    by_calm false none = record { entry = record { keepers = fault.at ∷ []; desks = []; own = fault.at ∷ [] }; step = row_of (fault.at ∷ []) (λ failed. named_itself fault.at); owned = λ e. absurd (true≢false (sym e)) }
-entry_of w command calm named own desk reply w2 there no_own no_desk (inr peer) = by_calm calm no_desk
-  where
-    by_calm : (calm : Bool) → (calm ≡ true → (r : ℕ) → desk r → ⊥) → IsEntry w command calm reply w2
-    by_calm true none = absurd (none refl peer.at peer.cause)
-    by_calm false none = record {
-      entry = record { keepers = []; desks = peer.at ∷ []; own = [] };
-      step = record {
+one_named : (P : ℕ → Type 0) (at r : ℕ) → P at → is_named (at ∷ []) r ≡ true → P r
+one_named P at r holds e = subst P (named_one at r e) holds
+
+module _ (w : WorldState) (command : Command) (calm : Bool) (named own desk : ℕ → Type 0) (reply : Reply) (w2 : WorldState) (there : is_there w command ≡ true) where
+  plain_entry : Row w command (λ r. is_named [] r ≡ true) (λ r. is_named [] r ≡ true) (λ r. is_named [] r ≡ true) reply w2 → IsEntry w command calm own desk reply w2
+  plain_entry row = record { entry = record { keepers = []; desks = []; own = [] }; step = record { there = there; row = row }; owns = none_named own; desked = none_named desk; owned = λ e. (refl, refl) }
+
+  fault_entry : (fault : IsFaulted w command named own reply w2) → (calm ≡ true → own fault.at → ⊥) → own fault.at ⊎ (own fault.at → ⊥) → IsEntry w command calm own desk reply w2
+  fault_entry fault no_own decided = over decided
+    where
+      step_of : (list : List ℕ) → (own fault.at → is_named list fault.at ≡ true) → Step w command (record { keepers = fault.at ∷ []; desks = []; own = list }) reply w2
+      step_of list f = record {
         there = there;
-        row = inr (record { at = peer.at; among = peer.among; allowed = peer.allowed; cause = named_itself peer.at; says = peer.says; moved = peer.moved; around = peer.around });
-      };
-      owned = λ e. absurd (true≢false (sym e));
-    }
+        row = inl (inr (record {
+          at = fault.at;
+          among = fault.among;
+          asked = fault.asked;
+          cause = named_first fault.at [];
+          says = fault.says;
+          moved = record { old = fault.moved.old; new = fault.moved.new; stands = fault.moved.stands; after = fault.moved.after; holds = cut_map w command (own fault.at) (is_named list fault.at ≡ true) fault.moved.old fault.moved.new f fault.moved.holds };
+          around = fault.around;
+        }));
+      }
+
+      over : own fault.at ⊎ (own fault.at → ⊥) → IsEntry w command calm own desk reply w2
+      over (inl failed) = record {
+        entry = record { keepers = fault.at ∷ []; desks = []; own = fault.at ∷ [] };
+        step = step_of (fault.at ∷ []) (λ _. named_first fault.at []);
+        owns = λ r. one_named own fault.at r failed;
+        desked = none_named desk;
+        owned = λ e. absurd (no_own e failed);
+      }
+      over (inr well) = record {
+        entry = record { keepers = fault.at ∷ []; desks = []; own = [] };
+        step = step_of [] (λ failed. absurd (well failed));
+        owns = none_named own;
+        desked = none_named desk;
+        owned = λ e. (refl, refl);
+      }
+
+  peer_entry : (peer : IsPeerFault w command desk reply w2) → (calm ≡ true → desk peer.at → ⊥) → IsEntry w command calm own desk reply w2
+  peer_entry peer no_desk = record {
+    entry = record { keepers = []; desks = peer.at ∷ []; own = [] };
+    step = record {
+      there = there;
+      row = inr (record { at = peer.at; among = peer.among; allowed = peer.allowed; cause = named_first peer.at []; says = peer.says; moved = peer.moved; around = peer.around });
+    };
+    owns = none_named own;
+    desked = λ r. one_named desk peer.at r peer.cause;
+    owned = λ e. absurd (no_desk e peer.cause);
+  }
+
+  pub entry_of : (calm ≡ true → (r : ℕ) → own r → ⊥) → (calm ≡ true → (r : ℕ) → desk r → ⊥) → ((r : ℕ) → own r ⊎ (own r → ⊥)) → Row w command named own desk reply w2 → IsEntry w command calm own desk reply w2
+  entry_of no_own no_desk decide (inl (inl (inl refused))) = plain_entry (inl (inl (inl refused)))
+  entry_of no_own no_desk decide (inl (inl (inr done))) = plain_entry (inl (inl (inr done)))
+  entry_of no_own no_desk decide (inl (inr fault)) = fault_entry fault (λ e. no_own e fault.at) (decide fault.at)
+  entry_of no_own no_desk decide (inr peer) = peer_entry peer (λ e. no_desk e peer.at)
 
 -- what is calm before and after did not fail
 no_rise : {A : Type 0} (count : A → ℕ) (calm : A → Bool) → ((x : A) → calm x ≡ true → count x ≡ 0) → (xs ys : List A) (r : ℕ) → list_all calm xs ≡ true → list_all calm ys ≡ true → RoseIn count xs ys r → ⊥
@@ -98,7 +122,12 @@ module _ {K D : Type 0} {g : keeper.Ghosts K D} {h : counted.Ghosts K} {i : coun
     says = refl;
     answered = record {
       step = line.holds.1;
-      tallies = record { paid = goes.paid; calm = goes.calm; owned = λ calm. owns_of_none (record { reply = reply; entry = line.entry }) (line.holds.0.calm calm) };
+      tallies = record {
+        paid = goes.paid;
+        own_paid = own_paid k desk_faults goes line.entry.own line.entry.desks (λ r. (line.holds.0.owns r).0) (λ r. (line.holds.0.desks r).0);
+        calm = goes.calm;
+        owned = λ calm. owns_of_none (record { reply = reply; entry = line.entry }) (line.holds.0.calm calm);
+      };
     };
   }
 
@@ -129,10 +158,20 @@ module _ {K D : Type 0} {g : keeper.Ghosts K D} {h : counted.Ghosts K} {i : coun
           ⊎ ((answer : Answer) × IsAnswered (state k desk_faults old) (tally k desk_faults old) (Some (Some command)) (state k desk_faults new) (tally k desk_faults new) (Some answer))
       by_left (inl leaves) = inl leaves
       by_left (inr (reply, there, row, done)) =
-          let found : IsEntry (state k desk_faults old) command (is_calm k desk_faults old) reply (state k desk_faults new) = entry_of _ command (is_calm k desk_faults old) _ _ _ reply _ there (λ calm. no_own calm (done.calm calm)) (λ calm. no_desk calm (done.calm calm)) row in
+          let found : IsEntry (state k desk_faults old) command (is_calm k desk_faults old) (OwnRose k desk_faults old new) (DeskRose k desk_faults old new) reply (state k desk_faults new) =
+          entry_of (state k desk_faults old) command (is_calm k desk_faults old) (KeeperRose k desk_faults old new) (OwnRose k desk_faults old new) (DeskRose k desk_faults old new) reply (state k desk_faults new) there
+          (λ calm. no_own calm (done.calm calm)) (λ calm. no_desk calm (done.calm calm)) (λ r. rises_or (λ (seat : Seat K D g h i). k.own (keeper_of seat)) old.seats.items new.seats.items r) row in
           inr (
             record { reply = reply; entry = found.entry },
-            record { step = found.step; tallies = record { paid = done.paid; calm = done.calm; owned = λ calm. owns_of_none (record { reply = reply; entry = found.entry }) (found.owned calm) } },
+            record {
+              step = found.step;
+              tallies = record {
+                paid = done.paid;
+                own_paid = own_paid k desk_faults done found.entry.own found.entry.desks found.owns found.desked;
+                calm = done.calm;
+                owned = λ calm. owns_of_none (record { reply = reply; entry = found.entry }) (found.owned calm);
+              };
+            },
           )
 
 -- an answer that is written, or some first bytes of it
@@ -142,4 +181,4 @@ module _ {K D : Type 0} {g : keeper.Ghosts K D} {h : counted.Ghosts K} {i : coun
   executes before after (Ok done) written = record { answer = Some is.answer; answered = is.answered; written = subst (λ (r : Reply). Appends before after (reply_text r)) (sym is.says) written }
 
   pub executes_part : (before after : Option (List ℕ)) → AppendsPart before after (reply_text reply) → ExecutesPart (state k desk_faults old) (tally k desk_faults old) (Some (Some command)) (state k desk_faults new) (tally k desk_faults new) before after
-  executes_part before after written = record { answer = Some is.answer; answered = is.answered; written = subst (λ (r : Reply). AppendsPart before after (reply_text r)) (sym is.says) written }
+  executes_part before after written = record { answer = is.answer; answered = is.answered; written = subst (λ (r : Reply). AppendsPart before after (reply_text r)) (sym is.says) written }

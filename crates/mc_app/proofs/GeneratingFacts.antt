@@ -1,5 +1,5 @@
 -- What is written for a generated script.
-use Rattle.std.proofs.Common.{◌≡◌, ◌∙◌, ℕ, List, Option, None, Some, refl, sym, subst, inl, inr}
+use Rattle.std.proofs.Common.{◌≡◌, ◌∙◌, ℕ, List, Option, None, Some, refl, sym, subst, inl, inr, length}
 use Rattle.std.specs.Prelude.{◌⊎◌, ⊤}
 use Rattle.std.specs.Io.KnownBytes.{Appends}
 use Rattle.mc_core.specs.declared.replica.OpenCause.{OpenCause}
@@ -8,14 +8,14 @@ use Rattle.mc_gen.specs.Script.{script_text}
 use Rattle.mc_gen.specs.Summary.{summary_text}
 use Rattle.mc_app.specs.declared.command_line.Request.{Request}
 use Rattle.mc_app.specs.declared.command_line.Request.TheVariants.{Gen as GenFrom, Run as RunOver}
-use Rattle.mc_app.specs.Generating.{EndsSummary, Generates, IsAllAnswered, IsSaid, IsStoppedBad, replies_of}
+use Rattle.mc_app.specs.Generating.{EndsSummary, Generates, IsAllAnswered, IsSaid, IsStoppedBad, IsStoppedShort, replies_of}
 use Rattle.mc_app.specs.Progress.{bad_line_text}
 use Rattle.mc_app.specs.Refusal.{EndsBad}
 use Rattle.mc_runs.specs.Runs.{Answer}
 use Rattle.mc_seats.specs.Worlds.{WorldState}
 use Rattle.mc_app.specs.declared.status.Status.{Status}
 use Rattle.mc_app.specs.declared.status.Status.TheVariants.{Done, Usage, BadLine, ReadFault, WriteFault, KeeperFault, Memory}
-use Rattle.mc_app.proofs.RunFacts.{keeps_same, progress_map}
+use Rattle.mc_app.proofs.RunFacts.{keeps_same, progress_map, short_map}
 use Rattle.mc_app.specs.Outcome.{unopened_status}
 
 module _ (script : List ℕ) (First First2 : WorldState → Type 0)
@@ -29,6 +29,9 @@ module _ (script : List ℕ) (First First2 : WorldState → Type 0)
   abbrev bad_map : (number : ℕ) → IsStoppedBad script First May Ends number → IsStoppedBad script First2 May2 Ends2 number
   bad_map number bad = record { progress = progress_map script First First2 May May2 b f bad.progress; last = g bad.progress.world bad.last; meets = record { counted = bad.meets.counted; bad = bad.meets.bad } }
 
+  abbrev stopped_map : IsStoppedShort script First May Ends → IsStoppedShort script First2 May2 Ends2
+  stopped_map short = record { progress = progress_map script First First2 May May2 b f short.progress; last = short_map Ends Ends2 (length short.progress.taken) short.progress.ahead short.progress.world g short.last }
+
   said_map : (count : ℕ) (text : List ℕ) → IsSaid script First May Ends count text → IsSaid script First2 May2 Ends2 count text
   said_map count text (inl (all, is)) = inl (all_map all, is)
   said_map count text (inr (number, bad, is)) = inr (number, bad_map number bad, is)
@@ -40,7 +43,7 @@ module _ (script : List ℕ) (First First2 : WorldState → Type 0)
   generates_map (BadLine number) count old new (bad, written) = (bad_map number bad, written)
   generates_map WriteFault count old new part = record { text = part.text; said = said_map count part.text part.said; written = part.written }
   generates_map KeeperFault count old new kept = kept
-  generates_map Memory count old new kept = kept
+  generates_map Memory count old new (short, kept) = (stopped_map short, kept)
   generates_map Usage count old new o = absurd o
   generates_map ReadFault count old new o = absurd o
 
@@ -52,7 +55,7 @@ module _ (script : List ℕ) (First : WorldState → Type 0) (May : List (List �
       → Generates script First May Ends status count old new
   said_whole Done all written = (all, written)
   said_whole WriteFault all part = record { text = summary_text count (replies_of all.progress.answers); said = inl (all, refl); written = part }
-  said_whole Memory all kept = kept
+  said_whole Memory all kept = (record { progress = all.progress; last = inl all.last }, kept)
   said_whole Usage all o = absurd o
   said_whole (BadLine line) all o = absurd o
   said_whole ReadFault all o = absurd o
@@ -66,7 +69,7 @@ module _ (script : List ℕ) (First : WorldState → Type 0) (May : List (List �
     subst (λ (n : ℕ). Appends old new (bad_line_text n)) (sym refuses.0) refuses.1,
   )
   said_bad WriteFault line bad part = record { text = bad_line_text line; said = inr (line, bad, refl); written = part }
-  said_bad Memory line bad kept = kept
+  said_bad Memory line bad kept = (record { progress = bad.progress; last = inl bad.last }, kept)
   said_bad Done line bad o = absurd o
   said_bad Usage line bad o = absurd o
   said_bad ReadFault line bad o = absurd o
@@ -76,13 +79,12 @@ module _ (script : List ℕ) (First : WorldState → Type 0) (May : List (List �
 pub unopened_generates : (script : List ℕ) (First : WorldState → Type 0)
     (May : List (List ℕ) → List (Option Answer) → Type 0) (Ends : WorldState → Type 0) (count : ℕ)
     (old : Option (List ℕ)) (cause : OpenCause) (status : Status) → status ≡ unopened_status cause
-    → Generates script First May Ends status count old old
-unopened_generates script First May Ends count old cause status is =
-    subst (λ (s : Status). Generates script First May Ends s count old old) (sym is) (by_cause cause)
+    → (status ≡ Memory → IsStoppedShort script First May Ends) → Generates script First May Ends status count old old
+unopened_generates script First May Ends count old cause status is short = by_cause cause is
   where
-    by_cause : (cause : OpenCause) → Generates script First May Ends (unopened_status cause) count old old
-    by_cause causes.KeeperFault = keeps_same old
-    by_cause causes.Memory = keeps_same old
+    by_cause : (cause : OpenCause) → status ≡ unopened_status cause → Generates script First May Ends status count old old
+    by_cause causes.KeeperFault is = subst (λ (s : Status). Generates script First May Ends s count old old) (sym is) (keeps_same old)
+    by_cause causes.Memory is = subst (λ (s : Status). Generates script First May Ends s count old old) (sym is) (short is, keeps_same old)
 
 -- the words ask for one script alone
 pub generates_asked : (First : WorldState → Type 0) (May : List (List ℕ) → List (Option Answer) → Type 0)

@@ -13,7 +13,9 @@ use Rattle.mc_model.specs.Kept.{Kept}
 use Rattle.mc_seats.specs.declared.world.Part.{Part}
 use Rattle.mc_seats.specs.Keepers.{is_calm_keeper}
 use Rattle.mc_seats.specs.Openings.{AreFresh, IsFresh, are_calm, owns_of, starts_of}
+use Rattle.mc_app.specs.Keeping.{HaveDesks, HaveSome, TakesParts}
 use Rattle.mc_app.specs.Outcome.{TakenFrom, TakesSome, starts_from}
+use Rattle.mc_seats.specs.Desked.{desks_each}
 use Rattle.mc_seats.proofs.OpeningFacts.{both_true}
 
 -- what a fused keeper tells, by the one inside
@@ -24,17 +26,19 @@ told_in told fused = told fused.keeper
 abbrev pub count_in : {K D : Type 0} → (K → ℕ) → (D → ℕ) → Part (Fused K) D → ℕ
 count_in faults desk_faults part = faults part.keeper.keeper + sum_by desk_faults part.desks
 
-module _ {M K D : Type 0} (takes : M → K → List D → M → Type 0) (told : K → Option Kept) where
-  taken_push : (first mid last : M) (contents : List (Option Kept)) (keeper : K) (desks : List D) → TakenFrom takes told first contents mid → takes mid keeper desks last → TakenFrom takes told first (contents ++ told keeper ∷ []) last
-  taken_push first mid last [] keeper desks from next = (keeper, desks, last, subst (λ (m : M). takes m keeper desks last) from next, refl, refl)
-  taken_push first mid last (content ∷ contents) keeper desks from next = (from.0, from.1, from.2, from.3, from.4, taken_push from.2 mid last contents keeper desks from.5 next)
+-- parts that are given back one after the other
+
+module _ {M K D : Type 0} (takes : M → K → List D → M → Type 0) where
+  taken_push : (first mid last : M) (parts : List (Part (Fused K) D)) (part : Part (Fused K) D) → TakesParts takes first parts mid → takes mid part.keeper.keeper part.desks last → TakesParts takes first (parts ++ part ∷ []) last
+  taken_push first mid last [] part from next = (last, subst (λ (m : M). takes m part.keeper.keeper part.desks last) from next, refl)
+  taken_push first mid last (front ∷ parts) part from next = (from.0, from.1, taken_push from.0 mid last parts part from.2 next)
 
   module _ (faults : K → ℕ) (desk_faults : D → ℕ) (lost : M → ℕ) where
     -- where the loop stands that gives keepers back
     pub record IsGivingBack (first : M) (all parts : List (Part (Fused K) D)) (now : M) : Type 0 where
-      pub taken : List (Option Kept)
-      pub split : starts_of (told_in told) all ≡ taken ++ starts_of (told_in told) parts
-      pub from : TakenFrom takes told first taken now
+      pub taken : List (Part (Fused K) D)
+      pub split : all ≡ taken ++ parts
+      pub from : TakesParts takes first taken now
       pub done : ℕ
       pub total : done + sum_by (count_in faults desk_faults) parts ≡ sum_by (count_in faults desk_faults) all
       pub later : min (lost first + done) (2 ^ 64 - 1) ≤ lost now
@@ -48,21 +52,26 @@ module _ {M K D : Type 0} (takes : M → K → List D → M → Type 0) (told : 
         let sum : sum_by (count_in faults desk_faults) parts ≡ (faults part.keeper.keeper + sum_by desk_faults part.desks) + sum_by (count_in faults desk_faults) rest = ap (λ (l : List (Part (Fused K) D)). sum_by (count_in faults desk_faults) l) out ∙ sum_by-cons (count_in faults desk_faults) part rest in
         let same : faults keeper ≡ faults part.keeper.keeper = ap faults is in
         record {
-          taken = back.taken ++ told part.keeper.keeper ∷ [];
-          split = back.split ∙ ap (λ (l : List (Part (Fused K) D)). back.taken ++ starts_of (told_in told) l) out ∙ sym (append_assoc back.taken (told part.keeper.keeper ∷ []) (starts_of (told_in told) rest));
-          from = taken_push first mid last back.taken part.keeper.keeper part.desks back.from (subst (λ (kept : K). takes mid kept part.desks last) is next);
+          taken = back.taken ++ part ∷ [];
+          split = back.split ∙ ap (λ (l : List (Part (Fused K) D)). back.taken ++ l) out ∙ sym (append_assoc back.taken (part ∷ []) rest);
+          from = taken_push first mid last back.taken part back.from (subst (λ (k : K). takes mid k part.desks last) is next);
           done = back.done + (faults part.keeper.keeper + sum_by desk_faults part.desks);
           total = omega (arith, back.total, sum);
           later = omega (arith, back.later, count, same);
         }
 
-    pub back_taken : (first last : M) (all parts : List (Part (Fused K) D)) → IsGivingBack first all parts last → length parts ≡ 0 → TakenFrom takes told first (starts_of (told_in told) all) last
-    back_taken first last all [] back none = subst (λ (l : List (Option Kept)). TakenFrom takes told first l last) (sym (back.split ∙ append-nil back.taken)) back.from
+    pub back_taken : (first last : M) (all parts : List (Part (Fused K) D)) → IsGivingBack first all parts last → length parts ≡ 0 → TakesParts takes first all last
+    back_taken first last all [] back none = subst (λ (l : List (Part (Fused K) D)). TakesParts takes first l last) (sym (back.split ∙ append-nil back.taken)) back.from
     back_taken first last all (part ∷ parts) back none = absurd (omega (arith, none))
 
     pub back_lost : (first last : M) (all parts : List (Part (Fused K) D)) → IsGivingBack first all parts last → length parts ≡ 0 → min (lost first + sum_by (count_in faults desk_faults) all) (2 ^ 64 - 1) ≤ lost last
     back_lost first last all [] back none = omega (arith, back.later, back.total)
     back_lost first last all (part ∷ parts) back none = absurd (omega (arith, none))
+
+  -- what they tell, and how many desks each has
+  pub taken_told : (told : K → Option Kept) (Many : ℕ → Type 0) (first last : M) (parts : List (Part (Fused K) D)) → TakesParts takes first parts last → HaveDesks Many parts → TakenFrom takes told Many first (starts_of (told_in told) parts) last
+  taken_told told Many first last [] taken have = taken
+  taken_told told Many first last (part ∷ parts) taken have = (part.keeper.keeper, part.desks, taken.0, taken.1, refl, have.0, taken_told told Many taken.0 last parts taken.2 have.1)
 
 -- the members of a fused keeper, by those of the one inside
 abbrev pub fused_members : {K D : Type 0} → Members K D → Members (Fused K) D
@@ -88,7 +97,7 @@ starts_one_more start count =
     let last : 0 + count ≡ count = omega arith in
     ap (λ n. starts_from start 0 n) (sym next) ∙ starts_push start 0 count ∙ ap (λ n. starts_from start 0 count ++ start n ∷ []) last
 
-take_starts : (start : ℕ → Option Kept) (number count some : ℕ) → some ≤ count → take some (starts_from start number count) ≡ starts_from start number some
+pub take_starts : (start : ℕ → Option Kept) (number count some : ℕ) → some ≤ count → take some (starts_from start number count) ≡ starts_from start number some
 take_starts start number count zero few = refl
 take_starts start number zero (suc some) few = absurd (omega (arith, few))
 take_starts start number (suc count) (suc some) few = ap (λ l. start number ∷ l) (take_starts start (number + 1) count some (omega (arith, few)))
@@ -121,10 +130,22 @@ module _ {K D : Type 0} (k : Members (Fused K) D) where
     calm = λ e. list_all-append (λ (p : Part (Fused K) D). is_calm_keeper k p.keeper) parts (part ∷ []) ∙ both_true (making.calm e) (both_true (calm (same_quiet ∙ e)) refl);
   }
 
-  -- those that were made are given back
-  pub making_ends : {M J : Type 0} (takes : M → J → List D → M → Type 0) (told : J → Option Kept) (start : ℕ → Option Kept) (quiet : Bool) (parts : List (Part (Fused K) D)) (count many : ℕ) (before last : M) → IsMaking start quiet parts count → count ≤ many
-      → TakenFrom takes told before (starts_of k.told parts) last → TakesSome takes told (starts_from start 0 many) last
-  making_ends takes told start quiet parts count many before last making few taken = (
+-- those that were made are given back, and have no desks yet
+fresh_few : {K D : Type 0} (told : K → Option Kept) (fuse : K → Option Fuse) (parts : List (Part K D)) → AreFresh told fuse parts → HaveSome parts
+fresh_few told fuse [] fresh = tt
+fresh_few told fuse (part ∷ parts) fresh = let none = ap length fresh.0.no_desks in (omega (arith, none), fresh_few told fuse parts fresh.1)
+
+module _ {M K D : Type 0} (takes : M → K → List D → M → Type 0) (told : K → Option Kept) where
+  pub making_ends : (k : Members (Fused K) D) (start : ℕ → Option Kept) (quiet : Bool) (parts : List (Part (Fused K) D)) (count many : ℕ) (before last : M) → k.told ≡ told_in told → IsMaking k start quiet parts count → count ≤ many
+      → TakesParts takes before parts last → TakesSome takes told (starts_from start 0 many) last
+  making_ends k start quiet parts count many before last same making few taken = (
     count,
-    (before, subst (λ (l : List (Option Kept)). TakenFrom takes told before l last) (making.starts ∙ sym (take_starts start 0 many count few)) taken),
+    before,
+    subst (λ (l : List (Option Kept)). TakenFrom takes told (λ many. many ≤ desks_each) before l last)
+        (ap (λ (f : Fused K → Option Kept). starts_of f parts) (sym same) ∙ making.starts ∙ sym (take_starts start 0 many count few))
+        (taken_told takes told (λ many. many ≤ desks_each) before last parts taken (fresh_few k.told k.fuse parts making.fresh)),
   )
+
+  -- no keeper was made
+  pub making_none : (starts : List (Option Kept)) (last : M) → TakesSome takes told starts last
+  making_none starts last = (0, last, refl)

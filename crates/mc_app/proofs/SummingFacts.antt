@@ -1,19 +1,22 @@
 -- The replies to a generated script so far, summed up.
-use Rattle.std.proofs.Common.{◌≡◌, ◌≤◌, ◌<◌, ◌+◌, ◌-◌, ◌∙◌, ℕ, List, [], ◌∷◌, ◌++◌, length, Option, None, refl, sym, ap, subst, arith, length-append, inl, inr, true, append_assoc}
-use Rattle.std.specs.Prelude.{map}
+use Rattle.std.proofs.Common.{◌≡◌, ◌≤◌, ◌<◌, ◌+◌, ◌-◌, ◌∙◌, ℕ, List, [], ◌∷◌, ◌++◌, length, Option, None, Some, refl, sym, ap, subst, arith, length-append, inl, inr, true, append_assoc}
+use Rattle.std.specs.Prelude.{◌⊎◌, map}
 use Rattle.mc_gen.specs.Summary.{Sums}
 use Rattle.mc_gen.specs.declared.summary.Summary.{Summary}
 use Rattle.mc_script.specs.Line.{line_of}
-use Rattle.mc_app.specs.Generating.{IsAllAnswered, IsStoppedBad, replies_of}
+use Rattle.mc_script.specs.declared.command.Command.{Command}
+use Rattle.mc_app.specs.Executes.{Executes, ExecutesPart, IsAnswered, LineShort}
+use Rattle.mc_seats.specs.Step.{LeavesStep}
+use Rattle.mc_app.specs.Generating.{IsAllAnswered, IsStoppedBad, IsStoppedShort, replies_of}
 use Rattle.mc_app.specs.LineWords.{MayEnd}
 use Rattle.mc_app.specs.Lines.{IsTooLong, lines_of, script_max}
 use Rattle.mc_app.specs.Progress.{IsBadCommand, Progress}
 use Rattle.mc_runs.specs.Runs.{Answer, text_of_answer}
-use Rattle.mc_app.specs.Summing.{SumsLine, SumsUp}
+use Rattle.mc_app.specs.Summing.{SumsLine, SumsShort, SumsUp}
 use Rattle.mc_app.specs.Taking.{TakesLine}
 use Rattle.mc_seats.specs.Worlds.{WorldState}
-use Rattle.mc_app.specs.declared.summing.Summed.TheVariants.{Whole, Bad}
-use Rattle.mc_app.proofs.RunFacts.{MayTally, SoFar, may_end, nothing_tallied, nothing_yet, progress_map, progress_more}
+use Rattle.mc_app.specs.declared.summing.Summed.TheVariants.{Whole, Bad, Short}
+use Rattle.mc_app.proofs.RunFacts.{MayTally, SoFar, may_end, nothing_ended, nothing_tallied, nothing_yet, progress_map, progress_more}
 use Rattle.mc_seats.specs.Keepers.{Tally}
 
 -- where the loop over the lines of a generated script stands
@@ -114,3 +117,62 @@ module _ {Frame : Type 0} {First : WorldState → Type 0} {base : Tally} {script
           bad = inr (record { line = line; more = lines_of rest; lines = ap lines_of p.before ∙ takes.lines; bad = subst (λ (w : WorldState). IsBadCommand w (line_of line)) (sym p.state) bad });
         };
       }
+
+  -- memory was wanting before the next line
+  pub summed_short : (count : ℕ) → SumsUp script First (MayEnd base tally.count) (λ w. w ≡ world) Short count summary
+  summed_short count = record { progress = Settled tally.count (omega arith); last = inl summing.so_far.state }
+
+  -- or for it, or for its reply
+  pub summed_line_short : (line rest : List ℕ) (given_after : ℕ) (new : WorldState) (tally_new : Tally)
+      (summary_now : Summary) → TakesLine line given given_after ahead rest → given_after ≤ script_max
+      → SumsShort world tally (line_of line) new tally_new → (count : ℕ)
+      → SumsUp script First (MayEnd base tally_new.count) (λ w. w ≡ new) Short count summary_now
+  summed_line_short line rest given_after new tally_new summary_now takes in_script short count = over short
+    where
+      p : SoFar First base script ahead given number world tally None None
+      p = summing.so_far
+
+      answered : (answer : Option Answer) → IsAnswered world tally (line_of line) new tally_new answer
+          → IsStoppedShort script First (MayEnd base tally_new.count) (λ w. w ≡ new)
+      answered answer is = record {
+        progress = progress_map script First First (MayTally base tally_new) (MayEnd base tally_new.count) (λ w begins. begins) (λ lines answers may. may_end base tally_new tally_new.count lines answers (omega arith) may)
+            (progress_more First base tally tally_new script p.progress line ahead rest given given_after world new answer takes p.before p.state p.counted in_script summing.calm is);
+        last = inl refl;
+      }
+
+      by_left : (command : Command) → line_of line ≡ Some (Some command) → tally.count ≤ tally_new.count → LeavesStep world command new ⊎ ((answer : Answer) × IsAnswered world tally (Some (Some command)) new tally_new (Some answer))
+          → IsStoppedShort script First (MayEnd base tally_new.count) (λ w. w ≡ new)
+      by_left command asks later (inl leaves) = record {
+        progress = Settled tally_new.count later;
+        last = inr (
+          new,
+          record {
+            line = line;
+            rest = rest;
+            given_after = given_after;
+            takes = subst (λ (n : ℕ). TakesLine line n given_after p.progress.ahead rest) p.counted (subst (λ (l : List ℕ). TakesLine line given given_after l rest) (sym p.before) takes);
+            in_script = in_script;
+            command = command;
+            asks = asks;
+            leaves = subst (λ (w : WorldState). LeavesStep w command new) (sym p.state) leaves;
+          },
+          refl,
+        );
+      }
+      by_left command asks later (inr (answer, is)) = answered (Some answer) (subst (λ (r : Option (Option Command)). IsAnswered world tally r new tally_new (Some answer)) (sym asks) is)
+
+      over : SumsShort world tally (line_of line) new tally_new → IsStoppedShort script First (MayEnd base tally_new.count) (λ w. w ≡ new)
+      over (inl (inl same)) = let counts = ap (λ (t : Tally). t.count) same.1 in record { progress = Settled tally_new.count (omega (arith, counts)); last = inl (p.state ∙ sym same.0) }
+      over (inl (inr (command, asks, cut))) = by_left command asks cut.paid.later cut.left
+      over (inr (answer, is)) = answered answer is
+
+-- memory was wanting before the first line
+pub summed_nothing : (script : List ℕ) (First : WorldState → Type 0) (base : Tally) (world : WorldState) (count : ℕ) (summary : Summary) → First world → SumsUp script First (MayEnd base base.count) (λ w. w ≡ world) Short count summary
+summed_nothing script First base world count summary begins = record { progress = nothing_yet script First world (MayEnd base base.count) begins (nothing_ended base base.count (omega arith)); last = inl refl }
+
+-- a line that was done, and whose reply was not summed up
+pub part_answered : {old new : WorldState} {before after : Tally} {read : Option (Option Command)} {out out_now : Option (List ℕ)} → ExecutesPart old before read new after out out_now → SumsShort old before read new after
+part_answered part = inr (Some part.answer, part.answered)
+
+pub whole_answered : {old new : WorldState} {before after : Tally} {read : Option (Option Command)} {out out_now : Option (List ℕ)} → Executes old before read new after out out_now → SumsShort old before read new after
+whole_answered whole = inr (whole.answer, whole.answered)

@@ -2,16 +2,19 @@
 use Rattle.std.specs.Prelude.{◌≡◌, ◌⊎◌, ℕ, Bool, true, List, Option, Some}
 use Rattle.std.specs.Io.KnownBytes.{Appends}
 use Rattle.mc_base.specs.Told.{AppendsPart}
+use Rattle.mc_script.specs.ReplyText.{reply_text}
 use Rattle.mc_script.specs.declared.command.Command.{Command}
 use Rattle.mc_seats.specs.Keepers.{IsPaid, Tally}
-use Rattle.mc_runs.specs.Runs.{Answer, LineStep, arms_of, fault_of, owns_none, text_of_answer}
+use Rattle.mc_runs.specs.Runs.{Answer, IsWithin, LineStep, arms_of, fault_of, own_of, owns_none}
+use Rattle.mc_runs.specs.Runs.{text_of_answer}
 use Rattle.mc_seats.specs.Step.{LeavesStep}
 use Rattle.mc_seats.specs.Worlds.{WorldState}
 
--- From one tally to the next, over an answer to what was read of a line: its fault is paid; what is calm stays so, and
--- then the answer's entry names no keeper and no desk that failed by itself.
+-- From one tally to the next, over an answer to what was read of a line: its fault is paid, and so is an entry that names
+-- a keeper or a desk that failed by itself; what is calm stays so, and then the entry names none.
 pub record Tallies (read : Option (Option Command)) (answer : Option Answer) (old new : Tally) : Type 0 where
   pub paid : IsPaid (fault_of answer) (arms_of read) old.count old.armed new.count new.armed
+  pub own_paid : IsWithin old.count new.count (own_of answer)
   pub calm : old.calm ≡ true → new.calm ≡ true
   pub owned : old.calm ≡ true → owns_none answer ≡ true
 
@@ -28,12 +31,12 @@ pub record Executes (old : WorldState) (before : Tally) (read : Option (Option C
   pub answered : IsAnswered old before read new after answer
   pub written : Appends out out_now (text_of_answer answer)
 
--- or some first bytes of it
+-- or some first bytes of its reply
 pub record ExecutesPart (old : WorldState) (before : Tally) (read : Option (Option Command)) (new : WorldState)
     (after : Tally) (out out_now : Option (List ℕ)) : Type 0 where
-  pub answer : Option Answer
-  pub answered : IsAnswered old before read new after answer
-  pub written : AppendsPart out out_now (text_of_answer answer)
+  pub answer : Answer
+  pub answered : IsAnswered old before read new after (Some answer)
+  pub written : AppendsPart out out_now (reply_text answer.reply)
 
 -- memory was wanting for a command: this was left of it, or it was done, and its answer is not written
 pub record CutsShort (old : WorldState) (before : Tally) (command : Command) (new : WorldState) (after : Tally)

@@ -1,8 +1,9 @@
 -- What a run of a generated script leaves behind, status by status.
-use Rattle.std.specs.Prelude.{◌≡◌, ◌⊎◌, ℕ, List, [], map, Option}
+use Rattle.std.specs.Prelude.{◌≡◌, ◌⊎◌, ℕ, List, [], length, map, Option}
 use Rattle.std.specs.Io.KnownBytes.{Appends, Keeps}
 use Rattle.mc_base.specs.Told.{AppendsPart}
 use Rattle.mc_gen.specs.Summary.{summary_text}
+use Rattle.mc_app.specs.Outcome.{EndsShort}
 use Rattle.mc_app.specs.Progress.{Progress, MeetsBadLine, bad_line_text}
 use Rattle.mc_runs.specs.Runs.{Answer, text_of_answer}
 use Rattle.mc_seats.specs.Worlds.{WorldState}
@@ -38,6 +39,11 @@ module _ (script : List ℕ) (First : WorldState → Type 0) (May : List (List �
     pub last : Ends progress.world
     pub meets : MeetsBadLine script First May progress number
 
+  -- some first lines were answered, and then memory was wanting
+  pub record IsStoppedShort : Type 0 where
+    pub progress : Progress script First May
+    pub last : EndsShort Ends (length progress.taken) progress.ahead progress.world
+
   -- what is written at the end, by itself: the summary of all replies, or the line on a bad line
   abbrev pub IsSaid : ℕ → List ℕ → Type 0
   IsSaid count text =
@@ -57,6 +63,6 @@ module _ (script : List ℕ) (First : WorldState → Type 0) (May : List (List �
   Generates (BadLine number) count old new = IsStoppedBad number × Appends old new (bad_line_text number)
   Generates WriteFault count old new = IsPartSaid count old new
   Generates KeeperFault count old new = Keeps old new
-  Generates Memory count old new = Keeps old new
+  Generates Memory count old new = IsStoppedShort × Keeps old new
   Generates Usage count old new = ⊥
   Generates ReadFault count old new = ⊥

@@ -7,15 +7,17 @@ use Rattle.mc_script.specs.declared.command.Command.{Command}
 use Rattle.mc_script.specs.declared.reply.Reply.{Reply}
 use Rattle.mc_seats.specs.declared.world.World.{World}
 use Rattle.mc_app.specs.Executes.{CutsShort, Executes, ExecutesPart, IsAnswered, LineShort}
-use Rattle.mc_runs.specs.Runs.{Answer, MayAnswer}
+use Rattle.mc_runs.specs.Runs.{Answer, IsWithin, arms_in, faults_in, own_free, owns_in}
 use Rattle.mc_seats.specs.Words.{state, tally}
 use Rattle.mc_seats.specs.Keepers.{Tally}
 
 -- what may be answered to some lines from a tally on, where the count is this at the end: no more faults than it rose
--- by and fuses were armed, in the lines or before them; and where all was calm, no entry names a keeper or a desk that
--- failed by itself
-abbrev pub MayEnd : Tally → ℕ → List (List ℕ) → List (Option Answer) → Type 0
-MayEnd first count = MayAnswer (first.calm ≡ true) first.count (count + first.armed)
+-- by and fuses were armed, in the lines or before them; no more answers whose entry names a keeper or a desk that failed
+-- by itself than it rose by; and where all was calm none
+pub record MayEnd (first : Tally) (count : ℕ) (lines : List (List ℕ)) (answers : List (Option Answer)) : Type 0 where
+  pub paid : IsWithin first.count (count + first.armed + arms_in lines) (faults_in answers)
+  pub own_paid : IsWithin first.count count (owns_in answers)
+  pub own_none : first.calm ≡ true → own_free answers ≡ true
 
 module _ {K D : Type 0} {g : keeper.Ghosts K D} {h : counted.Ghosts K} {i : counted.Ghosts D} (k : Members K D)
     (desk_faults : D → ℕ) where

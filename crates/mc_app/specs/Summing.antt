@@ -1,10 +1,10 @@
 -- How far the replies to a generated script were summed up.
-use Rattle.std.specs.Prelude.{◌≡◌, ⊤, ◌∷◌, ◌++◌, ℕ, [], List, Option}
+use Rattle.std.specs.Prelude.{◌≡◌, ◌⊎◌, ◌∷◌, ◌++◌, ℕ, [], List, Option}
 use Rattle.mc_gen.specs.Summary.{Sums}
 use Rattle.mc_gen.specs.declared.summary.Summary.{Summary}
 use Rattle.mc_script.specs.declared.command.Command.{Command}
-use Rattle.mc_app.specs.Executes.{IsAnswered}
-use Rattle.mc_app.specs.Generating.{IsAllAnswered, IsStoppedBad, replies_of}
+use Rattle.mc_app.specs.Executes.{IsAnswered, LineShort}
+use Rattle.mc_app.specs.Generating.{IsAllAnswered, IsStoppedBad, IsStoppedShort, replies_of}
 use Rattle.mc_runs.specs.Runs.{Answer, text_of_answer}
 use Rattle.mc_seats.specs.Worlds.{WorldState}
 use Rattle.mc_app.specs.declared.summing.Summed.{Summed}
@@ -19,6 +19,11 @@ pub record SumsLine (old : WorldState) (before : Tally) (read : Option (Option C
   pub sums : (count : ℕ) (replies : List (List ℕ)) → Sums count summary replies
       → Sums count summary_now (replies ++ text_of_answer answer ∷ [])
 
+-- or memory was wanting: for the line, or for taking in the reply of one that was done
+abbrev pub SumsShort : WorldState → Tally → Option (Option Command) → WorldState → Tally → Type 0
+SumsShort old before read new after = LineShort old before read new after
+    ⊎ ((answer : Option Answer) × IsAnswered old before read new after answer)
+
 module _ (script : List ℕ) (First : WorldState → Type 0) (May : List (List ℕ) → List (Option Answer) → Type 0)
     (Ends : WorldState → Type 0) where
   -- how a script was summed up: whole, up to a bad line, or until memory was wanting
@@ -26,4 +31,4 @@ module _ (script : List ℕ) (First : WorldState → Type 0) (May : List (List �
   SumsUp Whole count summary =
       (all : IsAllAnswered script First May Ends) × Sums count summary (replies_of all.progress.answers)
   SumsUp (Bad line) count summary = IsStoppedBad script First May Ends line
-  SumsUp Short count summary = ⊤
+  SumsUp Short count summary = IsStoppedShort script First May Ends

@@ -7,6 +7,7 @@ ghost use Rattle.mc_gen.specs.Summary.{Sums, summary_text};
 ghost use Rattle.mc_keep.specs.declared.keepers.KeeperPlan.TheVariants.{Memory as InMemory};
 ghost use Rattle.mc_app.specs.Generating.{EndsSummary, Generates};
 ghost use Rattle.mc_seats.specs.Keepers.{armed_in, counted_in, is_calm};
+ghost use Rattle.mc_app.specs.Keeping.{EndsParts, HaveAll, HaveSome};
 ghost use Rattle.mc_app.specs.LineWords.{MayEnd};
 ghost use Rattle.mc_seats.specs.Openings.{AreFresh, are_calm, counted_of, owns_of, starts_of};
 ghost use Rattle.mc_app.specs.Outcome.{CountsKeepers, EndsAt, TakesSome, contents_of, starts_from};
@@ -55,7 +56,8 @@ where
     ensures generated { Generates (script_text start count)
         (IsFirst (starts_from (K.starts keepers.old InMemory) 0 3))
         (MayAnswer (K.quiet keepers.old InMemory ≡ true) (K.lost keepers.old) (K.lost keepers.new))
-        (EndsAt K.takes K.K.told result (starts_from (K.starts keepers.old InMemory) 0 3) keepers.new)
+        (EndsAt K.takes K.K.told result
+        (starts_from (K.starts keepers.old InMemory) 0 3) keepers.new)
         result count (O.written out.old) (O.written out.new) }
     ensures write_cause { Counts (O.faults out.old) (O.faults out.new) (result ≡ Status.WriteFault) }
     ensures keepers { CountsKeepers result (K.quiet keepers.old InMemory)
@@ -94,8 +96,9 @@ where
     ensures generated { Generates text (IsFirst (starts_of ⟦<Fused<K> as Keeper>⟧.told parts))
         (MayAnswer (are_calm ⟦<Fused<K> as Keeper>⟧ parts ≡ true) 0
         (counted_of ⟦<Fused<K> as Keeper>⟧ K.Desk.faults result.1))
-        (λ w. contents_of w ≡ starts_of ⟦<Fused<K> as Keeper>⟧.told result.1)
+        (EndsParts ⟦<Fused<K> as Keeper>⟧.told result.0 (starts_of ⟦<Fused<K> as Keeper>⟧.told parts) result.1)
         result.0 count (O.written out.old) (O.written out.new) }
+    ensures few { HaveSome result.1 }
     ensures same { result.0 ≡ Status.KeeperFault →
         starts_of ⟦<Fused<K> as Keeper>⟧.told result.1 ≡ starts_of ⟦<Fused<K> as Keeper>⟧.told parts }
     ensures write_cause { Counts (O.faults out.old) (O.faults out.new) (result.0 ≡ Status.WriteFault) }
@@ -143,6 +146,7 @@ where
         (counted_of ⟦<Fused<K> as Keeper>⟧ K.Desk.faults result.1))
         (λ w. contents_of w ≡ starts_of ⟦<Fused<K> as Keeper>⟧.told result.1)
         result.0 count (O.written out.old) (O.written out.new) }
+    ensures full { HaveAll result.1 }
     ensures write_cause { Counts (O.faults out.old) (O.faults out.new) (result.0 ≡ Status.WriteFault) }
 {
     let mut world = world;

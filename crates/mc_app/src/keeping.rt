@@ -7,7 +7,8 @@ ghost use Rattle.mc_keep.specs.Plan.{is_fault};
 ghost use Rattle.mc_keep.specs.declared.keepers.KeeperPlan.{KeeperPlan as MadeBy};
 ghost use Rattle.mc_seats.specs.Keepers.{is_calm_keeper};
 ghost use Rattle.mc_seats.specs.Openings.{AreFresh, IsFresh, are_calm, counted_of, owns_of, starts_of};
-ghost use Rattle.mc_app.specs.Outcome.{TakenFrom, TakesSome, starts_from};
+ghost use Rattle.mc_app.specs.Outcome.{TakesSome, starts_from};
+ghost use Rattle.mc_app.specs.Keeping.{TakesParts};
 
 use mc_base::List;
 use mc_core::OpenCause;
@@ -86,8 +87,7 @@ fn make_part<K: Keepers>(
 
 // Gives keepers back, in order, each with its desks.
 pub(crate) fn give_back<K: Keepers>(keepers: &mut K, parts: List<Part<Fused<K::K>>>)
-    ensures taken { TakenFrom K.takes K.K.told
-        keepers.old (starts_of ⟦<Fused<K::K> as Keeper>⟧.told parts) keepers.new }
+    ensures taken { TakesParts K.takes keepers.old parts keepers.new }
     ensures lost { min (K.lost keepers.old + counted_of ⟦<Fused<K::K> as Keeper>⟧ K.K.Desk.faults parts) (2 ^ 64 - 1)
         ≤ K.lost keepers.new }
     ensures count { K.faults keepers.new ≡ K.faults keepers.old }

@@ -5,7 +5,7 @@ ghost use Rattle.mc_script.specs.Line.{line_of};
 ghost use Rattle.mc_seats.specs.Keepers.{counted_in};
 ghost use Rattle.mc_app.specs.LineWords.{MayEnd, SameWorld};
 ghost use Rattle.mc_app.specs.Progress.{IsBadCommand};
-ghost use Rattle.mc_app.specs.Summing.{SumsLine, SumsUp};
+ghost use Rattle.mc_app.specs.Summing.{SumsLine, SumsShort, SumsUp};
 ghost use Rattle.mc_seats.specs.Words.{state, tally};
 
 use crate::execute::{ExecuteError, execute_and_clear};
@@ -61,7 +61,8 @@ where
             Ok(false) => return Summed::Whole,
             Err(ReadError::TooLong) => return Summed::Bad { line: executed + 1 },
             // A source in memory of which no call is planned to fail does not fail.
-            Err(ReadError::Failed) | Err(ReadError::Memory) => return Summed::Short,
+            Err(ReadError::Failed) => return Summed::Short,
+            Err(ReadError::Memory) => return Summed::Short,
         }
         match sum_line(
             alloc,
@@ -75,7 +76,8 @@ where
         ) {
             Ok(()) => executed += 1,
             Err(ExecuteError::Bad) => return Summed::Bad { line: executed + 1 },
-            Err(ExecuteError::Failed) | Err(ExecuteError::Memory) => return Summed::Short,
+            Err(ExecuteError::Failed) => return Summed::Short,
+            Err(ExecuteError::Memory) => return Summed::Short,
         }
     }
 }
@@ -98,6 +100,16 @@ where
         (tally ⟦<Fused<K> as Keeper>⟧ K.Desk.faults world.old) (line_of line.now)
         (state ⟦<Fused<K> as Keeper>⟧ K.Desk.faults world.new) (tally ⟦<Fused<K> as Keeper>⟧ K.Desk.faults world.new)
         summary.old summary.new) }
+    ensures failed { IsErrOf result ExecuteError.Failed →
+        SumsShort (state ⟦<Fused<K> as Keeper>⟧ K.Desk.faults world.old)
+        (tally ⟦<Fused<K> as Keeper>⟧ K.Desk.faults world.old) (line_of line.now)
+        (state ⟦<Fused<K> as Keeper>⟧ K.Desk.faults world.new)
+        (tally ⟦<Fused<K> as Keeper>⟧ K.Desk.faults world.new) }
+    ensures short { IsErrOf result ExecuteError.Memory →
+        SumsShort (state ⟦<Fused<K> as Keeper>⟧ K.Desk.faults world.old)
+        (tally ⟦<Fused<K> as Keeper>⟧ K.Desk.faults world.old) (line_of line.now)
+        (state ⟦<Fused<K> as Keeper>⟧ K.Desk.faults world.new)
+        (tally ⟦<Fused<K> as Keeper>⟧ K.Desk.faults world.new) }
     ensures bad { IsErrOf result ExecuteError.Bad →
         IsBadCommand (state ⟦<Fused<K> as Keeper>⟧ K.Desk.faults world.old) (line_of line.now)
         × SameWorld ⟦<Fused<K> as Keeper>⟧ K.Desk.faults world.old world.new }

@@ -8,3 +8,5 @@ pub mod ReplyFacts
 pub mod FuseFacts
 pub mod StopFacts
 pub mod ReachFacts
+pub mod CalmFacts
+pub mod OneFacts

@@ -6,10 +6,11 @@ use Rattle.mc_fetch.specs.Fits.{Map}
 use Rattle.mc_keep.specs.declared.fuse.Fuse.{Fuse}
 use Rattle.mc_model.specs.Front.{gaps}
 use Rattle.mc_model.specs.Kept.{Kept, processed}
-use Rattle.mc_model.specs.State.{Running, durable_of, kept_of}
+use Rattle.mc_model.specs.State.{IsSound, Running, durable_of, kept_of}
 use Rattle.mc_core.specs.Events.{state_of}
 use Rattle.mc_core.specs.declared.CoreError.{CoreError}
 use Rattle.mc_core.specs.declared.CoreError.TheVariants as core
+use Rattle.mc_core.specs.Walks.{IsClean}
 use Rattle.mc_core.proofs.SettledFacts.{clean_gaps}
 use Rattle.mc_drain.specs.Repairs.{RepairLeads}
 use Rattle.mc_drain.specs.declared.repairing.Repaired.{Repaired}
@@ -26,7 +27,7 @@ use Rattle.mc_seats.specs.Effects.{IsReply, RefusedAt}
 use Rattle.mc_runs.specs.Promises.{AfterLine, HasSettled, IsLineAt, IsSettled}
 use Rattle.mc_runs.specs.Runs.{Answer, LineStep, Runs}
 use Rattle.mc_seats.specs.Step.{IsDone, Row, Step}
-use Rattle.mc_seats.specs.Works.{RepairsTo, offered_by, repair_budget, repaired_reply}
+use Rattle.mc_seats.specs.Works.{RepairOn, RepairsTo, RunsTo, offered_by, repair_budget, repaired_reply}
 use Rattle.mc_seats.specs.Worlds.{Place, WorldState, peers_of}
 use Rattle.mc_seats.proofs.OpeningFacts.{none_of_length}
 use Rattle.mc_runs.proofs.WrittenFacts.{at_there, moved_stands}
@@ -53,35 +54,47 @@ clean_value (repaired.Again processed) e = absurd (true≢false (ap is_clean e))
 
 -- what it leaves
 
-told_settled : (offers : Option Map) (old new : Option Kept) (fuse fuse2 : Option Fuse) (run run2 : Option Running) → (old ≡ None → new ≡ None)
-    → Told (state_of old fuse run) (state_of new fuse2 run2) (RepairLeads repair_budget offers (Ok repaired.Clean)) → IfSome (state_of new fuse2 run2) IsSettled
-told_settled offers None new fuse fuse2 run run2 silent told = subst (λ (o : Option Kept). IfSome (state_of o fuse2 run2) IsSettled) (sym (silent refl)) tt
-told_settled offers (Some old) None fuse fuse2 run run2 silent told = tt
-told_settled offers (Some old) (Some new) fuse fuse2 run run2 silent told =
-    (none_of_length (gaps (processed (kept_of (durable_of new)))) (clean_gaps (kept_of (durable_of new)) told.counts), told.reaches)
+abbrev pub BackLaw : Type 0
+BackLaw = (kept : Kept) → kept_of (durable_of kept) ≡ kept
 
-repair_settles : (w : WorldState) (r workers : ℕ) (w2 : WorldState) → IsDone w (Repair r workers) Clean w2 → HasSettled w2 r
-repair_settles w r workers w2 done =
-    let p : Place = done.moved.old in
-    let q : Place = done.moved.new in
-    let clean = clean_value done.moved.holds.value done.moved.holds.says in
-    let repairs : RepairsTo (peers_of w r) (Ok repaired.Clean) p q = subst (λ (value : Repaired). RepairsTo (peers_of w r) (Ok value) p q) clean done.moved.holds.repairs in
-    record {
-      place = q;
-      stands = moved_stands r w.places w2.places _ done.moved;
-      settled = told_settled (offered_by (peers_of w r)) p.content q.content p.fuse q.fuse p.run q.run repairs.silent repairs.told;
-    }
+abbrev pub MarkLaw : Type 0
+MarkLaw = (kept : Kept) (run : Running) → IsSound (record { durable = durable_of kept; run = Some run }) → run.whole ≡ true → IsClean kept → kept.mark ≡ false
 
-pub clean_settles : (w : WorldState) (r workers : ℕ) (entry : LineEntry) (w2 : WorldState) → Step w (Repair r workers) entry Clean w2 → HasSettled w2 r
-clean_settles w r workers entry w2 step = over step.row
-  where
-    over : Row w (Repair r workers) (λ r. is_named entry.keepers r ≡ true) (λ r. is_named entry.own r ≡ true) (λ r. is_named entry.desks r ≡ true) Clean w2 → HasSettled w2 r
-    over (inl (inl (inl refused))) =
-        let found = at_there w r (λ p. RefusedAt w p (Repair r workers) (Some Clean)) step.there refused.cause in
-        absurd (no_clean found.2.0 found.2.3)
-    over (inl (inl (inr done))) = repair_settles w r workers w2 done
-    over (inl (inr fault)) = absurd (true≢false (ap is_clean fault.says))
-    over (inr peer) = absurd (true≢false (ap is_clean peer.says))
+module _ (back : BackLaw) (mark : MarkLaw) where
+  told_settled : (offers : Option Map) (old new : Option Kept) (fuse fuse2 : Option Fuse) (run run2 : Option Running) → RunsTo (RepairOn true) run run2 → (old ≡ None → new ≡ None)
+      → Told (state_of old fuse run) (state_of new fuse2 run2) (RepairLeads repair_budget offers (Ok repaired.Clean)) → IfSome (state_of new fuse2 run2) IsSettled
+  told_settled offers None new fuse fuse2 run run2 runs silent told = subst (λ (o : Option Kept). IfSome (state_of o fuse2 run2) IsSettled) (sym (silent refl)) tt
+  told_settled offers (Some old) None fuse fuse2 run run2 runs silent told = tt
+  told_settled offers (Some old) (Some new) fuse fuse2 None run2 runs silent told = absurd runs
+  told_settled offers (Some old) (Some new) fuse fuse2 (Some run) None runs silent told = absurd runs
+  told_settled offers (Some old) (Some new) fuse fuse2 (Some run) (Some run2) runs silent told = record {
+    no_gaps = none_of_length (gaps (processed (kept_of (durable_of new)))) (clean_gaps (kept_of (durable_of new)) told.counts);
+    mark_clear = mark new run2 told.sound runs.0 (subst IsClean (back new) told.counts);
+    reached = told.reaches;
+  }
+
+  repair_settles : (w : WorldState) (r workers : ℕ) (w2 : WorldState) → IsDone w (Repair r workers) Clean w2 → HasSettled w2 r
+  repair_settles w r workers w2 done =
+      let p : Place = done.moved.old in
+      let q : Place = done.moved.new in
+      let clean = clean_value done.moved.holds.value done.moved.holds.says in
+      let repairs : RepairsTo (peers_of w r) (Ok repaired.Clean) p q = subst (λ (value : Repaired). RepairsTo (peers_of w r) (Ok value) p q) clean done.moved.holds.repairs in
+      record {
+        place = q;
+        stands = moved_stands r w.places w2.places _ done.moved;
+        settled = told_settled (offered_by (peers_of w r)) p.content q.content p.fuse q.fuse p.run q.run repairs.runs repairs.silent repairs.told;
+      }
+
+  pub clean_settles : (w : WorldState) (r workers : ℕ) (entry : LineEntry) (w2 : WorldState) → Step w (Repair r workers) entry Clean w2 → HasSettled w2 r
+  clean_settles w r workers entry w2 step = over step.row
+    where
+      over : Row w (Repair r workers) (λ r. is_named entry.keepers r ≡ true) (λ r. is_named entry.own r ≡ true) (λ r. is_named entry.desks r ≡ true) Clean w2 → HasSettled w2 r
+      over (inl (inl (inl refused))) =
+          let found = at_there w r (λ p. RefusedAt w p (Repair r workers) (Some Clean)) step.there refused.cause in
+          absurd (no_clean found.2.0 found.2.3)
+      over (inl (inl (inr done))) = repair_settles w r workers w2 done
+      over (inl (inr fault)) = absurd (true≢false (ap is_clean fault.says))
+      over (inr peer) = absurd (true≢false (ap is_clean peer.says))
 
 -- what a line has done stands in the world after it
 module _ (P : WorldState → Type 0) (command : Command) (reply : Reply) (done : (w : WorldState) (entry : LineEntry) (w2 : WorldState) → Step w command entry reply w2 → P w2) where

@@ -10,7 +10,7 @@ use Rattle.mc_keep.specs.declared.changes.Changes.{Changes}
 use Rattle.mc_keep.specs.declared.fuse.Fuse.{Fuse}
 use Rattle.mc_model.specs.declared.delta.Delta.{Delta}
 use Rattle.mc_model.specs.Batch.{is_empty_batch}
-use Rattle.mc_model.specs.Events.{Event, Process, Batch}
+use Rattle.mc_model.specs.Events.{Event, GoesOn, Process, Batch}
 use Rattle.mc_model.specs.Kept.{Kept, is_stored}
 use Rattle.mc_model.specs.Made.{made_bytes, made_cid}
 use Rattle.mc_model.specs.State.{Durable, OpenBatch, Running, durable_of, kept_of}
@@ -35,7 +35,7 @@ use Rattle.mc_seats.specs.declared.error.ActError.{ActError}
 use Rattle.mc_seats.specs.declared.entry.LineEntry.{LineEntry}
 use Rattle.mc_seats.specs.Asks.{is_named}
 use Rattle.mc_seats.specs.Effects.{IsReply, EventsOf, RefusedAt, batch_in, batch_priority}
-use Rattle.mc_runs.specs.Promises.{ContentGrows, GrowsAt, HasCommitted, HasDeleted, HasProcessed, IsLineAt, OnlyGrows, SinceLine, batch_at, batch_cid, chain_cids}
+use Rattle.mc_runs.specs.Promises.{ContentGrows, GrowsAt, HasCommitted, HasDeleted, HasDeletedSince, HasProcessed, IsLineAt, OnlyGrows, SinceLine, StillDeleted, batch_at, batch_cid, chain_cids}
 use Rattle.mc_runs.specs.Runs.{Answer, LineStep, Runs}
 use Rattle.mc_seats.specs.Step.{Row, Step}
 use Rattle.mc_seats.specs.Worlds.{AtPlace, Moved, Place, WorldState, is_down, state_at}
@@ -323,3 +323,51 @@ pub commit_stands : (law : GrowLaw) (processed : CommitLaw) (lines : List (List 
     → SinceLine first lines answers k last (λ w w2. HasCommitted w r w2)
 commit_stands law processed lines answers first last k r priority runs is some =
     stands_since law (λ w w2. HasCommitted w r w2) (committed_later r) (Commit r) (Priority priority) (λ w entry w2 step. processed w r entry priority w2 step some) lines answers first last k runs is
+
+-- so do the blocks of a delete
+
+deletes_last : (key : List ℕ) (count : ℕ) (s : ReplicaState) (mid last : Durable) (run run2 : Option Running) (fuse fuse2 : Option Fuse) → GoesOn mid last → StillDeleted key count s (record { state = record { durable = mid; run = run }; fuse = fuse })
+    → StillDeleted key count s (record { state = record { durable = last; run = run2 }; fuse = fuse2 })
+deletes_last key count s mid last run run2 fuse fuse2 grows (deltas, behind, are, many, order) = (
+  deltas,
+  behind ++ grows.processed,
+  are,
+  many,
+  grows.order ∙ ap (λ (l : List Cid). l ++ grows.processed) order ∙ append_assoc (s.state.durable.order ++ chain_cids (next_links (kept_of s.state.durable)) deltas) behind grows.processed,
+)
+
+told_deletes : (key : List ℕ) (count : ℕ) (old : Option ReplicaState) (mid last : Option Kept) (fuse fuse2 : Option Fuse) (run run2 : Option Running) → Told old (state_of mid fuse run) (StillDeleted key count) → ContentGrows mid last → Told old (state_of last fuse2 run2) (StillDeleted key count)
+told_deletes key count None mid last fuse fuse2 run run2 told grows = tt
+told_deletes key count (Some s) None last fuse fuse2 run run2 told grows = absurd told
+told_deletes key count (Some s) (Some mid) None fuse fuse2 run run2 told grows = absurd grows
+told_deletes key count (Some s) (Some mid) (Some last) fuse fuse2 run run2 told grows = deletes_last key count s (durable_of mid) (durable_of last) run run2 fuse fuse2 grows told
+
+deleted_later : (r : ℕ) (key : List ℕ) (count : ℕ) (w w2 w3 : WorldState) → HasDeletedSince w r key count w2 → OnlyGrows w2 w3 → HasDeletedSince w r key count w3
+deleted_later r key count w w2 w3 is grows = later (slice_get w3.places r) refl (subst (λ (o : Option Place). GrowsAt o (slice_get w3.places r)) is.stands (grows.each r))
+  where
+    later : (o : Option Place) → slice_get w3.places r ≡ o → GrowsAt (Some is.new) o → HasDeletedSince w r key count w3
+    later None stands g = absurd g
+    later (Some q) stands g = record {
+      old = is.old;
+      new = q;
+      stood = is.stood;
+      stands = stands;
+      processed = told_deletes key count (state_at is.old) is.new.content q.content is.new.fuse q.fuse is.new.run q.run is.processed g;
+    }
+
+deleted_now : (r : ℕ) (key : List ℕ) (count : ℕ) (w w2 : WorldState) → HasDeleted w r key count w2 → HasDeletedSince w r key count w2
+deleted_now r key count w w2 is = record {
+  old = is.old;
+  new = is.new;
+  stood = is.stood;
+  stands = is.stands;
+  processed = told_weaker (AddsChain key count) (StillDeleted key count) (λ s t h. (h.0, [], h.1, h.2, h.3 ∙ sym (append-nil (s.state.durable.order ++ chain_cids (next_links (kept_of s.state.durable)) h.0)))) (state_at is.old) (state_at is.new) is.processed;
+}
+
+abbrev pub DeleteLaw : Type 0
+DeleteLaw = (w : WorldState) (r : ℕ) (key : List ℕ) (entry : LineEntry) (count : ℕ) (w2 : WorldState) → Step w (Del r key) entry (Deleted count) w2 → HasDeleted w r key count w2
+
+pub delete_stands : (law : GrowLaw) (processed : DeleteLaw) (lines : List (List ℕ)) (answers : List (Option Answer)) (first last : WorldState) (k r : ℕ) (key : List ℕ) (count : ℕ) → Runs first lines answers last → IsLineAt lines answers k (Del r key) (Deleted count)
+    → SinceLine first lines answers k last (λ w w2. HasDeletedSince w r key count w2)
+delete_stands law processed lines answers first last k r key count runs is =
+    stands_since law (λ w w2. HasDeletedSince w r key count w2) (deleted_later r key count) (Del r key) (Deleted count) (λ w entry w2 step. deleted_now r key count w w2 (processed w r key entry count w2 step)) lines answers first last k runs is

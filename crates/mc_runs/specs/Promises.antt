@@ -1,6 +1,6 @@
 -- What is promised of every run.
-use Rattle.std.specs.Prelude.{◌≡◌, ◌≤◌, ⊤, ℕ, ◌+◌, ◌==◌, ◌&&◌, ◌||◌, Bool, false, List, [], ◌∷◌, ◌++◌, length}
-use Rattle.std.specs.Prelude.{cond, take, drop, suc, Option, Some, None, IfSome, is_some, slice_get}
+use Rattle.std.specs.Prelude.{◌≡◌, ◌≤◌, ⊤, ℕ, ◌+◌, ◌==◌, ◌&&◌, ◌||◌, Bool, true, false, List, [], ◌∷◌, ◌++◌, length}
+use Rattle.std.specs.Prelude.{cond, not, take, drop, suc, Option, Some, None, IfSome, is_some, slice_get}
 use Rattle.std.specs.List.{list_any}
 use Rattle.mc_base.specs.Told.{Told}
 use Rattle.mc_base.specs.declared.cid.Cid.{Cid}
@@ -15,12 +15,15 @@ use Rattle.mc_model.specs.declared.delta.Delta.{Delta}
 use Rattle.mc_core.specs.Batches.{delta_of_batch}
 use Rattle.mc_core.specs.Deletes.{IsDeltas}
 use Rattle.mc_core.specs.Events.{ReplicaState}
-use Rattle.mc_core.specs.Puts.{next_links}
+use Rattle.mc_core.specs.Puts.{delta_of_put, next_links}
 use Rattle.mc_drain.specs.Reached.{AreReached}
+use Rattle.mc_storm.specs.Interleavings.{IsInterleaving, StormCall}
+use Rattle.mc_storm.specs.Storms.{CallActs, storm_key, storm_value}
 use Rattle.mc_script.specs.Line.{line_of}
 use Rattle.mc_script.specs.declared.command.Command.{Command}
 use Rattle.mc_script.specs.declared.reply.Reply.{Reply}
 pub use Rattle.mc_seats.specs.Calls.{is_read}
+use Rattle.mc_seats.specs.Asks.{is_named, may_fail}
 use Rattle.mc_seats.specs.Doing.{At, Compares, Doing, Tends, doing}
 use Rattle.mc_seats.specs.Effects.{batch_in, done_by}
 use Rattle.mc_seats.specs.Tending.{is_runs}
@@ -71,6 +74,19 @@ pub record HasDeleted (w : WorldState) (r : ℕ) (key : List ℕ) (count : ℕ) 
       × IsDeltas (kept_of s.state.durable) key deltas × (count ≡ length deltas)
       × (t.state.durable.order ≡ s.state.durable.order ++ chain_cids (next_links (kept_of s.state.durable)) deltas))
 
+-- in a later world the blocks of a delete stand there still, and others may stand behind them
+abbrev pub StillDeleted : List ℕ → ℕ → ReplicaState → ReplicaState → Type 0
+StillDeleted key count s t = (deltas : List Delta) × (behind : List Cid) × IsDeltas (kept_of s.state.durable) key deltas
+    × (count ≡ length deltas)
+    × (t.state.durable.order ≡ s.state.durable.order ++ chain_cids (next_links (kept_of s.state.durable)) deltas ++ behind)
+
+pub record HasDeletedSince (w : WorldState) (r : ℕ) (key : List ℕ) (count : ℕ) (w2 : WorldState) : Type 0 where
+  pub old : Place
+  pub new : Place
+  pub stood : slice_get w.places r ≡ Some old
+  pub stands : slice_get w2.places r ≡ Some new
+  pub processed : Told (state_at old) (state_at new) (StillDeleted key count)
+
 -- the block of a batch
 abbrev pub batch_cid : OpenBatch → Kept → Cid
 batch_cid batch kept = made_cid (next_links kept) (delta_of_batch kept batch)
@@ -104,6 +120,37 @@ pub record HasMore (w : WorldState) (r : ℕ) (count : ℕ) (w2 : WorldState) : 
   pub processed : Told (state_at old) (state_at new) (λ s t.
       length s.state.durable.order + count ≤ length t.state.durable.order)
 
+-- the block that a call of a storm makes over these blocks, where it is a put that makes one
+abbrev pub block_by : StormCall → Kept → List Cid
+block_by call kept = cond (not call.gets && call.write.made)
+    (made_cid (next_links kept) (delta_of_put kept (storm_key call.writer) (storm_value call.write.number)) ∷ []) []
+
+-- the calls of a storm, one after the other, and the blocks that they make, each over the blocks that are there then
+abbrev pub CallsMake : List StormCall → ReplicaState → List Cid → ReplicaState → Type 0
+CallsMake [] s cids new = (cids ≡ []) × (new ≡ s)
+CallsMake (call ∷ calls) s cids new = (mid : ReplicaState) × (rest : List Cid) × CallActs call s mid
+    × (cids ≡ block_by call (kept_of s.state.durable) ++ rest) × CallsMake calls mid rest new
+
+-- the blocks of a storm's puts stand, in one interleaving of its writers' calls, behind what was processed before it;
+-- they are so many, and others may stand behind them
+pub record StandStormed (writers writes made : ℕ) (s t : ReplicaState) : Type 0 where
+  pub calls : List StormCall
+  pub interleaved : IsInterleaving writers writes calls
+  pub cids : List Cid
+  pub after : ReplicaState
+  pub make : CallsMake calls s cids after
+  pub many : length cids ≡ made
+  pub behind : List Cid
+  pub order : t.state.durable.order ≡ s.state.durable.order ++ cids ++ behind
+
+-- so it is at the replica with this number, where its content is told
+pub record HasStormed (w : WorldState) (r writers writes made : ℕ) (w2 : WorldState) : Type 0 where
+  pub old : Place
+  pub new : Place
+  pub stood : slice_get w.places r ≡ Some old
+  pub stands : slice_get w2.places r ≡ Some new
+  pub processed : Told (state_at old) (state_at new) (StandStormed writers writes made)
+
 -- the line at this place, counted from 0, asks for this and is answered so
 pub record IsLineAt (lines : List (List ℕ)) (answers : List (Option Answer)) (k : ℕ) (command : Command) (reply : Reply)
     : Type 0 where
@@ -128,9 +175,21 @@ pub record AfterLine (first : WorldState) (lines : List (List ℕ)) (answers : L
   pub behind : Runs after (drop (suc k) lines) (drop (suc k) answers) last
   pub holds : P after
 
--- no gap is left, and the processed blocks are those that the heads reach
-abbrev pub IsSettled : ReplicaState → Type 0
-IsSettled s = (gaps (blocks_of s.state.durable) ≡ []) × AreReached s.state.durable
+-- P holds of the worlds before and after the line at this place, between which the lines before and behind it lead from
+-- the first world to the last one
+pub record AroundLine (first : WorldState) (lines : List (List ℕ)) (answers : List (Option Answer)) (k : ℕ)
+    (last : WorldState) (P : WorldState → WorldState → Type 0) : Type 0 where
+  pub before : WorldState
+  pub after : WorldState
+  pub leads : Runs first (take k lines) (take k answers) before
+  pub behind : Runs after (drop (suc k) lines) (drop (suc k) answers) last
+  pub holds : P before after
+
+-- no gap is left, the mark is clear, and the processed blocks are those that the heads reach
+pub record IsSettled (s : ReplicaState) : Type 0 where
+  pub no_gaps : gaps (blocks_of s.state.durable) ≡ []
+  pub mark_clear : s.state.durable.mark ≡ false
+  pub reached : AreReached s.state.durable
 
 -- so it is at the replica with this number, where its content is told
 pub record HasSettled (w : WorldState) (r : ℕ) : Type 0 where
@@ -174,3 +233,7 @@ some_stopped w numbers = list_any (λ r. has_stopped (slice_get w.places r)) num
 -- whether these two are those two, in either order
 abbrev pub same_pair : ℕ → ℕ → ℕ → ℕ → Bool
 same_pair r other a b = (r == a && other == b) || (r == b && other == a)
+
+-- the fuse of a keeper that may fail in this command was armed in one world, and is no more in the other
+abbrev pub FuseFired : Command → WorldState → WorldState → Type 0
+FuseFired command w w2 = (r : ℕ) × (is_named (may_fail command) r ≡ true) × (fired_at w w2 r ≡ true)

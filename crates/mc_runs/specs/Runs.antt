@@ -69,12 +69,22 @@ owns_none (Some answer) = names_none answer.entry.own && names_none answer.entry
 abbrev pub own_free : List (Option Answer) → Bool
 own_free answers = list_all owns_none answers
 
+-- how many answers have an entry that names one
+abbrev pub own_of : Option Answer → ℕ
+own_of answer = cond (owns_none answer) 0 1
+
+abbrev pub owns_in : List (Option Answer) → ℕ
+owns_in answers = sum_by own_of answers
+
 -- a count that was this rose by this many to what it is now, or it stands at its last value
 abbrev pub IsWithin : ℕ → ℕ → ℕ → Type 0
 IsWithin before now many = min (before + many) (2 ^ 64 - 1) ≤ now
 
--- what may be answered to some lines while a count rises from one number to another: no more faults than it rose by and
--- fuses were armed; and where all is calm, no entry names a keeper or a desk that failed by itself
-abbrev pub MayAnswer : Type 0 → ℕ → ℕ → List (List ℕ) → List (Option Answer) → Type 0
-MayAnswer calm before now lines answers =
-    IsWithin before (now + arms_in lines) (faults_in answers) × (calm → own_free answers ≡ true)
+-- What may be answered to some lines while a count rises from one number to another: no more faults than it rose by and
+-- fuses were armed; no more answers whose entry names a keeper or a desk that failed by itself than it rose by; and where
+-- all is calm none.
+pub record MayAnswer (calm : Type 0) (before now : ℕ) (lines : List (List ℕ)) (answers : List (Option Answer))
+    : Type 0 where
+  pub paid : IsWithin before (now + arms_in lines) (faults_in answers)
+  pub own_paid : IsWithin before now (owns_in answers)
+  pub own_none : calm → own_free answers ≡ true

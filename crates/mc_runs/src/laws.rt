@@ -1,5 +1,6 @@
 // What is promised of every run, by the definitions.
-ghost use Rattle.std.specs.Prelude.{◌≡◌, ◌≢◌, ◌↔◌, ℕ, Bool, List, [], Option, Some, true, false, slice_get};
+ghost use Rattle.std.specs.Prelude.{◌≡◌, ◌≢◌, ◌↔◌, ◌<◌, ◌-◌, ◌^◌, ℕ, Bool, List, [], Option, Some, true, false};
+ghost use Rattle.std.specs.Prelude.{slice_get};
 ghost use Rattle.mc_model.specs.Made.{made_cid};
 ghost use Rattle.mc_model.specs.SameMembers.{SameMembers};
 ghost use Rattle.mc_model.specs.State.{blocks_of};
@@ -14,16 +15,19 @@ ghost use Rattle.mc_seats.specs.declared.entry.LineEntry.{LineEntry as Entry};
 ghost use Rattle.mc_seats.specs.declared.links.Link.{Link as LinkState};
 ghost use Rattle.mc_seats.specs.Asks.{focus, is_named, may_fail};
 ghost use Rattle.mc_seats.specs.Effects.{DoneAt};
-ghost use Rattle.mc_runs.specs.Promises.{AfterLine, HasCommitted, HasDeleted, HasMore, HasProcessed, HasSettled};
-ghost use Rattle.mc_runs.specs.Promises.{IsLineAt, OnlyGrows, SinceLine};
+ghost use Rattle.mc_runs.specs.Promises.{AfterLine, AroundLine, FuseFired, HasCommitted, HasDeleted, HasDeletedSince, HasMore, HasProcessed};
+ghost use Rattle.mc_runs.specs.Promises.{HasSettled, HasStormed, IsLineAt, OnlyGrows, SinceLine};
 ghost use Rattle.mc_runs.specs.Promises.{DoneElsewhere, asks_running, fired_at, is_read, same_pair};
 ghost use Rattle.mc_runs.specs.Promises.{some_stopped, tells_at};
-ghost use Rattle.mc_runs.specs.Runs.{Answer, Runs};
+ghost use Rattle.std.specs.List.{AllByRecursion};
+ghost use Rattle.mc_script.specs.Line.{line_of};
+ghost use Rattle.mc_runs.specs.OneText.{AreOpen, IsOne, replies_in};
+ghost use Rattle.mc_runs.specs.Runs.{Answer, IsWithin, Runs, own_free, owns_in};
 ghost use Rattle.mc_seats.specs.Step.{Step, with_link};
 ghost use Rattle.mc_seats.specs.Worlds.{Place, WorldState, is_linked, state_at};
 
-use mc_core::written_blocks_stand;
-use mc_model::{order_and_store_grow, same_blocks_same_answers};
+use mc_core::{clean_replicas_are_reached, written_blocks_stand};
+use mc_model::{kept_is_durable, order_and_store_grow, same_blocks_same_answers};
 
 /// No line takes a block out of the processed ones of a replica, or changes its position; nor out of the stored ones,
 /// or changes its bytes: whatever faults came, at whatever replica. So a block that was acknowledged stays in every
@@ -65,7 +69,9 @@ pub fn acknowledged_deletes_are_processed()
 {}
 
 /// After a storm that was answered by `stormed M S`, its replica has processed at least M blocks more, in the world
-/// after it and, in a run, in the last one. The line may stand at any place, counted from 0.
+/// after it and, in a run, in the last one: they stand behind what was processed before the storm, and are those of the
+/// puts of one interleaving of its writers' calls, each over the blocks that were there when it came. The line may stand
+/// at any place, counted from 0.
 pub fn acknowledged_storms_are_processed()
     ensures step { (w : WorldState) (r writers writes : ℕ) (entry : Entry) (made same : ℕ) (w2 : WorldState) →
         Step w (Storm r writers writes) entry (Stormed made same) w2 → HasMore w r made w2 }
@@ -73,13 +79,18 @@ pub fn acknowledged_storms_are_processed()
         (k r writers writes made same : ℕ) → Runs first lines answers last →
         IsLineAt lines answers k (Storm r writers writes) (Stormed made same) → SinceLine first lines answers k last
         (λ w w2. HasMore w r made w2) }
+    ensures blocks { (lines : List (List ℕ)) (answers : List (Option Answer)) (first last : WorldState)
+        (k r writers writes made same : ℕ) → Runs first lines answers last →
+        IsLineAt lines answers k (Storm r writers writes) (Stormed made same) → SinceLine first lines answers k last
+        (λ w w2. HasStormed w r writers writes made w2) }
 {
     order_and_store_grow();
 }
 
 /// In a run, the block of a put that was answered by `ok` stands in the last world, at its place in the order of the
-/// blocks that its replica processed; and so does that of a batch whose commit was answered by `ok` and a number that
-/// isn't 0. The line may stand at any place, counted from 0.
+/// blocks that its replica processed; so does that of a batch whose commit was answered by `ok` and a number that isn't
+/// 0; and so do the N blocks of a delete that was answered by `deleted N`. The line may stand at any place, counted from
+/// 0.
 pub fn acknowledged_blocks_stand()
     ensures puts { (lines : List (List ℕ)) (answers : List (Option Answer)) (first last : WorldState)
         (k r : ℕ) (key bytes : List ℕ) (priority : ℕ) → Runs first lines answers last →
@@ -89,10 +100,15 @@ pub fn acknowledged_blocks_stand()
         (k r : ℕ) (priority : ℕ) → Runs first lines answers last →
         IsLineAt lines answers k (Commit r) (Priority priority) → priority ≢ 0 → SinceLine first lines answers k last
         (λ w w2. HasCommitted w r w2) }
+    ensures deletes { (lines : List (List ℕ)) (answers : List (Option Answer)) (first last : WorldState)
+        (k r : ℕ) (key : List ℕ) (count : ℕ) → Runs first lines answers last →
+        IsLineAt lines answers k (Del r key) (Deleted count) → SinceLine first lines answers k last
+        (λ w w2. HasDeletedSince w r key count w2) }
 {
     order_and_store_grow();
     acknowledged_puts_are_processed();
     acknowledged_commits_are_processed();
+    acknowledged_deletes_are_processed();
 }
 
 /// Replicas with equal processed blocks, in whatever order, give equal answers to every command that only reads: two of
@@ -127,15 +143,26 @@ pub fn links_are_mutual()
 /// Where no desk of a peer failed, no answer is `fault peer`. Where no keeper failed by itself, an answer of
 /// `fault keeper` is that of a fuse: one of the keepers that may fail in the command was armed before it, and is no
 /// more. And where the fuse of a keeper that tells its content made a commit fail, the answer is `fault keeper`.
+///
+/// What holds of a line holds of every line of a run whose entries name no keeper and no desk that failed by itself; and
+/// where the count that pays for such entries has not risen, over whatever keepers, there is none.
 pub fn quiet_faults_are_fuses()
     ensures peer { (w : WorldState) (command : Asked) (entry : Entry) (reply : Said) (w2 : WorldState) →
         Step w command entry reply w2 → entry.desks ≡ [] → reply ≢ FaultPeer }
     ensures keeper { (w : WorldState) (command : Asked) (entry : Entry) (reply : Said) (w2 : WorldState) →
-        Step w command entry reply w2 → entry.own ≡ [] → reply ≡ FaultKeeper →
-        (r : ℕ) × (is_named (may_fail command) r ≡ true) × (fired_at w w2 r ≡ true) }
+        Step w command entry reply w2 → entry.own ≡ [] → reply ≡ FaultKeeper → FuseFired command w w2 }
     ensures fired { (w : WorldState) (command : Asked) (entry : Entry) (reply : Said) (w2 : WorldState) (r : ℕ) →
         Step w command entry reply w2 → tells_at (slice_get w.places r) ≡ true → fired_at w w2 r ≡ true →
         reply ≡ FaultKeeper }
+    ensures uncounted { (count : ℕ) (answers : List (Option Answer)) → count < 2 ^ 64 - 1 →
+        IsWithin count count (owns_in answers) → own_free answers ≡ true }
+    ensures no_peer { (lines : List (List ℕ)) (answers : List (Option Answer)) (first last : WorldState) (k : ℕ)
+        (command : Asked) → Runs first lines answers last → own_free answers ≡ true →
+        IsLineAt lines answers k command FaultPeer → ⊥ }
+    ensures fuses { (lines : List (List ℕ)) (answers : List (Option Answer)) (first last : WorldState) (k : ℕ)
+        (command : Asked) → Runs first lines answers last → own_free answers ≡ true →
+        IsLineAt lines answers k command FaultKeeper →
+        AroundLine first lines answers k last (FuseFired command) }
 {}
 
 /// A command is answered by `stopped` exactly where a replica that it works on doesn't run: that of every command of
@@ -145,13 +172,28 @@ pub fn stopped_is_exact()
         Step w command entry reply w2 → (reply ≡ Stopped) ↔ (some_stopped w (asks_running command) ≡ true) }
 {}
 
-/// After a repair that was answered by `clean`, no gap is left at its replica, and where no stored block leads back to
-/// itself, the processed blocks are exactly those that its heads reach. In a run the line may stand at any place,
-/// counted from 0.
+/// After a repair that was answered by `clean`, no gap is left at its replica and its mark is clear, and where no stored
+/// block leads back to itself, the processed blocks are exactly those that its heads reach. In a run the line may stand
+/// at any place, counted from 0.
 pub fn clean_repairs_are_reached()
     ensures step { (w : WorldState) (r workers : ℕ) (entry : Entry) (w2 : WorldState) →
         Step w (Repair r workers) entry Clean w2 → HasSettled w2 r }
     ensures line { (lines : List (List ℕ)) (answers : List (Option Answer)) (first last : WorldState)
         (k r workers : ℕ) → Runs first lines answers last → IsLineAt lines answers k (Repair r workers) Clean →
         AfterLine first lines answers k last (λ w. HasSettled w r) }
-{}
+{
+    kept_is_durable();
+    clean_replicas_are_reached();
+}
+
+/// The text of a run is one: two runs of the same lines from the same first world give equal replies and come to equal
+/// worlds, where each replica tells its content, no fuse is armed, and no keeper and no desk failed by itself. The
+/// commands whose workers or writers take turns are not among these lines, nor is a delete.
+pub fn runs_are_one()
+    ensures { (lines : List (List ℕ)) (answers answers2 : List (Option Answer)) (first last last2 : WorldState) →
+        AreOpen first → AllByRecursion (λ line. IsOne (line_of line)) lines → own_free answers ≡ true →
+        own_free answers2 ≡ true → Runs first lines answers last → Runs first lines answers2 last2 →
+        (replies_in answers ≡ replies_in answers2) × (last ≡ last2) }
+{
+    kept_is_durable();
+}

@@ -71,7 +71,7 @@ module _ {K D : Type 0} {g : keeper.Ghosts K D} {h : counted.Ghosts K} {i : coun
 module _ {K D : Type 0} (k : Members K D) where
   left_self : (parts : List (Part K D)) → AreFresh k.told k.fuse parts → AreLeft k parts parts
   left_self [] fresh = tt
-  left_self (part ∷ parts) fresh = (record { told_same = refl; no_fuse = fresh.0.no_fuse; own_later = omega arith }, left_self parts fresh.1)
+  left_self (part ∷ parts) fresh = let none = ap length fresh.0.no_desks in (record { told_same = refl; no_fuse = fresh.0.no_fuse; own_later = omega arith; few = omega (arith, none) }, left_self parts fresh.1)
 
   left_append : (parts lefts more more_left : List (Part K D)) → AreLeft k parts lefts → AreLeft k more more_left → AreLeft k (parts ++ more) (lefts ++ more_left)
   left_append [] [] more more_left first second = second
@@ -109,7 +109,7 @@ module _ {K D : Type 0} {g : keeper.Ghosts K D} {h : counted.Ghosts K} {i : coun
   opened_left : (parts : List (Part K D)) (seats : List (Seat K D g h i)) (desks : List (List D)) → AreOpened k desk_faults parts seats desks → AreLeft k parts (parts_of seats desks)
   opened_left [] [] [] all = tt
   opened_left (first ∷ parts) (next ∷ seats) (front ∷ desks) all =
-      (record { told_same = all.0.told_same; no_fuse = all.0.no_fuse; own_later = omega (arith, all.0.own_same) }, opened_left parts seats desks all.1)
+      (record { told_same = all.0.told_same; no_fuse = all.0.no_fuse; own_later = omega (arith, all.0.own_same); few = omega (arith, all.0.many) }, opened_left parts seats desks all.1)
   opened_left [] [] (front ∷ desks) all = absurd all
   opened_left [] (next ∷ seats) desks all = absurd all
   opened_left (first ∷ parts) [] desks all = absurd all
@@ -217,12 +217,12 @@ module _ {K D : Type 0} {g : keeper.Ghosts K D} {h : counted.Ghosts K} {i : coun
   opening_done all [] seats desks opening none = subst (λ (l : List (Part K D)). AreOpened k desk_faults l seats desks) (sym (opening.split ∙ append-nil opening.taken)) opening.opened
   opening_done all (part ∷ parts) seats desks opening none = absurd (omega (arith, none))
 
-  pub opening_refused : (cause : OpenCause) (all parts rest : List (Part K D)) (seats : List (Seat K D g h i)) (desks : List (List D)) (part left : Part K D) → IsOpening all parts seats desks → parts ≡ part ∷ rest → IsBack k cause part.keeper left.keeper
+  pub opening_refused : (cause : OpenCause) (all parts rest : List (Part K D)) (seats : List (Seat K D g h i)) (desks : List (List D)) (part left : Part K D) → IsOpening all parts seats desks → parts ≡ part ∷ rest → IsBack k cause part.keeper left.keeper → length left.desks ≤ desks_each
       → AreRefused k cause all (parts_of seats desks ++ left ∷ rest)
-  opening_refused cause all parts rest seats desks part left opening out back = record {
+  opening_refused cause all parts rest seats desks part left opening out back few = record {
     left = subst (λ (l : List (Part K D)). AreLeft k l (parts_of seats desks ++ left ∷ rest)) (sym split)
         (left_append k opening.taken (parts_of seats desks) (part ∷ rest) (left ∷ rest) (opened_left opening.taken seats desks opening.opened)
-        (record { told_same = back.told_same; no_fuse = back.no_fuse; own_later = back.own_later }, left_self k rest fresh.1));
+        (record { told_same = back.told_same; no_fuse = back.no_fuse; own_later = back.own_later; few = few }, left_self k rest fresh.1));
     rose = λ e. subst (λ (l : List (Part K D)). Rose (owns_of k l) (owns_of k (parts_of seats desks ++ left ∷ rest))) (sym split)
         (rose_in (λ (p : Part K D). k.own p.keeper) opening.taken (parts_of seats desks) part left rest (opened_owns opening.taken seats desks opening.opened) (back.rose e));
     calm = λ e f. back.calm (first_true _ _ (sym (ap (are_calm k) out) ∙ opening.calm e)) f;

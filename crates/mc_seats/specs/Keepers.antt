@@ -1,6 +1,6 @@
 -- What the keepers and the desks of a world count, and how a world goes on.
 use Rattle.std.specs.Prelude.{◌≡◌, ◌≤◌, ◌⊎◌, ℕ, ◌+◌, ◌-◌, ◌^◌, min, nat_eq, Bool, true, ◌&&◌, cond, List, is_some}
-use Rattle.std.specs.List.{list_all, sum_by}
+use Rattle.std.specs.List.{AllZip, list_all, sum_by}
 use Rattle.mc_base.specs.declared.counted.Counted as counted
 use Rattle.mc_keep.specs.Calls.{Members}
 use Rattle.mc_keep.specs.declared.keeper.Keeper as keeper
@@ -26,6 +26,10 @@ desk_count count desks = min (sum_by count desks) (2 ^ 64 - 1)
 -- what the desks of some replicas have failed
 abbrev pub desks_in : {D : Type 0} → (D → ℕ) → List (List D) → ℕ
 desks_in desk_faults desks = sum_by (λ list. sum_by desk_faults list) desks
+
+-- each thing's count is at least what it was
+abbrev pub AllLater : {A : Type 0} → (A → ℕ) → List A → List A → Type 0
+AllLater count olds news = AllZip (λ x y. count x ≤ count y) olds news
 
 -- A count of faults over a step: it never falls. Each fault that is answered is paid by it, or by a fuse that is armed
 -- no more, and each fuse that is armed by a command that arms one; or the count stands at the last value of 64 bits.
@@ -71,8 +75,11 @@ module _ {K D : Type 0} {g : keeper.Ghosts K D} {h : counted.Ghosts K} {i : coun
   is_calm world = list_all (λ (seat : Seat K D g h i). is_calm_keeper k (keeper_of seat)) world.seats.items
       && list_all (λ (list : List D). list_all (is_calm_desk k desk_faults) list) world.desks.items
 
-  -- What every call leaves of a world: each fault that it answers is paid, and what is calm stays calm.
+  -- What every call leaves of a world: each fault that it answers is paid, and what is calm stays calm; and no count of
+  -- a keeper by itself, or of a replica's desks together, falls.
   pub record WorldGoes (faults arms : ℕ) (old new : World K D g h i) : Type 0 where
     pub paid : IsPaid faults arms (counted_in old) (armed_in k old.seats.items) (counted_in new)
         (armed_in k new.seats.items)
     pub calm : is_calm old ≡ true → is_calm new ≡ true
+    pub own_later : AllLater (λ (seat : Seat K D g h i). k.own (keeper_of seat)) old.seats.items new.seats.items
+    pub desks_later : AllLater (λ (list : List D). sum_by desk_faults list) old.desks.items new.desks.items

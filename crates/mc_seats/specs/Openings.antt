@@ -73,11 +73,13 @@ module _ {K D : Type 0} (k : Members K D) where
     pub rose : cause ≡ KeeperFault → Rose (k.own old) (k.own new)
     pub calm : is_calm_keeper k old ≡ true → cause ≡ KeeperFault → ⊥
 
-  -- A part that is handed back: its keeper tells what it told, has no fuse, and its own count has not fallen.
+  -- A part that is handed back: its keeper tells what it told, has no fuse, and its own count has not fallen; of its desks
+  -- those that were made are with it.
   pub record IsLeft (part left : Part K D) : Type 0 where
     pub told_same : k.told left.keeper ≡ k.told part.keeper
     pub no_fuse : k.fuse left.keeper ≡ None
     pub own_later : k.own part.keeper ≤ k.own left.keeper
+    pub few : length left.desks ≤ desks_each
 
   abbrev pub AreLeft : List (Part K D) → List (Part K D) → Type 0
   AreLeft [] [] = ⊤

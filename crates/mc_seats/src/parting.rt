@@ -42,6 +42,7 @@ pub(crate) fn open_part<K: Keeper>(alloc: Global, part: Part<K>) -> Result<Opene
     requires fresh { IsFresh K.told K.fuse part }
     ensures opened { IfOk result (λ opened. IsOpened K.Keeper K.Desk.faults part opened.seat opened.desks) }
     ensures back { IfErr result (λ refused. IsBack K.Keeper refused.cause part.keeper refused.part.keeper) }
+    ensures few { IfErr result (λ refused. length refused.part.desks ≤ desks_each) }
 {
     let Part { keeper, desks } = part;
     match Replica::open(alloc, keeper) {
@@ -64,6 +65,7 @@ fn add_desks<K: Keeper>(
     requires no_fuse { K.fuse replica.keeper ≡ None }
     ensures seated { IfOk result (λ opened. IsSeated K.Keeper K.Desk.faults replica opened.seat opened.desks) }
     ensures back { IfErr result (λ refused. IsBack K.Keeper refused.cause replica.keeper refused.part.keeper) }
+    ensures few { IfErr result (λ refused. length refused.part.desks ≤ desks_each) }
 {
     let mut replica = replica;
     let mut desks = desks.into_vec();
@@ -94,6 +96,7 @@ fn make_desks<K: Keeper>(
     ensures makes { MakesDesks K.Keeper (is_open_fault result) replica.old replica.new }
     ensures new_desks { AreNewDesks K.Keeper K.Desk.faults replica.old.keeper desks.new.items }
     ensures many { OnOk result (length desks.new.items ≡ desks_each) }
+    ensures few { length desks.new.items ≤ desks_each }
 {
     match desks.reserve(DESKS) {
         Ok(()) => fill_desks(replica, alloc, desks),
@@ -112,6 +115,7 @@ fn fill_desks<K: Keeper>(
     ensures makes { MakesDesks K.Keeper (is_open_fault result) replica.old replica.new }
     ensures new_desks { AreNewDesks K.Keeper K.Desk.faults replica.old.keeper desks.new.items }
     ensures many { OnOk result (length desks.new.items ≡ desks_each) }
+    ensures few { length desks.new.items ≤ desks_each }
 {
     for _made in 0..DESKS {
         match replica.desk(alloc) {

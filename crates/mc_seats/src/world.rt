@@ -27,7 +27,7 @@ pub struct NoWorld<K: Keeper> {
 
 /// Some replicas in order of name, each running or stopped; the messages ever sent, numbered from 1; the links between
 /// the replicas; the offers that are planted at them; and the record of the lines that were executed. Each replica has
-/// its desks at hand, at least one.
+/// its sixteen desks at hand.
 pub struct World<K: Keeper> {
     /// The replicas.
     pub seats: Vec<Seat<K>>,

@@ -9,3 +9,6 @@ returns-in-Whole-clause-generated g c =
 pub returns-in-Bad-clause-generated : goal.returns-in-Bad-clause-generated
 returns-in-Bad-clause-generated g c =
     let bad = c.in-Bad.ensures.sums _ c.new-summary.ensures in said_bad _ _ _ _ _ _ _ _ _ bad c.refuse.ensures.refuses
+
+pub returns-in-Short-clause-generated : goal.returns-in-Short-clause-generated
+returns-in-Short-clause-generated g c = (c.in-Short.ensures.sums _ c.new-summary.ensures, keeps_same _)

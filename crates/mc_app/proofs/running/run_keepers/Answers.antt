@@ -6,12 +6,13 @@ use Rattle.mc_app.proofs.running.run_keepers.Goals as goal
 use Rattle.mc_seats.specs.Starts.{IsFirst}
 
 pub returns-in-Err-clause-outcome : goal.returns-in-Err-clause-outcome
-returns-in-Err-clause-outcome g c = unmade_outcome _ _ _ _ _ _ _ _ _ _ _ c.status_of.ensures c.in-Err.ensures.taken c.in-Err.ensures.lost
+returns-in-Err-clause-outcome g c = unmade_outcome g.K.Keepers.takes g.K.K.Keeper.told _ _ _ _ _ _ _ _ _ c.status_of.ensures c.in-Err.ensures.taken c.in-Err.ensures.lost
 
 pub returns-clause-outcome : goal.returns-clause-outcome
 returns-clause-outcome g c = outcome_told _ _ _ _ _ _ _ _ _ _ _ (λ w first. subst (λ (l : List (Option Kept)). IsFirst l w) c.in-Ok.ensures.starts first)
     (λ lines answers may. may_lost _ _ _ _ _ _ lines answers c.in-Ok.ensures.lost_same c.give_back.ensures.lost c.in-Ok.ensures.calm may)
-    (λ w same. ends_taken _ _ _ _ _ _ _ w same c.give_back.ensures.taken) c.run_parts-status.ensures.outcome
+    (λ w ends. ends_taken g.K.Keepers.takes g.K.K.Keeper.told _ _ _ _ _ _ w c.give_back.ensures.taken c.run_parts-status.ensures.few c.in-Ok.ensures.starts ends) c.run_parts-status.ensures.outcome
 
 pub returns-clause-untouched_keepers : goal.returns-clause-untouched_keepers
-returns-clause-untouched_keepers g c = λ failed. all_taken _ _ _ _ _ _ (c.run_parts-status.ensures.same failed ∙ c.in-Ok.ensures.starts) c.give_back.ensures.taken
+returns-clause-untouched_keepers g c = λ failed. all_taken g.K.Keepers.takes g.K.K.Keeper.told _ _ _ _ c.give_back.ensures.taken c.run_parts-status.ensures.few
+    (c.run_parts-status.ensures.same failed ∙ c.in-Ok.ensures.starts)

@@ -10,3 +10,6 @@ loop-made-preserved g c = (
 
 pub returns-in-Err-clause-makes : goal.returns-in-Err-clause-makes
 returns-in-Err-clause-makes g c = makes_failed _ _ _ _ _ _ _ _ _ c.loop-made.invariant.0 c.in-Err.ensures.keeps c.desk.ensures.rest c.desk.ensures.same c.cause_of.ensures
+
+pub returns-in-Err-clause-few : goal.returns-in-Err-clause-few
+returns-in-Err-clause-few g c = omega (arith, c.loop-made.invariant.0.many)

@@ -1,5 +1,6 @@
 use Rattle.std.proofs.Common.{rules}
-use Rattle.mc_acts.proofs.RecordFacts.{act_goes, act_line, act_not_begun, act_unrecorded, fewer_faults}
+use Rattle.mc_acts.proofs.LiftFacts.{later_same}
+use Rattle.mc_acts.proofs.RecordFacts.{act_goes, act_line, act_not_begun, act_unrecorded, fewer_faults, nothing_goes}
 use Rattle.mc_world.proofs.acting.act.Goals as goal
 
 pub returns-in-Ok-clause-line : goal.returns-in-Ok-clause-line
@@ -16,3 +17,9 @@ returns-clause-short g c = λ _. act_unrecorded _ _ _ _ _ c.args.command.now c.i
 
 pub returns-clause-goes : goal.returns-clause-goes
 returns-clause-goes g c = fewer_faults _ _ _ _ _ _ (act_goes _ _ _ _ _ c.args.command.now c.in_ok-reply.reply _ c.in_ok-reply.ensures.acts c.in-Err.ensures.err)
+
+pub returns-then-not-is_there-clause-goes : goal.returns-then-not-is_there-clause-goes
+returns-then-not-is_there-clause-goes g c = nothing_goes _ _ _ _
+
+pub returns-in_err-before-clause-goes : goal.returns-in_err-before-clause-goes
+returns-in_err-before-clause-goes g c = record { paid = search rules; calm = search rules; own_later = later_same _ _; desks_later = later_same _ _ }

@@ -1,0 +1,5 @@
+use Rattle.mc_runs.proofs.OneFacts.{runs_one}
+use Rattle.mc_runs.proofs.laws.runs_are_one.Goals as goal
+
+pub returns : goal.returns
+returns c = runs_one c.kept_is_durable.ensures.back
