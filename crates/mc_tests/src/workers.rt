@@ -41,6 +41,12 @@ impl Shop for Numbered {
 
     ghost kept = { [] };
 
+    ghost nexts = { λ result before after. ⊤ };
+
+    ghost delivers = { λ cid found result before after. ⊤ };
+
+    ghost returns = { λ cid before after. ⊤ };
+
     fn last(seat: &Place) -> Option<HandEnd> {
         seat.last
     }

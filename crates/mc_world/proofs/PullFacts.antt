@@ -1,5 +1,5 @@
 -- A work or a repair of what is held at a seat.
-use Rattle.std.proofs.Common.{◌≡◌, ◌↔◌, ◌∙◌, ℕ, Bool, true, false, List, [], ◌∷◌, arith, Option, Some, None, Result, Ok, Err, refl, sym, ap, subst, inl, inr, ◌⊎◌}
+use Rattle.std.proofs.Common.{◌≡◌, ◌↔◌, ◌∙◌, ℕ, Bool, true, false, List, [], ◌∷◌, Option, Some, None, Result, Ok, Err, refl, sym, ap, subst, inl, inr, ◌⊎◌}
 use Rattle.std.proofs.lemmas.Bool.{false≢true, true≢false}
 use Rattle.mc_base.specs.Causes.{Rose}
 use Rattle.mc_base.specs.Told.{Told}
@@ -24,6 +24,7 @@ use Rattle.mc_seats.specs.declared.seat.Held.{Held}
 use Rattle.mc_seats.specs.declared.seat.Held.TheVariants.{Up}
 use Rattle.mc_seats.specs.Keepers.{keeper_in}
 use Rattle.mc_pull.specs.Pulls.{DeskListGoes}
+use Rattle.mc_pull.proofs.DeskFacts.{same_list}
 use Rattle.std.specs.List.{AllZip}
 use Rattle.mc_world.specs.Pulling.{Broken, PullsBy, PullsKeeper}
 use Rattle.mc_seats.specs.Works.{Pulled, RepairOn, RunsTo}
@@ -129,4 +130,4 @@ repair_on false old new whole batch = batch
 -- desks that no call came to
 pub desks_still : {K D : Type 0} (k : Members K D) (desk_faults : D → ℕ) (quiet : Bool) (lists : List (List D)) → AllZip (DeskListGoes k desk_faults quiet) lists lists
 desks_still k desk_faults quiet [] = tt
-desks_still k desk_faults quiet (list ∷ lists) = (record { many = refl; later = omega arith; calm = λ q c. c }, desks_still k desk_faults quiet lists)
+desks_still k desk_faults quiet (list ∷ lists) = (same_list k desk_faults quiet list, desks_still k desk_faults quiet lists)
