@@ -10,3 +10,4 @@ pub mod StopFacts
 pub mod ReachFacts
 pub mod CalmFacts
 pub mod OneFacts
+pub mod OneEvents

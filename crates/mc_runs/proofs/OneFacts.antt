@@ -1,294 +1,36 @@
--- A command that has one outcome: two steps of it from one world are one.
-use Rattle.std.proofs.Common.{◌≡◌, ◌≢◌, ◌<◌, ◌+◌, ℕ, zero, suc, Bool, true, false, true≢false, List, [], ◌∷◌, ◌++◌, length, map, set, Option, Some, None, Result, Ok, Err, refl, sym, ◌∙◌, ap, subst, inl, inr, nat_lt, arith}
-use Rattle.std.specs.Prelude.{⊤, ◌⊎◌, ◌↔◌, ◌&&◌, IfSome, is_ok, is_some, slice_get, unwrap_or}
+-- A command that has one outcome: two steps of it from one world are one, and so are two runs.
+use Rattle.std.proofs.Common.{◌≡◌, ◌≢◌, ◌+◌, ℕ, zero, suc, Bool, true, false, true≢false, List, [], ◌∷◌, ◌++◌, length, set, Option, Some, None, Ok, refl, sym, ◌∙◌, ap, subst, inl, inr, nat_lt}
+use Rattle.std.specs.Prelude.{◌⊎◌, ◌↔◌, IfSome, is_some, slice_get}
 use Rattle.std.specs.List.{AllByRecursion}
-use Rattle.std.specs.Option.{option_map}
 use Rattle.std.proofs.lemmas.Bool.{ltb-true}
-use Rattle.mc_base.specs.Told.{Told}
-use Rattle.mc_base.specs.declared.cid.Cid.{Cid}
-use Rattle.mc_base.proofs.Cids.{cid_same}
-use Rattle.mc_fetch.specs.Peers.{offers_at, onto_peers}
-use Rattle.mc_fetch.specs.declared.job.Delivered.{Delivered}
-use Rattle.mc_fetch.specs.declared.job.Delivered.TheVariants as delivered
-use Rattle.mc_fetch.specs.declared.plants.Planted.{Planted}
 use Rattle.mc_keep.specs.Causes.{Kind, Refusal, Fault, Shortage, has_fired}
 use Rattle.mc_keep.specs.declared.fuse.Fuse.{Fuse}
-use Rattle.mc_model.specs.Batch.{is_empty_batch}
-use Rattle.mc_model.specs.Draining.{delivery, queue_in}
-use Rattle.mc_model.specs.Events.{Event, Hear as HearOf, Want}
-use Rattle.mc_model.specs.Found.{PeerOffers, damage_number}
 use Rattle.mc_model.specs.Kept.{Kept}
-use Rattle.mc_model.specs.Offer.{Damage, offer}
-use Rattle.mc_model.specs.State.{Durable, OpenBatch, Running, durable_of, kept_of}
-use Rattle.mc_model.specs.Wanted.{hear_all}
-use Rattle.mc_core.specs.Batches.{BatchBecomes, OfBatch, OfRun}
-use Rattle.mc_core.specs.Events.{Goes, ReplicaState, all_happen, burnt_by, commits, goes_on, state_of}
-use Rattle.mc_core.specs.Hears.{HearEvents, IsQueued, written_cast}
-use Rattle.mc_core.specs.Jobs.{IsDelivered, first_waiting}
+use Rattle.mc_model.specs.State.{Running, kept_of}
+use Rattle.mc_core.specs.Events.{ReplicaState}
+use Rattle.mc_core.specs.Hears.{written_cast}
 use Rattle.mc_core.specs.Refusals.{ByKind, kind_of}
 use Rattle.mc_core.specs.declared.CoreError.{CoreError}
-use Rattle.mc_core.specs.declared.Heard.{Heard}
-use Rattle.mc_core.specs.declared.Written.{Written}
 use Rattle.mc_script.specs.Line.{line_of}
 use Rattle.mc_script.specs.declared.command.Command.{Command}
-use Rattle.mc_script.specs.declared.command.Command.TheVariants.{Put, Del, Begin, BatchPut, BatchDel, Commit, Get, Has as HasKey, Query, Heads as HeadsOf, Cast, Wire, Hear, Plant, Link, Step as StepOf, Work, Repair, Storm, State as StateOf, Same as SameOf, Stop, Open, StopAt, StopAfter}
+use Rattle.mc_script.specs.declared.command.Command.TheVariants.{Put, Del, Cast, Wire, Plant, Link, Work, Repair, Storm, State as StateOf, Same as SameOf, Stop, Open, StopAt, StopAfter}
 use Rattle.mc_script.specs.declared.reply.Reply.{Reply}
-use Rattle.mc_script.specs.declared.reply.Reply.TheVariants.{Bad, Priority, Value, Has, Rows, Heads, Queued, Idle, State, Same}
+use Rattle.mc_script.specs.declared.reply.Reply.TheVariants.{State, Same}
 use Rattle.mc_seats.specs.declared.entry.LineEntry.{LineEntry}
-use Rattle.mc_seats.specs.declared.error.ActError.{ActError}
-use Rattle.mc_seats.specs.Asks.{among_by, focus_by, has_message, is_named, is_there, message_at}
-use Rattle.mc_seats.specs.Calling.{Batches, Blocks, Calling, Nothing, Reach, batch_priority}
+use Rattle.mc_seats.specs.Asks.{among_by, focus_by, has_message, is_named, is_there}
+use Rattle.mc_seats.specs.Calling.{Batches, Blocks, Calling, Nothing, Reach}
 use Rattle.mc_seats.specs.Doing.{Act, At, Calls, Compares, Doing, Hears, Steps, Tends, doing}
-use Rattle.mc_seats.specs.Effects.{CallsAt, DoneAt, IsReply, answer_of, call_refused, done_by, due_by, events_by, exact_by, happens_by, refused_by}
-use Rattle.mc_seats.specs.Fetching.{IsFound, IsStepReply, StepEvents, StepsWith, found_among, offers_of}
+use Rattle.mc_seats.specs.Effects.{CallsAt, DoneAt, IsReply, answer_of, call_refused, done_by, due_by, exact_by, happens_by, refused_by}
 use Rattle.mc_seats.specs.Record.{NamesNone}
 use Rattle.mc_seats.specs.Step.{IsDone, IsRefused, IsSent, Refuses, Row, SameProcessed, Step, refuses_by, sets_by}
 use Rattle.mc_seats.specs.Tending.{HasNumbers, OpensAs}
-use Rattle.mc_seats.specs.Worlds.{Around, AtPlace, IfRuns, Moved, MovedAt, Place, WorldState, peer_row, peers_of, picked, state_at}
+use Rattle.mc_seats.specs.Worlds.{Around, AtPlace, IfRuns, Moved, MovedAt, Place, WorldState, state_at}
 use Rattle.mc_seats.proofs.OpeningFacts.{first_true, second_true}
 use Rattle.mc_runs.specs.OneText.{AreOpen, IsOne, IsOpen, has_one_outcome, replies_in, said_by}
 use Rattle.mc_runs.specs.Runs.{Answer, LineStep, Runs, own_free, owns_none}
 use Rattle.mc_runs.proofs.CalmFacts.{entry_none}
 use Rattle.mc_runs.proofs.WrittenFacts.{of_place, stands_within}
-
--- values under constructors
-
-pub some_is : {A : Type 0} {x y : A} → Some x ≡ Some y → x ≡ y
-some_is {A} {x} {y} e = ap (λ (o : Option A). unwrap_or o x) e
-
-ok_is : (x y : Reply) → ◌≡◌ {A = Result Reply ActError} (Ok x) (Ok y) → x ≡ y
-ok_is x y e = ap (or_first x) e
-  where
-    or_first : Reply → Result Reply ActError → Reply
-    or_first x (Ok y) = y
-    or_first x (Err error) = x
-
-no_some : {A : Type 0} {x : A} → None ≡ Some x → ⊥
-no_some e = true≢false (sym (ap is_some e))
-
--- what a place is, by its state
-
-abbrev pub BackLaw : Type 0
-BackLaw = (kept : Kept) → kept_of (durable_of kept) ≡ kept
-
-told_state : (p : Place) → IsOpen p → (s : ReplicaState) × (state_at p ≡ Some s) × (s.fuse ≡ None)
-told_state p open_p = over p.content p.fuse p.run open_p.told open_p.no_fuse
-  where
-    over : (content : Option Kept) (fuse : Option Fuse) (run : Option Running) → is_some content ≡ true → fuse ≡ None → (s : ReplicaState) × (state_of content fuse run ≡ Some s) × (s.fuse ≡ None)
-    over None fuse run told none = absurd (true≢false (sym told))
-    over (Some kept) fuse run told none = (record { state = record { durable = durable_of kept; run = run }; fuse = fuse }, refl, none)
-
-module _ (back : BackLaw) where
-  place_of : (content : Option Kept) (fuse : Option Fuse) (run : Option Running) (planted : List Planted) (n : ReplicaState) → state_of content fuse run ≡ Some n
-      → ◌≡◌ {A = Place} (record { content = content; fuse = fuse; run = run; planted = planted }) (record { content = Some (kept_of n.state.durable); fuse = n.fuse; run = n.state.run; planted = planted })
-  place_of None fuse run planted n e = absurd (no_some e)
-  place_of (Some kept) fuse run planted n e =
-      let same : ◌≡◌ {A = ReplicaState} (record { state = record { durable = durable_of kept; run = run }; fuse = fuse }) n = some_is e in
-      let content : kept ≡ kept_of n.state.durable = sym (back kept) ∙ ap (λ (x : ReplicaState). kept_of x.state.durable) same in
-      λ i. record { content = Some (content i); fuse = (same i).fuse; run = (same i).state.run; planted = planted }
-
-  same_place : (q q2 : Place) (n : ReplicaState) → state_at q ≡ Some n → state_at q2 ≡ Some n → q.planted ≡ q2.planted → q ≡ q2
-  same_place q q2 n e e2 planted =
-      place_of q.content q.fuse q.run q.planted n e ∙ (λ i. record { content = Some (kept_of n.state.durable); fuse = n.fuse; run = n.state.run; planted = planted i }) ∙ sym (place_of q2.content q2.fuse q2.run q2.planted n e2)
-
-  open_still : (q : Place) (n : ReplicaState) → state_at q ≡ Some n → n.fuse ≡ None → IsOpen q
-  open_still q n e none =
-      let is = place_of q.content q.fuse q.run q.planted n e in
-      record { told = ap (λ (p : Place). is_some p.content) is; no_fuse = ap (λ (p : Place). p.fuse) is ∙ none }
-
--- events over a keeper without a fuse
-
-none_burns : (commit : Bool) → burnt_by commit None ≡ None
-none_burns true = refl
-none_burns false = refl
-
-no_fuse_still : (events : List Event) (s : ReplicaState) → s.fuse ≡ None → (all_happen s events).fuse ≡ None
-no_fuse_still [] s none = none
-no_fuse_still (event ∷ events) s none = no_fuse_still events (goes_on s event) (ap (burnt_by (commits s event)) none ∙ none_burns (commits s event))
-
--- what has happened at a place that tells
-
-abbrev Made : WorldState → ReplicaState → Doing → Type 0
-Made w s d = (events events2 : List Event) (reply reply2 : Reply) → events_by w s d events reply → events_by w s d events2 reply2 → (events ≡ events2) × (reply ≡ reply2)
-
--- two places after one are one, and so are the replies
-pub record IsOnePlace (q q2 : Place) (reply reply2 : Reply) : Type 0 where
-  pub same : q ≡ q2
-  pub says : reply ≡ reply2
-  pub still : IsOpen q
-
-told_end : (w : WorldState) (d : Doing) (reply : Reply) (s : ReplicaState) (p q : Place) → state_at p ≡ Some s → happens_by w d p q reply → (events : List Event) × events_by w s d events reply × (state_at q ≡ Some (all_happen s events))
-told_end w d reply s p q is happens = over (state_at q) (subst (λ (o : Option ReplicaState). Told o (state_at q) (λ s new. (events : List Event) × events_by w s d events reply × Goes events s new)) is happens)
-  where
-    over : (o : Option ReplicaState) → Told (Some s) o (λ s new. (events : List Event) × events_by w s d events reply × Goes events s new) → (events : List Event) × events_by w s d events reply × (o ≡ Some (all_happen s events))
-    over None told = absurd told
-    over (Some new) told = (told.0, told.1, ap Some told.2.ends)
-
-both_happen : (back : BackLaw) (w : WorldState) (d : Doing) (p q q2 : Place) (reply reply2 : Reply) → IsOpen p → ((s : ReplicaState) → Made w s d) → q.planted ≡ p.planted → q2.planted ≡ p.planted → happens_by w d p q reply → happens_by w d p q2 reply2 → IsOnePlace q q2 reply reply2
-both_happen back w d p q q2 reply reply2 open_p made planted planted2 happens happens2 =
-    let s = told_state p open_p in
-    let first = told_end w d reply s.0 p q s.1 happens in
-    let second = told_end w d reply2 s.0 p q2 s.1 happens2 in
-    let one = made s.0 first.0 second.0 reply reply2 first.1 second.1 in
-    record {
-      same = same_place back q q2 (all_happen s.0 first.0) first.2 (second.2 ∙ ap (λ (events : List Event). Some (all_happen s.0 events)) (sym one.0)) (planted ∙ sym planted2);
-      says = one.1;
-      still = open_still back q (all_happen s.0 first.0) first.2 (no_fuse_still first.0 s.0 s.2);
-    }
-
--- which events are made
-
-of_batch : (batch : Option OpenBatch) (P Q : OpenBatch → Type 0) (R : Type 0) → ((b : OpenBatch) → P b → Q b → R) → OfBatch batch P → OfBatch batch Q → R
-of_batch None P Q R f p q = absurd p
-of_batch (Some b) P Q R f p q = f b p q
-
-of_run : (run : Option Running) (P Q : OpenBatch → Type 0) (R : Type 0) → ((b : OpenBatch) → P b → Q b → R) → OfRun run P → OfRun run Q → R
-of_run None P Q R f p q = absurd p
-of_run (Some run) P Q R f p q = of_batch run.batch P Q R f p q
-
-becomes_one : (kept : Kept) (batch : OpenBatch) (empty : Bool) (events events2 : List Event) (answer answer2 : Option Written) → BatchBecomes kept batch empty events answer → BatchBecomes kept batch empty events2 answer2 → (events ≡ events2) × (answer ≡ answer2)
-becomes_one kept batch true events events2 answer answer2 h h2 = (h.0 ∙ sym h2.0, h.1 ∙ sym h2.1)
-becomes_one kept batch false events events2 answer answer2 h h2 = (h.0 ∙ sym h2.0, h.1 ∙ sym h2.1)
-
-has_more : List (Option (List ℕ)) → Bool
-has_more [] = false
-has_more (x ∷ xs) = true
-
-tail_of : List (Option (List ℕ)) → List (Option (List ℕ))
-tail_of [] = []
-tail_of (x ∷ xs) = xs
-
-head_of : List (Option (List ℕ)) → List ℕ
-head_of [] = []
-head_of (x ∷ xs) = unwrap_or x []
-
-same_cids : (cids cids2 : List Cid) → map Some (map (λ (c : Cid). c.0) cids) ≡ map Some (map (λ (c : Cid). c.0) cids2) → cids ≡ cids2
-unfolding has_more tail_of head_of
-same_cids [] [] e = refl
-same_cids [] (d ∷ cids2) e = absurd (true≢false (sym (ap has_more e)))
-same_cids (c ∷ cids) [] e = absurd (true≢false (ap has_more e))
-same_cids (c ∷ cids) (d ∷ cids2) e =
-    let first : c ≡ d = cid_same c d (ap head_of e) in
-    let rest : cids ≡ cids2 = same_cids cids cids2 (ap tail_of e) in
-    λ i. first i ∷ rest i
-
--- the peers of a world that tells are told
-
-all_picked : (marks : List Bool) (places : List Place) → AllByRecursion IsOpen places → AllByRecursion IsOpen (picked marks places)
-all_picked [] places all = tt
-all_picked (mark ∷ marks) [] all = tt
-all_picked (true ∷ marks) (p ∷ places) all = (all.0, all_picked marks places all.1)
-all_picked (false ∷ marks) (p ∷ places) all = all_picked marks places all.1
-
-place_told : (planted : List Planted) (content : Option Kept) → is_some content ≡ true → (first : Cid → PeerOffers) × (option_map (offers_at planted) content ≡ Some first)
-place_told planted None told = absurd (true≢false (sym told))
-place_told planted (Some kept) told = (offers_at planted kept, refl)
-
-offers_told : (places : List Place) → AllByRecursion IsOpen places → (offers : List (Cid → PeerOffers)) × (offers_of places ≡ Some offers)
-offers_told [] all = ([], refl)
-offers_told (p ∷ places) all =
-    let first = place_told p.planted p.content all.0.told in
-    let rest = offers_told places all.1 in
-    (first.0 ∷ rest.0, λ i. onto_peers (first.1 i) (rest.1 i))
-
-found_one : (kept : Kept) (places : List Place) (cid : Cid) (found found2 : Option (List ℕ)) → AllByRecursion IsOpen places → IsFound kept places cid found → IsFound kept places cid found2 → found ≡ found2
-found_one kept places cid found found2 all is is2 =
-    let told = offers_told places all in
-    let one : found ≡ found_among kept told.0 cid = subst (λ (o : Option (List (Cid → PeerOffers))). IfSome o (λ offers. found ≡ found_among kept offers cid)) told.1 is in
-    let two : found2 ≡ found_among kept told.0 cid = subst (λ (o : Option (List (Cid → PeerOffers))). IfSome o (λ offers. found2 ≡ found_among kept offers cid)) told.1 is2 in
-    one ∙ sym two
-
--- what is answered for a job
-
-err_or : {T : Type 0} → Damage → Result T Damage → Damage
-err_or why (Ok value) = why
-err_or why (Err other) = other
-
-delivered_one : (durable : Durable) (cid : Cid) (found : Option (List ℕ)) (d d2 : Delivered) (reply reply2 : Reply) → IsDelivered durable cid found d → IsDelivered durable cid found d2 → IsStepReply d reply → IsStepReply d2 reply2 → reply ≡ reply2
-unfolding err_or
-delivered_one durable cid found (delivered.Processed position) (delivered.Processed position2) reply reply2 is is2 says says2 = says ∙ sym says2
-delivered_one durable cid found (delivered.Processed position) delivered.Missing reply reply2 (bytes, block, found_is, good, at) is2 says says2 = absurd (no_some (sym is2 ∙ found_is))
-delivered_one durable cid found (delivered.Processed position) (delivered.Bad damage) reply reply2 (bytes, block, found_is, good, at) (bytes2, why, found_is2, bad, number) says says2 =
-    absurd (true≢false (sym (ap is_ok good) ∙ ap (λ (b : List ℕ). is_ok (offer cid b)) (some_is (sym found_is ∙ found_is2)) ∙ ap is_ok bad))
-delivered_one durable cid found delivered.Missing (delivered.Processed position) reply reply2 is (bytes, block, found_is, good, at) says says2 = absurd (no_some (sym is ∙ found_is))
-delivered_one durable cid found delivered.Missing delivered.Missing reply reply2 is is2 says says2 = says ∙ sym says2
-delivered_one durable cid found delivered.Missing (delivered.Bad damage) reply reply2 is (bytes, why, found_is, bad, number) says says2 = absurd (no_some (sym is ∙ found_is))
-delivered_one durable cid found (delivered.Bad damage) (delivered.Processed position) reply reply2 (bytes2, why, found_is2, bad, number) (bytes, block, found_is, good, at) says says2 =
-    absurd (true≢false (sym (ap is_ok good) ∙ ap (λ (b : List ℕ). is_ok (offer cid b)) (some_is (sym found_is ∙ found_is2)) ∙ ap is_ok bad))
-delivered_one durable cid found (delivered.Bad damage) delivered.Missing reply reply2 (bytes, why, found_is, bad, number) is2 says says2 = absurd (no_some (sym is2 ∙ found_is))
-delivered_one durable cid found (delivered.Bad damage) (delivered.Bad damage2) reply reply2 (bytes, why, found_is, bad, number) (bytes2, why2, found_is2, bad2, number2) says says2 =
-    let same : offer cid bytes ≡ offer cid bytes2 = ap (offer cid) (some_is (sym found_is ∙ found_is2)) in
-    let whys : why ≡ why2 = ap (err_or why) (sym bad ∙ same ∙ bad2) in
-    says ∙ ap Bad (number ∙ ap damage_number whys ∙ sym number2) ∙ sym says2
-delivered_one durable cid found delivered.Known d2 reply reply2 is is2 says says2 = absurd is
-delivered_one durable cid found (delivered.Processed position) delivered.Known reply reply2 is is2 says says2 = absurd is2
-delivered_one durable cid found delivered.Missing delivered.Known reply reply2 is is2 says says2 = absurd is2
-delivered_one durable cid found (delivered.Bad damage) delivered.Known reply reply2 is is2 says says2 = absurd is2
-
-step_with : (peers : List Place) (s : ReplicaState) (events events2 : List Event) (reply reply2 : Reply) → AllByRecursion IsOpen peers → StepsWith peers s events reply → StepsWith peers s events2 reply2 → (events ≡ events2) × (reply ≡ reply2)
-step_with peers s events events2 reply reply2 all a b = (
-  a.job ∙ (λ i. Want ∷ delivery s.state.durable.graph (cid i) (found i)) ∙ sym b.job,
-  delivered_one s.state.durable a.cid a.found a.delivered b.delivered reply reply2 a.becomes (subst (λ (f : Option (List ℕ)). IsDelivered s.state.durable a.cid f b.delivered) (sym found) (subst (λ (c : Cid). IsDelivered s.state.durable c b.found b.delivered) (sym cid) b.becomes)) a.says b.says,
-)
-  where
-    cid : a.cid ≡ b.cid
-    cid = some_is (sym a.first ∙ b.first)
-
-    found : a.found ≡ b.found
-    found = found_one (kept_of s.state.durable) peers a.cid a.found b.found all a.is_found (subst (λ (c : Cid). IsFound (kept_of s.state.durable) peers c b.found) (sym cid) b.is_found)
-
-step_cases : (peers : List Place) (s : ReplicaState) (events : List Event) (reply : Reply) → StepEvents peers s events reply → ((reply ≡ Idle) × (first_waiting s ≡ None) × (events ≡ [])) ⊎ StepsWith peers s events reply
-step_cases peers s events Idle h = inl (refl, h.0, h.1)
-step_cases peers s events reply h = inr h
-
-step_made : (peers : List Place) (s : ReplicaState) (events events2 : List Event) (reply reply2 : Reply) → AllByRecursion IsOpen peers → StepEvents peers s events reply → StepEvents peers s events2 reply2 → (events ≡ events2) × (reply ≡ reply2)
-step_made peers s events events2 reply reply2 all h h2 = over (step_cases peers s events reply h) (step_cases peers s events2 reply2 h2)
-  where
-    over : ((reply ≡ Idle) × (first_waiting s ≡ None) × (events ≡ [])) ⊎ StepsWith peers s events reply → ((reply2 ≡ Idle) × (first_waiting s ≡ None) × (events2 ≡ [])) ⊎ StepsWith peers s events2 reply2 → (events ≡ events2) × (reply ≡ reply2)
-    over (inl (is, none, empty)) (inl (is2, none2, empty2)) = (empty ∙ sym empty2, is ∙ sym is2)
-    over (inl (is, none, empty)) (inr b) = absurd (no_some (sym none ∙ b.first))
-    over (inr a) (inl (is2, none2, empty2)) = absurd (no_some (sym none2 ∙ a.first))
-    over (inr a) (inr b) = step_with peers s events events2 reply reply2 all a b
-
--- a message that is heard
-
-heard_one : (s : ReplicaState) (text : List ℕ) (events events2 : List Event) (heard heard2 : Heard) → HearEvents s text events heard → HearEvents s text events2 heard2 → (events ≡ events2) × (heard.queued ≡ heard2.queued)
-heard_one s text events events2 heard heard2 a b = (a.only ∙ ap (λ (c : List Cid). HearOf c ∷ []) cids ∙ sym b.only, count a.queued b.queued)
-  where
-    cids : a.cids ≡ b.cids
-    cids = same_cids a.cids b.cids (some_is (sym a.named.heads ∙ b.named.heads))
-
-    count : IsQueued (queue_in s.state.run) (hear_all s.state.durable.order (queue_in s.state.run) a.cids) heard.queued → IsQueued (queue_in s.state.run) (hear_all s.state.durable.order (queue_in s.state.run) b.cids) heard2.queued → heard.queued ≡ heard2.queued
-    count p q =
-        let same = ap (λ (c : List Cid). length (hear_all s.state.durable.order (queue_in s.state.run) c).waiting) cids in
-        omega (arith, p, q, same)
-
--- which events a command makes
-
-abbrev made_by : Doing → Bool
-made_by (At r (Calls call)) = true
-made_by (At r (Hears message)) = true
-made_by (At r Steps) = true
-made_by d = false
-
-made_one : (w : WorldState) (s : ReplicaState) (command : Command) → AreOpen w → has_one_outcome command ≡ true → made_by (doing command) ≡ true → Made w s (doing command)
-made_one w s (Put r key bytes) all one made = λ events events2 reply reply2 h h2. (h.1.0 ∙ sym h2.1.0, h.2 ∙ ap (λ (x : Written). Priority x.priority) (h.1.1 ∙ sym h2.1.1) ∙ sym h2.2)
-made_one w s (Begin r) all one made = λ events events2 reply reply2 h h2. (h.1 ∙ sym h2.1, h.2 ∙ sym h2.2)
-made_one w s (BatchPut r key bytes) all one made = λ events events2 reply reply2 h h2. (of_run s.state.run _ _ (events ≡ events2) (λ b p q. p ∙ sym q) h.1 h2.1, h.2 ∙ sym h2.2)
-made_one w s (BatchDel r key) all one made = λ events events2 reply reply2 h h2. (of_run s.state.run _ _ (events ≡ events2) (λ b p q. p ∙ sym q) h.1 h2.1, h.2 ∙ sym h2.2)
-made_one w s (Commit r) all one made = λ events events2 reply reply2 h h2.
-    let both = of_run s.state.run (λ batch. BatchBecomes (kept_of s.state.durable) batch (is_empty_batch batch) events h.0) (λ batch. BatchBecomes (kept_of s.state.durable) batch (is_empty_batch batch) events2 h2.0) ((events ≡ events2) × (h.0 ≡ h2.0))
-    (λ b p q. becomes_one (kept_of s.state.durable) b (is_empty_batch b) events events2 h.0 h2.0 p q) h.1 h2.1 in
-    (both.0, h.2 ∙ ap (λ (x : Option Written). Priority (batch_priority x)) both.1 ∙ sym h2.2)
-made_one w s (Get r key) all one made = λ events events2 reply reply2 h h2. (h.1.0 ∙ sym h2.1.0, h.2 ∙ ap Value (h.1.1 ∙ sym h2.1.1) ∙ sym h2.2)
-made_one w s (HasKey r key) all one made = λ events events2 reply reply2 h h2. (h.1.0 ∙ sym h2.1.0, h.2 ∙ ap Has (h.1.1 ∙ sym h2.1.1) ∙ sym h2.2)
-made_one w s (Query r prefix skip take) all one made = λ events events2 reply reply2 h h2. (h.1.0 ∙ sym h2.1.0, h.2 ∙ ap Rows (h.1.1 ∙ sym h2.1.1) ∙ sym h2.2)
-made_one w s (HeadsOf r) all one made = λ events events2 reply reply2 h h2. (h.1.0 ∙ sym h2.1.0, h.2 ∙ ap Heads (h.1.1 ∙ sym h2.1.1) ∙ sym h2.2)
-made_one w s (Hear r message) all one made = λ events events2 reply reply2 h h2.
-    let both = heard_one s (message_at w.around.bag message) events events2 h.0 h2.0 h.1 h2.1 in (both.0, h.2 ∙ ap Queued both.1 ∙ sym h2.2)
-made_one w s (StepOf r) all one made = λ events events2 reply reply2 h h2. step_made (peers_of w r) s events events2 reply reply2 (all_picked (peer_row w.around.down r 0 w.places) w.places all) h h2
-made_one w s (Del r key) all one made = absurd (true≢false (sym one))
-made_one w s command all one made = absurd (true≢false (sym made))
+use Rattle.mc_runs.proofs.OneEvents.{BackLaw, IsOnePlace, both_happen, made_by, made_one, no_some, ok_is, some_is, told_state}
 
 -- what it makes of its place
 
