@@ -121,6 +121,7 @@ row_under w w2 command Keeper Own Desk KeeperAfter OwnAfter DeskAfter reply f g 
 row_under w w2 command Keeper Own Desk KeeperAfter OwnAfter DeskAfter reply f g h (inr fault) = inr (record {
   at = fault.at;
   among = fault.among;
+  lacks = fault.lacks;
   allowed = fault.allowed;
   cause = h fault.at fault.cause;
   says = fault.says;

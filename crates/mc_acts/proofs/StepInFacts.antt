@@ -2,7 +2,7 @@
 use Rattle.std.proofs.Common.{◌≡◌, ℕ, zero, suc, ◌+◌, ◌-◌, ◌^◌, ◌≤◌, ◌<◌, arith, Bool, true, false, cond, ◌&&◌, ◌||◌, List, [], ◌∷◌, get_or, length, map, set, Option, Some, None, Result, Ok, Err, refl, sym, ap, ◌∙◌, subst, inl, inr}
 use Rattle.std.specs.Prelude.{⊤, IfOk, IfSome, ◌⊎◌, is_some, not, min, find, nat_lt, slice_get, unwrap_or}
 use Rattle.std.specs.List.{flat_map, list_all, list_any, sum_by}
-use Rattle.std.specs.Option.{option_map}
+use Rattle.std.specs.Option.{option_and_then, option_map}
 use Rattle.std.specs.Str.{bytes_eq}
 use Rattle.std.proofs.lemmas.Bool.{and_parts, and_from, eq-eqb}
 use Rattle.std.proofs.lemmas.Bool.Decides.{nat_tests}
@@ -14,7 +14,7 @@ use Rattle.mc_base.specs.Causes.{Rose}
 use Rattle.mc_base.specs.Cid.{digest_of}
 use Rattle.mc_base.specs.declared.cid.Cid.{Cid}
 use Rattle.mc_base.specs.declared.counted.Counted as counted
-use Rattle.mc_core.specs.Events.{ReplicaState}
+use Rattle.mc_core.specs.Events.{ReplicaState, state_of}
 use Rattle.mc_fetch.specs.Causes.{is_peer_fault}
 use Rattle.mc_fetch.specs.Offers.{HasDigest}
 use Rattle.mc_fetch.specs.declared.error.FetchError.{FetchError}
@@ -24,7 +24,9 @@ use Rattle.mc_keep.specs.Calls.{Members}
 use Rattle.mc_keep.specs.declared.keeper.Keeper as keeper
 use Rattle.mc_model.specs.Found.{PeerOffers, found_bytes, offers_from, peer_list}
 use Rattle.mc_model.specs.Kept.{Kept, bytes_at}
-use Rattle.mc_model.specs.State.{kept_of}
+use Rattle.mc_model.specs.Draining.{queue_in}
+use Rattle.mc_model.specs.State.{Running, durable_of, kept_of}
+use Rattle.mc_core.specs.Jobs.{first_waiting}
 use Rattle.mc_script.specs.declared.command.Command.TheVariants.{Step}
 use Rattle.mc_script.specs.declared.reply.Reply.{Reply}
 use Rattle.mc_script.specs.declared.reply.Reply.TheVariants.{FaultPeer}
@@ -38,11 +40,11 @@ use Rattle.mc_seats.specs.Fetching.{IsFound, found_among, offers_of}
 use Rattle.mc_seats.specs.Keepers.{AllLater, IsPaid, WorldGoes, armed_at, armed_in, desk_count, desks_in, is_calm, is_calm_desk, is_calm_keeper, keeper_of, own_in}
 use Rattle.mc_seats.specs.Effects.{AsksAt, DoneAt, RefusedAt}
 use Rattle.mc_seats.specs.Record.{RoseAt, RoseIn}
-use Rattle.mc_seats.specs.Step.{CutShort, GivesBack, LeavesStep, PeerBreaks, Row, ShortAt, ShortIn, answers_fault, is_fault}
-use Rattle.mc_seats.specs.StepParts.{AllDesksGo, BacksAt, Begun, BeginsAt, DeliversAt, IsFlying, IsFoundAt, IsFoundFor, IsOfferedBy, PeerFailed, SameButDesks, StepRow, are_calm, given_up_of, peers_among}
+use Rattle.mc_seats.specs.Step.{CutShort, GivesBack, LeavesStep, PeerBreaks, Row, ShortAt, ShortIn, answers_fault, first_stored, is_fault}
+use Rattle.mc_seats.specs.StepParts.{AllDesksGo, BacksAt, Begun, BeginsAt, BeginsJob, DeliversAt, IsFlying, IsFoundAt, IsFoundFor, IsOfferedBy, PeerFailed, SameButDesks, StepRow, are_calm, given_up_of, peers_among}
 use Rattle.mc_seats.specs.Words.{ActsOn, DeskRose, KeeperGoes, KeeperRose, OwnRose, PlaceRow, place, state}
 use Rattle.mc_seats.specs.Worlds.{AtPlace, Moved, Place, WorldState, is_down, is_linked, is_marked, is_up, joins, peer_row, peers_of, picked, state_at}
-use Rattle.mc_seats.proofs.BeginFacts.{allowed_at, is_no_error, never, short_is_not_bad}
+use Rattle.mc_seats.proofs.BeginFacts.{allowed_at, is_no_error, never, short_is_not_bad, waits}
 use Rattle.mc_seats.proofs.DeliverFacts.{in_flight}
 use Rattle.mc_seats.proofs.GoesFacts.{keeper_same, keeper_then}
 use Rattle.mc_seats.proofs.PeerFacts.{all_still}
@@ -265,9 +267,10 @@ module _ {K D : Type 0} {g : keeper.Ghosts K D} {h : counted.Ghosts K} {i : coun
     rows_in (Err error) row = tt
 
     -- a desk of a peer failed
-    pub failed_in : (row : List Bool) → row ≡ peer_row (W old).around.down r 0 (W old).places → PeerFailed desk_faults row old.desks.items new.desks.items → RefusedAt (W old) (place k x) (Step r) None → GivesBack (place k x) (place k y) → Rows FaultPeer
-    failed_in row is failed allowed back = inr (record {
+    pub failed_in : (row : List Bool) → IfSome (state_at (place k x)) (λ s. first_stored s ≡ None) → row ≡ peer_row (W old).around.down r 0 (W old).places → PeerFailed desk_faults row old.desks.items new.desks.items → RefusedAt (W old) (place k x) (Step r) None → GivesBack (place k x) (place k y) → Rows FaultPeer
+    failed_in row lacks is failed allowed back = inr (record {
       at = failed.at;
+      lacks = at_place (λ p. IfSome (state_at p) (λ s. first_stored s ≡ None)) lacks;
       among = ap (λ l. is_marked l failed.at) (sym is) ∙ failed.among;
       allowed = at_place (λ p. RefusedAt (W old) p (Step r) None) allowed;
       cause = failed.rose;
@@ -349,6 +352,16 @@ found_at w w2 r p own found cid same stored is = over (state_at p) stored
     over : (s : Option ReplicaState) → IfSome s (λ s. own ≡ bytes_at (kept_of s.state.durable).graph cid) → IfSome s (λ s. IsFound (kept_of s.state.durable) (peers_of w r) cid found)
     over None stored = tt
     over (Some s) stored = subst (λ (peers : List Place). IsFound (kept_of s.state.durable) peers cid found) same (is (kept_of s.state.durable) stored)
+
+-- a job without bytes began for a block that is not stored
+not_stored : (p q : Place) (job : Job) → BeginsJob job p q → job.own ≡ None → IfSome (state_at p) (λ s. first_stored s ≡ None)
+not_stored p q job begins none = over p.content p.run begins.begun.runs begins.stored
+  where
+    over : (content : Option Kept) (run : Option Running) → run ≡ Some begins.begun.run → IfSome (state_of content p.fuse run) (λ s. job.own ≡ bytes_at (kept_of s.state.durable).graph job.cid) → IfSome (state_of content p.fuse run) (λ s. first_stored s ≡ None)
+    over None run runs stored = tt
+    over (Some kept) run runs stored =
+        let Found : List Cid → Option (List ℕ) = λ l. option_and_then (bytes_at (kept_of (durable_of kept)).graph) (first_waiting (waits l)) in
+        ap (λ (run : Option Running). Found (queue_in run).waiting) runs ∙ ap Found begins.begun.waits ∙ sym stored ∙ none
 
 -- The worlds of a step: where it began, once the job has begun, once the bytes are found, and at its end.
 pub record Stages {K D : Type 0} {g : keeper.Ghosts K D} {h : counted.Ghosts K} {i : counted.Ghosts D} (k : Members K D) (r : ℕ) (old mid found new : World K D g h i) (x y z : Seat K D g h i) : Type 0 where
@@ -460,9 +473,10 @@ module _ {K D : Type 0} {g : keeper.Ghosts K D} {h : counted.Ghosts K} {i : coun
     -- or given back
     pub acts_back : (error : FetchError) (y2 : Seat K D g h i) (result : Result Reply ActError) → y2 ≡ y → result ≡ given_up_of error
         → (is_peer_fault {T = ⊤} (Err error) ≡ true → PeerFailed desk_faults (peer_row mid.down.items r 0 (map (place k) mid.seats.items)) mid.desks.items found.desks.items)
+        → (is_peer_fault {T = ⊤} (Err error) ≡ true → job.own ≡ None)
         → BacksAt k job.cid (place k y2) (place k z) (keeper_of y2) (keeper_of z) → Acts result old new
-    acts_back error y2 result is says failed backed = subst (λ (result : Result Reply ActError). Acts result old new) (sym says)
-        (by_error error failed (subst (λ (s : Seat K D g h i). BacksAt k job.cid (place k s) (place k z) (keeper_of s) (keeper_of z)) is backed))
+    acts_back error y2 result is says failed lacks backed = subst (λ (result : Result Reply ActError). Acts result old new) (sym says)
+        (by_error error failed lacks (subst (λ (s : Seat K D g h i). BacksAt k job.cid (place k s) (place k z) (keeper_of s) (keeper_of z)) is backed))
       where
         goes_back : BacksAt k job.cid (place k y) (place k z) (keeper_of y) (keeper_of z) → KeeperGoes k 0 0 (keeper_of x) (keeper_of z)
         goes_back backs = then_goes 0 (keeper_same backs.same)
@@ -475,18 +489,19 @@ module _ {K D : Type 0} {g : keeper.Ghosts K D} {h : counted.Ghosts K} {i : coun
         down_not = ap is_down begins.begins.0.begun.runs
 
         by_error : (error : FetchError) → (is_peer_fault {T = ⊤} (Err error) ≡ true → PeerFailed desk_faults (peer_row mid.down.items r 0 (map (place k) mid.seats.items)) mid.desks.items found.desks.items)
+            → (is_peer_fault {T = ⊤} (Err error) ≡ true → job.own ≡ None)
             → BacksAt k job.cid (place k y) (place k z) (keeper_of y) (keeper_of z) → Acts (given_up_of error) old new
-        by_error Failed failed backs =
+        by_error Failed failed lacks backs =
             let fails = failed_old (peer_row mid.down.items r 0 (map (place k) mid.seats.items)) (failed refl) in
             record {
-              row = failed_in k desk_faults r old new x z stages.stands after around (peer_row mid.down.items r 0 (map (place k) mid.seats.items)) row_mid fails
+              row = failed_in k desk_faults r old new x z stages.stands after around (peer_row mid.down.items r 0 (map (place k) mid.seats.items)) (not_stored (place k x) (place k y) job begins.begins.0 (lacks refl)) row_mid fails
                   (allowed_at (state k desk_faults old) (place k x).content (place k x).fuse (place k x).run (place k x).planted r down_not) (backs.back (place k x) begins.begins.0.begun);
               short = λ e. is_no_error e;
               not_bad = λ e. is_no_error e;
               goes = goes_failed k desk_faults r old new x z stages.stands after (are_calm k mid.seats.items) still all_desks (peer_row mid.down.items r 0 (map (place k) mid.seats.items)) fails (goes_back backs);
               entries_same = entries;
             }
-        by_error FetchMemory failed backs = record {
+        by_error FetchMemory failed lacks backs = record {
           row = tt;
           short = λ e. short_in k desk_faults r old new x z stages.stands after around (backs.short r (place k x) begins.begins.0.begun);
           not_bad = λ e. short_is_not_bad e;

@@ -1,5 +1,5 @@
 // One job of a replica.
-ghost use Rattle.std.specs.Prelude.{◌≡◌, ◌<◌, true, length, map, vec_len, IfOk, IfSome};
+ghost use Rattle.std.specs.Prelude.{◌≡◌, ◌<◌, true, None, length, map, vec_len, IfOk, IfSome};
 ghost use Rattle.mc_fetch.specs.Causes.{is_peer_fault};
 ghost use Rattle.mc_fetch.specs.Fits.{FoundHas};
 ghost use Rattle.mc_fetch.specs.Offers.{HasDigest};
@@ -69,6 +69,7 @@ fn find<K: Keeper, W: Wait>(
     ensures failed { is_peer_fault result ≡ true → PeerFailed K.Desk.faults
         (peer_row world.old.down.items r 0 (map (place K.Keeper) world.old.seats.items))
         world.old.desks.items world.new.desks.items }
+    ensures lacks { is_peer_fault result ≡ true → own ≡ None }
 {
     if let Some(bytes) = own {
         return Ok(Found::Bytes(bytes));

@@ -1,3 +1,5 @@
+pub mod AloneFacts
+pub mod AnswerFacts
 pub mod Keeps
 pub mod OpenFacts
 pub use Rattle.mc_plan.proofs.CallFacts

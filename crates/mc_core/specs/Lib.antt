@@ -12,6 +12,7 @@ pub use Rattle.mc_plan.specs.Reads
 pub use Rattle.mc_plan.specs.Refusals
 pub use Rattle.mc_plan.specs.Uptakes
 pub use Rattle.mc_plan.specs.Walks
+pub mod AnswersTo
 pub mod Exact
 pub mod Replica
 pub mod Reports

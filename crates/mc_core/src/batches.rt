@@ -1,7 +1,7 @@
 // The calls of a replica on its batch.
-ghost use Rattle.std.specs.Prelude.{◌≡◌, ◌≤◌, ◌++◌, ◌∷◌, [], false, None, Some, IfOk, IfSome, IfErr, is_some};
+ghost use Rattle.std.specs.Prelude.{◌≡◌, ◌≤◌, ◌++◌, ◌∷◌, [], false, None, Some, IfOk, IfSome, IfErr, is_some, not};
 ghost use Rattle.std.specs.Option.{option_map};
-ghost use Rattle.mc_model.specs.Batch.{batch_put, empty_batch};
+ghost use Rattle.mc_model.specs.Batch.{batch_put, empty_batch, is_empty_batch};
 ghost use Rattle.mc_model.specs.Events.{Batch as Closed};
 ghost use Rattle.mc_plan.specs.declared.error.CoreError.{CoreError as Refused};
 ghost use Rattle.mc_plan.specs.Batches.{AddsBatch, BeginEvents, BatchDeleteEvents, BatchPutEvents, CommitEvents};
@@ -10,7 +10,7 @@ ghost use Rattle.mc_plan.specs.Batches.{batch_delete_refusal, batch_put_refusal,
 ghost use Rattle.mc_plan.specs.Batches.{commit_refusal};
 ghost use Rattle.mc_plan.specs.Calls.{Stays};
 ghost use Rattle.mc_plan.specs.Events.{Part};
-ghost use Rattle.mc_core.specs.Exact.{IfRefusedOrShort, NoMemory, front_of, put_front, stop_front};
+ghost use Rattle.mc_core.specs.Exact.{DecidesAlone, IfRefusedOrShort, NoMemory, front_of, put_front, stop_front};
 ghost use Rattle.mc_plan.specs.Uptakes.{IsShaped, IsSomeUptake, uptake_events, uptake_rows};
 ghost use Rattle.mc_plan.specs.Refusals.{Is, is_fault, key_refusal, no_batch_refusal, open_batch_refusal};
 ghost use Rattle.mc_core.specs.Words.{Acts, Becomes, Continues, TellsSame};
@@ -28,6 +28,7 @@ impl<K: Keeper> Replica<K> {
         ensures call { Acts K.Keeper (λ s. Is (begin_refusal s)) (λ s. BeginEvents) Stays result self.old self.new }
         ensures keeps { Continues K.Keeper (is_fault result) self.old self.new }
         ensures front { front_of result ≡ stop_front self.old.stopped (open_batch_refusal self.old.batch) }
+        ensures seen { IfErr result DecidesAlone }
         ensures no_memory { NoMemory result }
         ensures no_fault { is_fault result ≡ false }
         ensures untouched { (self.new.keeper ≡ self.old.keeper) × (self.new.queue ≡ self.old.queue)
@@ -52,6 +53,7 @@ impl<K: Keeper> Replica<K> {
         ensures keeps { Continues K.Keeper (is_fault result) self.old self.new }
         ensures front { front_of result ≡ stop_front self.old.stopped
             (no_batch_refusal self.old.batch (λ batch. put_front key.now value.now)) }
+        ensures seen { IfErr result DecidesAlone }
         ensures no_fault { is_fault result ≡ false }
         ensures untouched { (self.new.keeper ≡ self.old.keeper) × (self.new.queue ≡ self.old.queue)
             × (self.new.walk ≡ self.old.walk) × (self.new.whole ≡ self.old.whole) }
@@ -80,6 +82,7 @@ impl<K: Keeper> Replica<K> {
         ensures keeps { Continues K.Keeper (is_fault result) self.old self.new }
         ensures front { front_of result ≡ stop_front self.old.stopped
             (no_batch_refusal self.old.batch (λ batch. key_refusal key.now)) }
+        ensures seen { IfErr result DecidesAlone }
         ensures same { TellsSame K.Keeper self.old self.new }
         ensures added { IfErr result (λ error. self.new.batch ≡ self.old.batch) }
         ensures still_open { is_some self.new.batch ≡ is_some self.old.batch }
@@ -114,6 +117,8 @@ impl<K: Keeper> Replica<K> {
             (no_batch_refusal self.old.batch (λ batch. None)) }
         ensures refused { IfRefusedOrShort result (TellsSame K.Keeper self.old self.new) }
         ensures closed { self.new.batch ≡ batch_once result None self.old.batch }
+        ensures empty { IfOk result (λ written. IfSome self.old.batch (λ batch.
+            is_some written ≡ not (is_empty_batch batch))) }
         ensures whole_same { (self.new.walk ≡ self.old.walk) × (self.new.whole ≡ self.old.whole) }
         ensures made { IfOk result (λ written. Becomes K.Keeper (λ rose. AddsBatch written) self.old self.new) }
     {

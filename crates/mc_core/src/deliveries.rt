@@ -6,11 +6,12 @@ ghost use Rattle.mc_fetch.specs.Fits.{FoundHas};
 ghost use Rattle.mc_model.specs.Graph.{has};
 ghost use Rattle.mc_model.specs.Offer.{offer};
 ghost use Rattle.mc_queue.specs.Views.{shown};
-ghost use Rattle.mc_core.specs.Exact.{RestSame, front_of, stop_front};
+ghost use Rattle.mc_core.specs.Exact.{DecidesAlone, RestSame, front_of, stop_front};
 ghost use Rattle.mc_fetch.specs.declared.job.Delivered.{Delivered};
 ghost use Rattle.mc_plan.specs.Deletes.{IsOutside};
 ghost use Rattle.mc_plan.specs.Jobs.{DeliverEvents, DeliverShort, DeliverWants, TakesArrival, found_in};
 ghost use Rattle.mc_plan.specs.Jobs.{is_known};
+ghost use Rattle.mc_core.specs.AnswersTo.{IsAnswerTo};
 ghost use Rattle.mc_plan.specs.Uptakes.{IsShaped, IsSomeUptake};
 ghost use Rattle.mc_plan.specs.Uptakes.{uptake_rows};
 ghost use Rattle.mc_plan.specs.Reads.{read_refusal};
@@ -38,10 +39,12 @@ impl<K: Keeper> Replica<K> {
             (λ s. DeliverShort s job.cid) result self.old self.new }
         ensures keeps { Continues K.Keeper (is_fault result) self.old self.new }
         ensures front { front_of result ≡ stop_front self.old.stopped None }
+        ensures seen { IfErr result DecidesAlone }
         ensures rest { RestSame self.old self.new }
         ensures wants { DeliverWants result (shown self.old.queue) (shown self.new.queue) job.cid }
         ensures known { IfOk result (λ delivered.
             is_known delivered ≡ not (has job.cid (shown self.old.queue).flight)) }
+        ensures answers { IfOk result (IsAnswerTo job.cid (found_in found)) }
     {
         kept_is_durable();
         if self.stopped {
@@ -67,9 +70,11 @@ impl<K: Keeper> Replica<K> {
             (λ s. DeliverShort s cid) result self.old self.new }
         ensures keeps { Continues K.Keeper (is_fault result) self.old self.new }
         ensures only { front_of result ≡ None }
+        ensures seen { IfErr result DecidesAlone }
         ensures rest { RestSame self.old self.new }
         ensures wants { DeliverWants result (shown self.old.queue) (shown self.new.queue) cid }
         ensures found { IfOk result (λ delivered. is_known delivered ≡ false) }
+        ensures answers { IfOk result (IsAnswerTo cid (found_in found)) }
     {
         match found {
             Found::Missing => {
@@ -94,9 +99,11 @@ impl<K: Keeper> Replica<K> {
             (λ s. DeliverShort s cid) result self.old self.new }
         ensures keeps { Continues K.Keeper (is_fault result) self.old self.new }
         ensures only { front_of result ≡ None }
+        ensures seen { IfErr result DecidesAlone }
         ensures rest { RestSame self.old self.new }
         ensures wants { DeliverWants result (shown self.old.queue) (shown self.new.queue) cid }
         ensures found { IfOk result (λ delivered. is_known delivered ≡ false) }
+        ensures answers { IfOk result (IsAnswerTo cid (Some bytes)) }
     {
         match read_found(alloc, &cid, bytes.as_slice()) {
             Ok(block) => self.deliver_block(alloc, cid, block, bytes),
@@ -127,9 +134,11 @@ impl<K: Keeper> Replica<K> {
             (λ s. DeliverShort s cid) result self.old self.new }
         ensures keeps { Continues K.Keeper (is_fault result) self.old self.new }
         ensures only { front_of result ≡ None }
+        ensures seen { IfErr result DecidesAlone }
         ensures rest { RestSame self.old self.new }
         ensures wants { DeliverWants result (shown self.old.queue) (shown self.new.queue) cid }
         ensures found { IfOk result (λ delivered. is_known delivered ≡ false) }
+        ensures answers { IfOk result (IsAnswerTo cid (Some bytes)) }
     {
         kept_is_durable();
         is_sound(&self.keeper);

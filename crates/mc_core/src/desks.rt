@@ -1,8 +1,8 @@
 // Desks: places from which other threads read blocks of a replica's keeper.
-ghost use Rattle.std.specs.Prelude.{◌≡◌, ⊤, true, false, None, IfOk};
+ghost use Rattle.std.specs.Prelude.{◌≡◌, ⊤, true, false, None, IfErr, IfOk};
 ghost use Rattle.mc_keep.specs.Plan.{DeskAsPlanned};
 ghost use Rattle.mc_plan.specs.Desks.{kept_result};
-ghost use Rattle.mc_core.specs.Exact.{RestSame, front_of, stop_front};
+ghost use Rattle.mc_core.specs.Exact.{DecidesAlone, RestSame, front_of, stop_front};
 ghost use Rattle.mc_plan.specs.Refusals.{is_fault};
 ghost use Rattle.mc_core.specs.Words.{Answers, ContinuesApart, TellsSame};
 
@@ -18,6 +18,7 @@ impl<K: Keeper> Replica<K> {
         ensures call { Answers K.Keeper (λ kept desk. ⊤) result self.old self.new }
         ensures keeps { ContinuesApart K.Keeper (is_fault result) self.old self.new }
         ensures front { front_of result ≡ stop_front self.old.stopped None }
+        ensures seen { IfErr result DecidesAlone }
         ensures rest { RestSame self.old self.new }
         ensures same { TellsSame K.Keeper self.old self.new }
         ensures fresh { IfOk result (λ desk. K.Desk.faults desk ≡ 0) }

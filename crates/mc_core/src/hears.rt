@@ -1,8 +1,8 @@
 // Broadcasts: what a replica says of its heads, and what it hears.
-ghost use Rattle.std.specs.Prelude.{◌≡◌, None, IfOk};
+ghost use Rattle.std.specs.Prelude.{◌≡◌, None, IfErr, IfOk};
 ghost use Rattle.mc_queue.specs.Views.{shown};
 ghost use Rattle.mc_plan.specs.Calls.{Stays};
-ghost use Rattle.mc_core.specs.Exact.{RestSame, front_of, stop_front};
+ghost use Rattle.mc_core.specs.Exact.{DecidesAlone, RestSame, front_of, stop_front};
 ghost use Rattle.mc_plan.specs.Hears.{HearEvents, HearWants, IsQueued};
 ghost use Rattle.mc_plan.specs.Hears.{cast_refusal, hear_refusal, unless_short, written_cast};
 ghost use Rattle.mc_plan.specs.Refusals.{Is, is_fault};
@@ -21,6 +21,7 @@ impl<K: Keeper> Replica<K> {
         ensures call { Answers K.Keeper (λ kept bytes. bytes ≡ written_cast kept) result self.old self.new }
         ensures keeps { Continues K.Keeper (is_fault result) self.old self.new }
         ensures front { front_of result ≡ stop_front self.old.stopped None }
+        ensures seen { IfErr result DecidesAlone }
         ensures rest { RestSame self.old self.new }
         ensures same { TellsSame K.Keeper self.old self.new }
     {
@@ -46,6 +47,7 @@ impl<K: Keeper> Replica<K> {
             Stays result self.old self.new }
         ensures keeps { Continues K.Keeper (is_fault result) self.old self.new }
         ensures front { front_of result ≡ stop_front self.old.stopped (unless_short result (cast_refusal message.now)) }
+        ensures seen { IfErr result DecidesAlone }
         ensures rest { RestSame self.old self.new }
         ensures tells { StillTells K.Keeper self.old self.new }
         ensures wants { HearWants result (shown self.old.queue) (shown self.new.queue) }

@@ -1,5 +1,5 @@
 // The jobs of a replica: the wanted blocks that are to be fetched.
-ghost use Rattle.std.specs.Prelude.{◌≡◌, ◌∷◌, [], None, IfOk, IfSome, option_map, cond};
+ghost use Rattle.std.specs.Prelude.{◌≡◌, ◌∷◌, [], None, IfErr, IfOk, IfSome, option_map, cond};
 ghost use Rattle.mc_fetch.specs.Offers.{HasDigest};
 ghost use Rattle.mc_fetch.specs.declared.job.Job.{Job as Begun};
 ghost use Rattle.mc_model.specs.Draining.{all_given_back};
@@ -8,7 +8,7 @@ ghost use Rattle.mc_model.specs.Graph.{has};
 ghost use Rattle.mc_model.specs.Wanted.{give_back, requeue, recall};
 ghost use Rattle.mc_queue.specs.Tickets.{first_of};
 ghost use Rattle.mc_queue.specs.Views.{shown};
-ghost use Rattle.mc_core.specs.Exact.{RestSame, front_of, stop_front};
+ghost use Rattle.mc_core.specs.Exact.{DecidesAlone, RestSame, front_of, stop_front};
 ghost use Rattle.mc_plan.specs.Jobs.{NextEvents, NextShort, NextWants};
 ghost use Rattle.mc_plan.specs.Reads.{read_refusal};
 ghost use Rattle.mc_plan.specs.Refusals.{Is, is_fault};
@@ -29,6 +29,7 @@ impl<K: Keeper> Replica<K> {
         ensures call { Acts K.Keeper (λ s. Is (read_refusal s)) NextEvents NextShort result self.old self.new }
         ensures keeps { Continues K.Keeper (is_fault result) self.old self.new }
         ensures front { front_of result ≡ stop_front self.old.stopped None }
+        ensures seen { IfErr result DecidesAlone }
         ensures rest { RestSame self.old self.new }
         ensures tells { StillTells K.Keeper self.old self.new }
         ensures first { IfOk result (λ job.

@@ -1,5 +1,5 @@
 // The calls of a replica that only read.
-ghost use Rattle.std.specs.Prelude.{◌≡◌, None, false, is_some, map, slice_get, IfErr, IfOk, IfSome};
+ghost use Rattle.std.specs.Prelude.{◌≡◌, ◌+◌, None, true, false, is_some, map, slice_get, IfErr, IfOk, IfSome};
 ghost use Rattle.mc_plan.specs.declared.error.CoreError.{CoreError as Refused};
 ghost use Rattle.std.specs.List.{position};
 ghost use Rattle.mc_key.specs.Prefix.{is_under};
@@ -9,8 +9,11 @@ ghost use Rattle.mc_model.specs.Front.{heads, is_among, same_cid};
 ghost use Rattle.mc_model.specs.Kept.{processed};
 ghost use Rattle.mc_model.specs.Live.{value};
 ghost use Rattle.mc_keep.specs.Changes.{heads_in_rows};
-ghost use Rattle.mc_query.specs.Places.{pair_of};
-ghost use Rattle.mc_core.specs.Exact.{NoMemory, RestSame, front_of, stop_front};
+ghost use Rattle.mc_keep.specs.Plan.{ReadsAsPlanned};
+ghost use Rattle.mc_query.specs.Answers.{AreAnswers};
+ghost use Rattle.mc_query.specs.Places.{pair_of, start_of};
+ghost use Rattle.mc_query.specs.Reads.{ReadsWithin};
+ghost use Rattle.mc_core.specs.Exact.{DecidesAlone, NoMemory, RestSame, front_of, stop_front};
 ghost use Rattle.mc_plan.specs.Refusals.{is_fault};
 ghost use Rattle.mc_core.specs.Words.{Answers, Continues, TellsSame};
 
@@ -23,15 +26,18 @@ use mc_query::Pair;
 use std::alloc::Global;
 
 impl<K: Keeper> Replica<K> {
-    /// The value of a key over the processed blocks, or none where it has none. The key is any text. Refusals:
-    /// `Stopped`.
+    /// The value of a key over the processed blocks, or none where it has none. The key is any text. It makes one read of
+    /// the keeper. Refusals: `Stopped`.
     pub fn get(&mut self, alloc: Global, key: &str) -> Result<Option<Bytes>, CoreError>
         ensures call { Answers K.Keeper (λ kept found.
             found ≡ value (processed kept) key.now) result self.old self.new }
         ensures keeps { Continues K.Keeper (is_fault result) self.old self.new }
         ensures front { front_of result ≡ stop_front self.old.stopped None }
+        ensures seen { IfErr result DecidesAlone }
         ensures rest { RestSame self.old self.new }
         ensures same { TellsSame K.Keeper self.old self.new }
+        ensures planned { self.old.stopped ≡ false → ReadsAsPlanned
+            (K.schedule self.old.keeper) (K.schedule self.new.keeper) (is_fault result) }
     {
         kept_is_durable();
         if self.stopped {
@@ -47,14 +53,18 @@ impl<K: Keeper> Replica<K> {
         }
     }
 
-    /// Whether a key has a value over the processed blocks. The key is any text. Takes no memory. Refusals: `Stopped`.
+    /// Whether a key has a value over the processed blocks. The key is any text. It makes one read of the keeper, and takes
+    /// no memory. Refusals: `Stopped`.
     pub fn has(&mut self, key: &str) -> Result<bool, CoreError>
         ensures call { Answers K.Keeper (λ kept found.
             found ≡ has_value (processed kept) key.now) result self.old self.new }
         ensures keeps { Continues K.Keeper (is_fault result) self.old self.new }
         ensures front { front_of result ≡ stop_front self.old.stopped None }
+        ensures seen { IfErr result DecidesAlone }
         ensures rest { RestSame self.old self.new }
         ensures same { TellsSame K.Keeper self.old self.new }
+        ensures planned { self.old.stopped ≡ false → ReadsAsPlanned
+            (K.schedule self.old.keeper) (K.schedule self.new.keeper) (is_fault result) }
         ensures no_memory { NoMemory result }
     {
         kept_is_durable();
@@ -72,7 +82,8 @@ impl<K: Keeper> Replica<K> {
     }
 
     /// The keys with a value that a prefix selects, ascending by their bytes, each with its value: those after the
-    /// first `skip` of them, and at most `count`. Refusals: `Stopped`.
+    /// first `skip` of them, and at most `count`. Over every keeper they ascend, are selected and are at most so many, and
+    /// it makes at most `skip + count` reads. Refusals: `Stopped`.
     pub fn query(
         &mut self,
         alloc: Global,
@@ -83,10 +94,14 @@ impl<K: Keeper> Replica<K> {
         ensures call { Answers K.Keeper (λ kept pairs.
             map pair_of pairs ≡ answers.query (processed kept) (is_under prefix.now) skip count)
             result self.old self.new }
+        ensures ascend { IfOk result (λ pairs. AreAnswers (start_of prefix.now) true prefix.now count pairs) }
         ensures keeps { Continues K.Keeper (is_fault result) self.old self.new }
         ensures front { front_of result ≡ stop_front self.old.stopped None }
+        ensures seen { IfErr result DecidesAlone }
         ensures rest { RestSame self.old self.new }
         ensures same { TellsSame K.Keeper self.old self.new }
+        ensures planned { self.old.stopped ≡ false → ReadsWithin (skip + count)
+            (K.schedule self.old.keeper) (K.schedule self.new.keeper) (is_fault result) }
     {
         kept_is_durable();
         if self.stopped {
@@ -108,6 +123,7 @@ impl<K: Keeper> Replica<K> {
             heads_in_rows rows ≡ heads (processed kept)) result self.old self.new }
         ensures keeps { Continues K.Keeper (is_fault result) self.old self.new }
         ensures front { front_of result ≡ stop_front self.old.stopped None }
+        ensures seen { IfErr result DecidesAlone }
         ensures rest { RestSame self.old self.new }
         ensures same { TellsSame K.Keeper self.old self.new }
     {

@@ -36,7 +36,7 @@ pub struct Replica<K: Keeper> {
 pub enum OpenCause {
     /// The keeper failed, and counted it.
     KeeperFault,
-    /// Want of memory. No opening of today takes any.
+    /// Want of memory. Opening takes none; a world whose desks want it answers it.
     Memory,
 }
 

@@ -2,7 +2,7 @@
 ghost use Rattle.std.specs.Prelude.{◌≡◌, IfOk, IfErr, IfSome, true};
 ghost use Rattle.mc_plan.specs.declared.error.CoreError.{CoreError as Refused};
 ghost use Rattle.mc_queue.specs.Views.{shown};
-ghost use Rattle.mc_core.specs.Reports.{AreCounts, IsReport};
+ghost use Rattle.mc_core.specs.Reports.{AreCounts, AreNumbers, IsReport};
 
 use crate::Replica;
 use mc_keep::Keeper;
@@ -25,12 +25,13 @@ pub struct Report {
 }
 
 impl<K: Keeper> Replica<K> {
-    /// The numbers of what the replica's keeper tells, and of what is wanted. Takes no memory and doesn't look at the
-    /// keeper. Refusals:
-    /// `Stopped`, and exactly where an earlier call answered `KeeperFault`.
+    /// The numbers that the replica keeps, which are those of what its keeper tells, and of what is wanted. Takes no
+    /// memory and doesn't look at the keeper. Refusals: `Stopped`, and exactly where an earlier call answered
+    /// `KeeperFault`.
     pub fn report(&self) -> Result<Report, CoreError>
         ensures report { IfOk result (λ report.
             IfSome (K.told self.now.keeper) (λ kept. IsReport kept self.now.whole report)) }
+        ensures numbers { IfOk result (λ report. AreNumbers self.now.numbers self.now.whole report) }
         ensures counts { IfOk result (λ report. AreCounts (shown self.now.queue) report.counts) }
         ensures refused { IfErr result (λ error. (error ≡ Refused.Stopped) × (self.now.stopped ≡ true)) }
         ensures stopped { self.now.stopped ≡ true → IfOk result (λ report. ⊥) }

@@ -5,7 +5,7 @@ ghost use Rattle.mc_queue.specs.Views.{shown};
 ghost use Rattle.mc_plan.specs.declared.error.CoreError.{CoreError as Refused};
 ghost use Rattle.mc_plan.specs.declared.walks.WalkStep.{WalkStep as Step};
 ghost use Rattle.mc_plan.specs.Calls.{Stays};
-ghost use Rattle.mc_core.specs.Exact.{IfRefusedOrShort, RestSame, front_of, stop_front};
+ghost use Rattle.mc_core.specs.Exact.{DecidesAlone, IfRefusedOrShort, RestSame, front_of, stop_front};
 ghost use Rattle.mc_plan.specs.Uptakes.{wants};
 ghost use Rattle.mc_plan.specs.Reads.{read_refusal};
 ghost use Rattle.mc_plan.specs.Refusals.{Is, is_fault};
@@ -32,6 +32,7 @@ impl<K: Keeper> Replica<K> {
         ensures call { Acts K.Keeper (λ s. Is (read_refusal s)) WalkEvents Stays result self.old self.new }
         ensures keeps { Continues K.Keeper (is_fault result) self.old self.new }
         ensures front { front_of result ≡ stop_front self.old.stopped None }
+        ensures seen { IfErr result DecidesAlone }
         ensures step { IfOk result (λ step. StepsOn K.Keeper step self.old self.new) }
         ensures left { IfErr result (λ error. RestSame self.old self.new) }
         ensures wants { IfErr result (λ error. shown self.new.queue ≡ shown self.old.queue) }
@@ -53,6 +54,7 @@ impl<K: Keeper> Replica<K> {
         ensures call { Acts K.Keeper (λ s. Is (read_refusal s)) WalkEvents Stays result self.old self.new }
         ensures keeps { Continues K.Keeper (is_fault result) self.old self.new }
         ensures only { front_of result ≡ None }
+        ensures seen { IfErr result DecidesAlone }
         ensures step { IfOk result (λ step. StepsOn K.Keeper step self.old self.new) }
         ensures left { IfErr result (λ error. RestSame self.old self.new) }
         ensures wants { IfErr result (λ error. shown self.new.queue ≡ shown self.old.queue) }
@@ -85,6 +87,7 @@ impl<K: Keeper> Replica<K> {
         ensures call { Acts K.Keeper (λ s. Is (read_refusal s)) WalkEvents Stays result self.old self.new }
         ensures keeps { Continues K.Keeper (is_fault result) self.old self.new }
         ensures only { front_of result ≡ None }
+        ensures seen { IfErr result DecidesAlone }
         ensures step { IfOk result (λ step. StepsOn K.Keeper step self.old self.new) }
         ensures left { IfErr result (λ error. RestSame self.old self.new) }
         ensures wants { shown self.new.queue ≡ shown self.old.queue }
@@ -111,6 +114,7 @@ impl<K: Keeper> Replica<K> {
         ensures call { Acts K.Keeper (λ s. Is (read_refusal s)) WalkEvents Stays result self.old self.new }
         ensures keeps { Continues K.Keeper (is_fault result) self.old self.new }
         ensures only { front_of result ≡ None }
+        ensures seen { IfErr result DecidesAlone }
         ensures step { IfOk result (λ step. StepsOn K.Keeper step self.old self.new) }
         ensures left { IfErr result (λ error. RestSame self.old self.new) }
         ensures wants { shown self.new.queue ≡ shown self.old.queue }
@@ -136,6 +140,7 @@ impl<K: Keeper> Replica<K> {
         ensures call { Acts K.Keeper (λ s. Is (read_refusal s)) WalkEvents Stays result self.old self.new }
         ensures keeps { Continues K.Keeper (is_fault result) self.old self.new }
         ensures only { front_of result ≡ None }
+        ensures seen { IfErr result DecidesAlone }
         ensures step { IfOk result (λ step. StepsOn K.Keeper step self.old self.new) }
         ensures left { IfErr result (λ error. RestSame self.old self.new) }
         ensures wants { shown self.new.queue ≡ shown self.old.queue }

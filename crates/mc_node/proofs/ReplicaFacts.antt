@@ -1,6 +1,6 @@
 -- What the calls of a replica promise, as the calls of a node's value.
 use Rattle.std.proofs.Common.{◌≡◌, ℕ, Bool, true, false, inl, inr, List, [], ◌∷◌, ◌++◌, length, Option, Some, None, Result, Ok, Err, refl, sym, ap, ◌∙◌, subst}
-use Rattle.std.specs.Prelude.{⊤, IfSome, IfOk}
+use Rattle.std.specs.Prelude.{⊤, IfSome, IfOk, IfErr}
 use Rattle.std.proofs.lemmas.Bool.{false≢true}
 use Rattle.std.proofs.lemmas.List.{append-nil}
 use Rattle.mc_base.specs.Causes.{Rose}
@@ -124,6 +124,15 @@ delete_stays key error s = (adds (kind_of error), keeps (kind_of error))
 pub delete_goes : (go : GoLaw) (key : List ℕ) (s new : ReplicaState) → DeleteShort s key new → GoesOn s.state.durable new.state.durable
 delete_goes go key s new (inl e) = subst (λ (x : ReplicaState). GoesOn s.state.durable x.state.durable) (sym e) (same_goes s.state.durable)
 delete_goes go key s new (inr p) = go _ s new p.4
+
+-- an answer with how many processed blocks it is over
+pub seen_err : {A : Type 0} (n : ℕ) (result : Result A CoreError) (P : CoreError → Type 0) → IfErr result P → IfErr (seen_by n result) P
+seen_err n (Ok value) P is = tt
+seen_err n (Err error) P is = is
+
+pub seen_ok : {A : Type 0} (n : ℕ) (result : Result A CoreError) (P : A → Type 0) → IfOk result P → IfOk (seen_by n result) (λ seen. P seen.answer)
+seen_ok n (Ok value) P is = is
+seen_ok n (Err error) P is = tt
 
 module _ {K D : Type 0} {g : keeper.Ghosts K D} {h : counted.Ghosts K} {i : counted.Ghosts D} (told : K → Option Kept) (fuse : K → Option Fuse) (own faults : K → ℕ) (quiet : K → Bool) (schedule : K → Option Schedule) where
   -- a message that was not heard leaves what is wanted

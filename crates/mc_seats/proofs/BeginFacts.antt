@@ -8,10 +8,10 @@ use Rattle.mc_base.specs.Told.{Told}
 use Rattle.mc_base.specs.declared.cid.Cid.{Cid}
 use Rattle.mc_base.specs.declared.counted.Counted as counted
 use Rattle.mc_base.proofs.Telling.{told_weaker}
-use Rattle.mc_core.specs.Calls.{Call, Faults, IsRefused}
+use Rattle.mc_core.specs.Calls.{Call, Faults}
 use Rattle.mc_core.specs.Counted.{run_of}
 use Rattle.mc_core.specs.Events.{ReplicaState, state_of, Goes}
-use Rattle.mc_core.specs.Exact.{RestSame, seen_of, stop_front}
+use Rattle.mc_core.specs.Exact.{DecidesAlone, RestSame, seen_of, stop_front}
 use Rattle.mc_core.specs.Jobs.{NextEvents, NextShort, NextWants, first_waiting}
 use Rattle.mc_core.specs.Reads.{read_refusal}
 use Rattle.mc_core.specs.Refusals.{Is, kind_of}
@@ -38,9 +38,9 @@ use Rattle.mc_script.specs.declared.reply.Reply.{Reply}
 use Rattle.mc_script.specs.declared.reply.Reply.TheVariants.{Idle, Stopped}
 use Rattle.mc_seats.specs.declared.error.ActError.{ActError}
 use Rattle.mc_seats.specs.declared.error.ActError.TheVariants.{BadLine, Memory}
-use Rattle.mc_seats.specs.Effects.{CallRefused, Happens, Leaves, EventsOf, RunOn, SameBatch}
+use Rattle.mc_seats.specs.Effects.{CallRefused, answer_of, Happens, Leaves, EventsOf, RunOn, SameBatch}
 use Rattle.mc_seats.specs.Step.{StillRuns}
-use Rattle.mc_seats.specs.StepParts.{BeginsAt, begun_of, broke_of, up}
+use Rattle.mc_seats.specs.StepParts.{BeginsAt, begun_of, up}
 use Rattle.mc_seats.specs.declared.seat.Held.{Held}
 use Rattle.mc_seats.specs.declared.seat.Held.TheVariants.{Up, Down}
 use Rattle.mc_seats.specs.declared.seat.Idle.{Idle as IdleOf}
@@ -48,6 +48,7 @@ use Rattle.mc_seats.specs.declared.seat.Seat.{Seat}
 use Rattle.mc_seats.specs.Keepers.{keeper_in, keeper_of}
 use Rattle.mc_seats.specs.Words.{place}
 use Rattle.mc_seats.specs.Worlds.{Place, WorldState, is_down, place_with, state_at}
+use Rattle.mc_seats.proofs.CallFacts.{no_other}
 use Rattle.mc_seats.proofs.GoesFacts.{keeper_goes, keeper_still}
 
 -- the members of a bound
@@ -124,8 +125,8 @@ allowed_at w (Some kept) fuse (Some run) planted r is = (refl, refl)
 refused_at : (w : WorldState) (content : Option Kept) (fuse : Option Fuse) (run : Option Running) (planted : List Planted) (r : ℕ) → is_down run ≡ true
     → CallRefused w (record { content = content; fuse = fuse; run = run; planted = planted }) (Step r) (Some Stopped)
 refused_at w content fuse (Some run) planted r is = never (sym is)
-refused_at w None fuse None planted r is = (core.Stopped, refl, tt, refl)
-refused_at w (Some kept) fuse None planted r is = (core.Stopped, refl, refl, refl)
+refused_at w None fuse None planted r is = (core.Stopped, refl, tt, refl, λ is. refl)
+refused_at w (Some kept) fuse None planted r is = (core.Stopped, refl, refl, refl, λ is. refl)
 
 -- what runs on
 
@@ -251,9 +252,9 @@ module _ {K D : Type 0} {g : keeper.Ghosts K D} {h : counted.Ghosts K} {i : coun
       by_next (Some job) call first digest = begins_job job call keeps front rest tells first digest wants
 
   -- the call failed, or was refused, or memory was wanted
-  begins_not : (error : CoreError) → Calls (Err error) → Continues k (is_fault_kind (kind_of error)) old new → seen_of error ≡ stop_front old.stopped None → RestSame old new → StillTells k old new
-      → NextWants {T = Option Job} (Err error) (running_of old).queue (running_of new).queue → Ends (broken (broke_of error))
-  begins_not core.KeeperFault call keeps front rest tells wants = record {
+  begins_not : (error : CoreError) → Calls (Err error) → Continues k (is_fault_kind (kind_of error)) old new → DecidesAlone error → seen_of error ≡ stop_front old.stopped None → RestSame old new → StillTells k old new
+      → NextWants {T = Option Job} (Err error) (running_of old).queue (running_of new).queue → Ends (broken (answer_of error))
+  begins_not core.KeeperFault call keeps alone front rest tells wants = record {
     begins = tt;
     early = λ w r. inr (
       refl,
@@ -276,7 +277,7 @@ module _ {K D : Type 0} {g : keeper.Ghosts K D} {h : counted.Ghosts K} {i : coun
     where
       rose : Rose (k.own old.keeper) (k.own new.keeper)
       rose = keeps.keeper_goes.own_rose (ap (λ f. has_fired (k.fuse old.keeper) f) tells.fuse_same ∙ unfired (k.fuse old.keeper)) refl
-  begins_not core.Stopped call keeps front rest tells wants = record {
+  begins_not core.Stopped call keeps alone front rest tells wants = record {
     begins = tt;
     early = λ w r. inl (inl (
       refused_at w (k.told old.keeper) (k.fuse old.keeper) (run_of old.stopped (running_of old)) planted r (down_of old.stopped (running_of old) ∙ front_stops old.stopped front),
@@ -286,7 +287,7 @@ module _ {K D : Type 0} {g : keeper.Ghosts K D} {h : counted.Ghosts K} {i : coun
     not_bad = λ e. is_no_error e;
     goes = keeper_goes keeps.keeper_goes;
   }
-  begins_not core.Memory call keeps front rest tells wants = record {
+  begins_not core.Memory call keeps alone front rest tells wants = record {
     begins = tt;
     early = λ w r. tt;
     short = λ r e. record {
@@ -298,22 +299,11 @@ module _ {K D : Type 0} {g : keeper.Ghosts K D} {h : counted.Ghosts K} {i : coun
     not_bad = λ e. short_is_not_bad e;
     goes = keeper_goes keeps.keeper_goes;
   }
-  begins_not error call keeps front rest tells wants = record {
-    begins = tt;
-    early = λ w r. tt;
-    short = λ r e. record {
-      runs = runs_still old.stopped new.stopped (running_of old) (running_of new) keeps.stops rest.walk_same rest.whole_same rest.batch_same;
-      silent = λ e. tells.told_same ∙ e;
-      planted_same = refl;
-      told = told_weaker (λ s after. IsRefused (Is (read_refusal s)) error s after) (Leaves (Step r)) (λ s after left. inl left.1) (state_at (up k planted old)) (state_at (up k planted new)) call;
-    };
-    not_bad = λ e. short_is_not_bad e;
-    goes = keeper_goes keeps.keeper_goes;
-  }
+  begins_not error call keeps alone front rest tells wants = no_other error old.stopped refl alone front
 
-  pub begins_broke : (error : CoreError) (said : Result Reply ActError) → said ≡ broke_of error → Calls (Err error) → Continues k (is_fault_kind (kind_of error)) old new → seen_of error ≡ stop_front old.stopped None → RestSame old new
+  pub begins_broke : (error : CoreError) (said : Result Reply ActError) → said ≡ answer_of error → Calls (Err error) → Continues k (is_fault_kind (kind_of error)) old new → DecidesAlone error → seen_of error ≡ stop_front old.stopped None → RestSame old new
       → StillTells k old new → NextWants {T = Option Job} (Err error) (running_of old).queue (running_of new).queue → Ends (broken said)
-  begins_broke error said is call keeps front rest tells wants = subst (λ (said : Result Reply ActError). Ends (broken said)) (sym is) (begins_not error call keeps front rest tells wants)
+  begins_broke error said is call keeps alone front rest tells wants = subst (λ (said : Result Reply ActError). Ends (broken said)) (sym is) (begins_not error call keeps alone front rest tells wants)
 
 -- a replica that is stopped
 pub begins_down : {K D : Type 0} (k : Members K D) (p : Place) (x : K) → p.run ≡ None → BeginsAt k (Ok (Err Stopped)) p p x x

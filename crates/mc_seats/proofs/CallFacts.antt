@@ -1,12 +1,14 @@
 -- From a call of a replica to the row of a command at its place.
-use Rattle.std.proofs.Common.{◌≡◌, List, Option, Some, None, Result, Ok, Err, sym, subst, inl, inr}
+use Rattle.std.proofs.Common.{◌≡◌, Bool, true, false, true≢false, List, Option, Some, None, Result, Ok, Err, refl, sym, ap, ◌∙◌, subst, inl, inr}
 use Rattle.std.specs.Prelude.{IsErrAnd}
 use Rattle.mc_base.specs.Told.{Told}
 use Rattle.mc_keep.specs.Causes.{Kind, Refusal, Fault, Shortage}
 use Rattle.mc_model.specs.Events.{Event}
 use Rattle.mc_core.specs.declared.CoreError.{CoreError}
+use Rattle.mc_core.specs.declared.CoreError.TheVariants as core
 use Rattle.mc_core.specs.Calls.{Begins, Call, Faults}
 use Rattle.mc_core.specs.Events.{ReplicaState}
+use Rattle.mc_core.specs.Exact.{DecidesAlone, seen_of, stop_front}
 use Rattle.mc_core.specs.Refusals.{ByKind, kind_of}
 use Rattle.mc_script.specs.declared.reply.Reply.{Reply}
 
@@ -41,3 +43,30 @@ pub ok_call : {T : Type 0} (Due : ReplicaState → Option CoreError → Type 0) 
 ok_call Due P Q Short value reply plans None new own call = tt
 ok_call Due P Q Short value reply plans (Some s) None own call = absurd call
 ok_call Due P Q Short value reply plans (Some s) (Some x) own call = record { allowed = call.allowed; events = call.events; makes = plans s call.events call.makes; goes = call.goes }
+
+-- A call that makes no block, and that only a replica refuses that doesn't run, has no other error than a stop, a fault
+-- of the keeper and want of memory.
+
+abbrev pub is_ending : CoreError → Bool
+is_ending core.KeeperFault = true
+is_ending core.Stopped = true
+is_ending core.Memory = true
+is_ending error = false
+
+abbrev tells_stop : Option CoreError → Bool
+tells_stop None = true
+tells_stop (Some core.Stopped) = true
+tells_stop (Some error) = false
+
+stop_is_told : (stop : Bool) → tells_stop (stop_front stop None) ≡ true
+stop_is_told true = refl
+stop_is_told false = refl
+
+pub no_other : {P : Type 0} (error : CoreError) (stop : Bool) → is_ending error ≡ false → DecidesAlone error → seen_of error ≡ stop_front stop None → P
+no_other core.KeeperFault stop other alone front = absurd (true≢false other)
+no_other core.Stopped stop other alone front = absurd (true≢false other)
+no_other core.Memory stop other alone front = absurd (true≢false other)
+no_other (core.BlockTooLarge len) stop other alone front = absurd (true≢false alone)
+no_other core.PriorityFull stop other alone front = absurd (true≢false alone)
+no_other (core.Clash cid) stop other alone front = absurd (true≢false alone)
+no_other error stop other alone front = absurd (true≢false (sym (ap tells_stop front ∙ stop_is_told stop)))

@@ -6,10 +6,10 @@ use Rattle.mc_base.specs.Causes.{Rose}
 use Rattle.mc_base.specs.Told.{Told}
 use Rattle.mc_base.specs.declared.cid.Cid.{Cid}
 use Rattle.mc_base.specs.declared.counted.Counted as counted
-use Rattle.mc_core.specs.Calls.{Call, Faults, IsRefused}
+use Rattle.mc_core.specs.Calls.{Call, Faults}
 use Rattle.mc_core.specs.Counted.{run_of}
 use Rattle.mc_core.specs.Events.{ReplicaState, state_of, all_happen, Goes, HappensIn, IsCutShort, stopped}
-use Rattle.mc_core.specs.Exact.{RestSame, seen_of, stop_front}
+use Rattle.mc_core.specs.Exact.{DecidesAlone, RestSame, seen_of, stop_front}
 use Rattle.mc_core.specs.Jobs.{DeliverEvents, DeliverShort, DeliversIn, IsDelivered, first_waiting, tried_first}
 use Rattle.mc_core.specs.Reads.{read_refusal}
 use Rattle.mc_core.specs.Refusals.{Is, kind_of}
@@ -39,12 +39,13 @@ use Rattle.mc_script.specs.declared.reply.Reply.{Reply}
 use Rattle.mc_script.specs.declared.reply.Reply.TheVariants as reply
 use Rattle.mc_seats.specs.declared.error.ActError.{ActError}
 use Rattle.mc_seats.specs.Fetching.{IsFound, IsStepReply, StepEvents, StepsWith}
-use Rattle.mc_seats.specs.Effects.{IsIdle, Leaves, RunOn, SameBatch}
+use Rattle.mc_seats.specs.Effects.{IsIdle, answer_of, Leaves, RunOn, SameBatch}
 use Rattle.mc_seats.specs.Step.{ShortAt, StillRuns, answers_fault}
-use Rattle.mc_seats.specs.StepParts.{BacksAt, Begun, DeliversAt, IsFlying, IsFoundAt, broke_of, up}
+use Rattle.mc_seats.specs.StepParts.{BacksAt, Begun, DeliversAt, IsFlying, IsFoundAt, up}
 use Rattle.mc_seats.specs.Words.{KeeperGoes}
 use Rattle.mc_seats.specs.Worlds.{IfRuns, Place, WorldState, is_down, peers_of, state_at}
 use Rattle.mc_seats.proofs.BeginFacts.{allowed_at, is_no_error, never, short_is_not_bad, waits}
+use Rattle.mc_seats.proofs.CallFacts.{no_other}
 use Rattle.mc_seats.proofs.GoesFacts.{keeper_goes}
 
 -- a replica whose place runs
@@ -186,16 +187,7 @@ module _ (content : Option Kept) (fuse : Option Fuse) (run : Running) (cid : Cid
         goes_then (Want ∷ []) (GiveBack cid ∷ []) (at kept fuse (Some run)) (at kept fuse (Some (begun_run run))) n (wants kept) call.1,
       )
 
-  -- a replica that runs refuses no delivery
-  refused_delivery : (r : ℕ) (error : CoreError) (y : Option ReplicaState) → Told Mid y (λ m n. IsRefused (Is (read_refusal m)) error m n) → Told Old y (Leaves (Step r))
-  refused_delivery r error y call = over content y call
-    where
-      over : (content : Option Kept) (y : Option ReplicaState) → Told (state_of content fuse (Some (begun_run run))) y (λ m n. IsRefused (Is (read_refusal m)) error m n) → Told (state_of content fuse (Some run)) y (Leaves (Step r))
-      over None y call = tt
-      over (Some kept) None call = absurd call
-      over (Some kept) (Some n) call = never (ap is_some call.0)
-
-  -- nor does giving back do more than that
+  -- giving back does no more than that
   back_delivery : (r : ℕ) (y : Option ReplicaState) → Told Mid y (λ m n. HappensIn m.state.run (λ run. cond (has cid run.queue.flight) (GiveBack cid ∷ []) []) m n) → Told Old y (Leaves (Step r))
   back_delivery r y call = over content y call
     where
@@ -226,9 +218,6 @@ StepCuts w r rose s n = Faults (λ events answer. StepEvents (peers_of w r) s ev
 
 abbrev Shorts : Cid → ReplicaState → ReplicaState → Type 0
 Shorts cid m n = DeliverShort m cid n
-
-abbrev Refuses : CoreError → ReplicaState → ReplicaState → Type 0
-Refuses error m n = IsRefused (Is (read_refusal m)) error m n
 
 abbrev Backs : Cid → ReplicaState → ReplicaState → Type 0
 Backs cid m n = HappensIn m.state.run (λ run. cond (has cid run.queue.flight) (GiveBack cid ∷ []) []) m n
@@ -313,8 +302,8 @@ module _ {K D : Type 0} {g : keeper.Ghosts K D} {h : counted.Ghosts K} {i : coun
       by_test true is = inl is
       by_test false is = inr (rose is)
 
-  delivers_not : (found : Option (List ℕ)) (error : CoreError) → IsFlying cid (up k [] old) → Calls found (Err error) → Continues k (is_fault_kind (kind_of error)) old new → seen_of error ≡ stop_front old.stopped None → RestSame old new → Ends found (broke_of error)
-  delivers_not found core.KeeperFault flying call keeps front rest = record {
+  delivers_not : (found : Option (List ℕ)) (error : CoreError) → IsFlying cid (up k [] old) → Calls found (Err error) → Continues k (is_fault_kind (kind_of error)) old new → DecidesAlone error → seen_of error ≡ stop_front old.stopped None → RestSame old new → Ends found (answer_of error)
+  delivers_not found core.KeeperFault flying call keeps alone front rest = record {
     row = λ w r p begun is_found. inr (
       refl,
       keeps.keeper_goes.faults_go.rose refl,
@@ -334,25 +323,19 @@ module _ {K D : Type 0} {g : keeper.Ghosts K D} {h : counted.Ghosts K} {i : coun
     not_bad = λ e. is_no_error e;
     goes = keeper_goes keeps.keeper_goes;
   }
-  delivers_not found core.Stopped flying call keeps front rest = never (ap is_some (front ∙ ap (λ b. stop_front b None) (flies cid old.stopped (running_of old) flying).0))
-  delivers_not found core.Memory flying call keeps front rest = record {
+  delivers_not found core.Stopped flying call keeps alone front rest = never (ap is_some (front ∙ ap (λ b. stop_front b None) (flies cid old.stopped (running_of old) flying).0))
+  delivers_not found core.Memory flying call keeps alone front rest = record {
     row = λ w r p begun is_found. tt;
     short = λ r p begun e. short_at p begun r keeps rest keeps.stops
         (from_start p begun (Leaves (Step r)) (short_delivery p.content p.fuse begun.run cid begun.rest begun.waits found r (state_at (up k planted new)) (between p begun (Shorts cid) call)));
     not_bad = λ e. short_is_not_bad e;
     goes = keeper_goes keeps.keeper_goes;
   }
-  delivers_not found error flying call keeps front rest = record {
-    row = λ w r p begun is_found. tt;
-    short = λ r p begun e. short_at p begun r keeps rest keeps.stops
-        (from_start p begun (Leaves (Step r)) (refused_delivery p.content p.fuse begun.run cid begun.rest begun.waits found r error (state_at (up k planted new)) (between p begun (Refuses error) call)));
-    not_bad = λ e. short_is_not_bad e;
-    goes = keeper_goes keeps.keeper_goes;
-  }
+  delivers_not found error flying call keeps alone front rest = no_other error old.stopped refl alone front
 
-  pub delivers_broke : (found : Option (List ℕ)) (error : CoreError) (result : Result Reply ActError) → result ≡ broke_of error → IsFlying cid (up k [] old) → Calls found (Err error) → Continues k (is_fault_kind (kind_of error)) old new
+  pub delivers_broke : (found : Option (List ℕ)) (error : CoreError) (result : Result Reply ActError) → result ≡ answer_of error → IsFlying cid (up k [] old) → Calls found (Err error) → Continues k (is_fault_kind (kind_of error)) old new → DecidesAlone error
       → seen_of error ≡ stop_front old.stopped None → RestSame old new → Ends found result
-  delivers_broke found error result is flying call keeps front rest = subst (λ (result : Result Reply ActError). Ends found result) (sym is) (delivers_not found error flying call keeps front rest)
+  delivers_broke found error result is flying call keeps alone front rest = subst (λ (result : Result Reply ActError). Ends found result) (sym is) (delivers_not found error flying call keeps alone front rest)
 
   -- a job that is given back
   pub backs : HappensTo k (λ run. cond (has cid run.queue.flight) (GiveBack cid ∷ []) []) old new → new.keeper ≡ old.keeper → new.stopped ≡ old.stopped → RestSame old new

@@ -17,7 +17,7 @@ use Rattle.mc_core.specs.declared.replica.Replica.{Replica}
 use Rattle.mc_core.specs.Calls.{Call, Stays}
 use Rattle.mc_core.specs.Counted.{run_of}
 use Rattle.mc_core.specs.Events.{ReplicaState}
-use Rattle.mc_core.specs.Exact.{RestSame, seen_of, stop_front}
+use Rattle.mc_core.specs.Exact.{DecidesAlone, RestSame, seen_of, stop_front}
 use Rattle.mc_core.specs.Hears.{HearEvents, HearWants, IsQueued, cast_refusal, hear_refusal, unless_short, written_cast}
 use Rattle.mc_core.specs.Reads.{OnlyReads, read_refusal}
 use Rattle.mc_core.specs.Refusals.{ByKind, Is, kind_of}
@@ -64,12 +64,12 @@ module _ {K D : Type 0} {g : keeper.Ghosts K D} {h : counted.Ghosts K} {i : coun
       (state_at (place k (up old []))) (state_at (place k (up new []))) (Rose (k.own old.keeper) (k.own new.keeper)) error (Err error) refl
       (subst (λ (text : List ℕ). Acts k (HearDue text) (λ s. HearEvents s text) Stays (no_heard error) old new) (sym here) call)
 
-  pub hear_err : (error : CoreError) (result : Result Reply ActError) → result ≡ answer_of error → Continues k (is_fault_kind (kind_of error)) old new → RestSame old new → StillTells k old new
+  pub hear_err : (error : CoreError) (result : Result Reply ActError) → result ≡ answer_of error → Continues k (is_fault_kind (kind_of error)) old new → DecidesAlone error → RestSame old new → StillTells k old new
       → HearWants {T = Heard} (Err error) (running_of old).queue (running_of new).queue → seen_of error ≡ stop_front old.stopped (unless_short {T = Heard} (Err error) (cast_refusal text))
       → Acts k (HearDue text) (λ s. HearEvents s text) Stays (no_heard error) old new
       → SeatActsIn k Where (Hear r message) result x (up new x.planted)
-  hear_err error result answered keeps rest tells wants front call = of_seat k Where (Hear r message) result x old new held
-      (err_acts k (Hear r message) refl error old new x.planted keeps (rest.walk_same, rest.whole_same, rest.batch_same) Where result answered (λ e. absurd (let f : true ≡ false = e in cc))
+  hear_err error result answered keeps alone rest tells wants front call = of_seat k Where (Hear r message) result x old new held
+      (err_acts k (Hear r message) refl error old new x.planted keeps (rest.walk_same, rest.whole_same, rest.batch_same) Where result answered (λ is. alone) (λ e. absurd (let f : true ≡ false = e in cc))
       (same_any (kind_of error) (tells.told_same, tells.fuse_same, wants))
       (λ w here. subst (λ (text : List ℕ). ByKind (seen_of error ≡ stop_front old.stopped (cast_refusal text)) (seen_of error ≡ stop_front old.stopped (cast_refusal text)) ⊤ (kind_of error)) (sym here) (front_short old.stopped (cast_refusal text) error front))
       (hear_call_err error call)
@@ -175,11 +175,11 @@ module _ {K D : Type 0} {g : keeper.Ghosts K D} {h : counted.Ghosts K} {i : coun
       err_call (λ s. CallRefusal w s (Cast r)) (λ s. OnlyReads Heads s) (λ s. EventsOf w s (Cast r)) Stays (λ s events said plan. (Stopped, plan.0))
       (state_at (place k (up old []))) (state_at (place k (up new []))) (Rose (k.own old.keeper) (k.own new.keeper)) error (Err error) refl call
 
-  cast_err_up : (error : CoreError) (old new : Replica K D g h i) (planted : List Planted) → Continues k (is_fault_kind (kind_of error)) old new → RestSame old new → ReplicaTells k old new
+  cast_err_up : (error : CoreError) (old new : Replica K D g h i) (planted : List Planted) → DecidesAlone error → Continues k (is_fault_kind (kind_of error)) old new → RestSame old new → ReplicaTells k old new
       → seen_of error ≡ stop_front old.stopped None → Casts (no_text error) old new → CastActs k (cast_answer (answer_of error)) (up old planted) (up new planted)
-  cast_err_up error old new planted keeps rest same front call = record {
+  cast_err_up error old new planted alone keeps rest same front call = record {
     sent = no_message (λ text. SaysHeads text (place k (up old planted)) (place k (up new planted))) error;
-    early = λ w r. early_cast (SeatEarly k w (Cast r) (up old planted) (up new planted)) error (early_seat k (Cast r) refl error old new planted keeps (rest.walk_same, rest.whole_same, rest.batch_same) (λ e. absurd (let f : true ≡ false = e in cc))
+    early = λ w r. early_cast (SeatEarly k w (Cast r) (up old planted) (up new planted)) error (early_seat k (Cast r) refl error old new planted keeps (rest.walk_same, rest.whole_same, rest.batch_same) (λ is. alone) (λ e. absurd (let f : true ≡ false = e in cc))
         (same_any (kind_of error) (same.told_same, same.fuse_same, queue_by old new same.queue_same)) w (front_any (kind_of error) front) (cast_call w r error old new call));
     short = λ e r. short_seat k (Cast r) refl error old new planted keeps (rest.walk_same, rest.whole_same, rest.batch_same) (short_cast error e)
         (left_of (λ s. Is (read_refusal s)) (OnlyReads Heads) Stays (Rose (k.own old.keeper) (k.own new.keeper)) error (state_at (place k (up old []))) (state_at (place k (up new []))) call);
@@ -188,9 +188,9 @@ module _ {K D : Type 0} {g : keeper.Ghosts K D} {h : counted.Ghosts K} {i : coun
   }
 
   pub cast_err : (error : CoreError) (result : Result (Result (List ℕ) Reply) ActError) (x : Seat K D g h i) (old new : Replica K D g h i) → x.held ≡ Up old → result ≡ cast_answer (answer_of error)
-      → Continues k (is_fault_kind (kind_of error)) old new → RestSame old new → ReplicaTells k old new → seen_of error ≡ stop_front old.stopped None → Casts (no_text error) old new → CastActs k result x (up new x.planted)
-  cast_err error result x old new held is keeps rest same front call = cast_of_seat result x old new held
-      (subst (λ (result : Result (Result (List ℕ) Reply) ActError). CastActs k result (up old x.planted) (up new x.planted)) (sym is) (cast_err_up error old new x.planted keeps rest same front call))
+      → DecidesAlone error → Continues k (is_fault_kind (kind_of error)) old new → RestSame old new → ReplicaTells k old new → seen_of error ≡ stop_front old.stopped None → Casts (no_text error) old new → CastActs k result x (up new x.planted)
+  cast_err error result x old new held is alone keeps rest same front call = cast_of_seat result x old new held
+      (subst (λ (result : Result (Result (List ℕ) Reply) ActError). CastActs k result (up old x.planted) (up new x.planted)) (sym is) (cast_err_up error old new x.planted alone keeps rest same front call))
 
   cast_down_at : (idle : Idle K D g h i) (planted : List Planted) → CastActs k (Ok (Err Stopped)) (record { held = Down idle; planted = planted }) (record { held = Down idle; planted = planted })
   cast_down_at idle planted = record {

@@ -38,7 +38,7 @@ use Rattle.mc_seats.specs.Asks.{arms, arms_by}
 use Rattle.mc_seats.specs.Calling.{Batches, Blocks, Calling, IsForm, Nothing, Reach, batch_of, is_calm_reach}
 use Rattle.mc_seats.specs.Calls.{BatchBy, CallLeaves, CallMakes, FormBy, batch_by, calls_by, form_by, is_call, only_runs, runs_by}
 use Rattle.mc_seats.specs.Doing.{At, Calls, Casts, Doing, Hears, Repairs, Storms, Tends, Works, doing}
-use Rattle.mc_seats.specs.Effects.{AsksAt, CallRefusal, CallRefused, CallsAt, DoneAt, Exact, Happens, Leaves, EventsOf, RefusedAt, answer_of, asks_by, call_front, call_refused, done_by, exact_by, front_at, happens_by, refused_by, seen_by}
+use Rattle.mc_seats.specs.Effects.{AsksAt, MayRefuse, CallRefusal, CallRefused, CallsAt, DoneAt, Exact, Happens, Leaves, EventsOf, RefusedAt, answer_of, asks_by, call_front, call_refused, done_by, exact_by, front_at, happens_by, refused_by, seen_by}
 use Rattle.mc_seats.specs.Step.{FaultsOf, ShortAt, answers_fault, is_fault}
 use Rattle.mc_seats.specs.Words.{EarlyRow, KeeperGoes, PlaceRow, SeatActsIn, can_fail, place}
 use Rattle.mc_seats.specs.Worlds.{Place, WorldState, state_at}
@@ -123,7 +123,7 @@ front_of_place w command told fuse false run planted = refl
 
 -- what a call that did all leaves over every keeper
 reach_for : (reach : Reach) (call : Calling) (told told2 : Option Kept) (fuse fuse2 : Option Fuse) (run run2 : Running) (planted : List Planted) (reply : Reply)
-    → run2.walk ≡ run.walk → run2.whole ≡ run.whole → batch_of reach run.batch run2.batch → IsForm call.says reply → (told ≡ None → told2 ≡ None)
+    → run2.walk ≡ run.walk → run2.whole ≡ run.whole → batch_of reach run.batch run2.batch → IsForm call.Fits call.says reply → (told ≡ None → told2 ≡ None)
     → (is_calm_reach reach ≡ true → (told2 ≡ told) × (fuse2 ≡ fuse) × (run2.queue ≡ run.queue))
     → CallsAt reach call (placed told fuse false run planted) (placed told2 fuse2 false run2 planted) reply
 reach_for Nothing call told told2 fuse fuse2 run run2 planted reply walk whole batch form silent tells = let same = tells refl in (same_place told told2 fuse fuse2 false false run run2 planted same.0 same.1 refl (same_run run run2 same.2 walk batch whole), form)
@@ -166,13 +166,13 @@ module _ (w : WorldState) (command : Command) (named own : Type 0) (p q : Place)
   not_done reply (inr fault) = inr fault
 
   -- a call that did nothing, or not all
-  pub err_early : (error : CoreError) → is_acting command ≡ true → ByKind (q ≡ p) ⊤ ⊤ (kind_of error) → ByKind (seen_of error ≡ front_at w p command) (seen_of error ≡ front_at w p command) ⊤ (kind_of error)
+  pub err_early : (error : CoreError) → is_acting command ≡ true → MayRefuse (doing command) error → ByKind (q ≡ p) ⊤ ⊤ (kind_of error) → ByKind (seen_of error ≡ front_at w p command) (seen_of error ≡ front_at w p command) ⊤ (kind_of error)
       → ByKind ⊤ (Fell command named own p q) ⊤ (kind_of error) → (p.content ≡ None → q.content ≡ None) → q.planted ≡ p.planted → CallsHere (Err error) → IfOk (answer_of error) (EarlyRow w command named own p q)
-  err_early core.KeeperFault acts same seen fell silent planted call =
+  err_early core.KeeperFault acts alone same seen fell silent planted call =
       inr (fell.can, fell.cause, asks_from w p command acts (sym seen), refl, record { down = fell.down; silent = silent; planted_same = planted; why = fell.why; told = told_weaker (λ s new. Faults (λ events reply. EventsOf w s command events reply) own s new) (FaultsOf w command own) (faults_from w command (not_long command acts) own) (state_at p) (state_at q) call })
-  err_early core.Memory acts same seen fell silent planted call = tt
-  err_early error acts same seen fell silent planted call =
-      inl (refused_from w p command _ acts (error, seen, told_refused (λ s. CallRefusal w s command (Some error)) (state_at p) (state_at q) call, refl), same)
+  err_early core.Memory acts alone same seen fell silent planted call = tt
+  err_early error acts alone same seen fell silent planted call =
+      inl (refused_from w p command _ acts (error, seen, told_refused (λ s. CallRefusal w s command (Some error)) (state_at p) (state_at q) call, refl, alone), same)
 
   -- and one that did all
 
@@ -301,12 +301,12 @@ module _ {K D : Type 0} {g : keeper.Ghosts K D} {h : counted.Ghosts K} {i : coun
   CallsIn w command result old new = CallsHere w command (Rose (k.faults old.keeper) (k.faults new.keeper)) (Rose (k.own old.keeper) (k.own new.keeper)) (place k (up old [])) (place k (up new [])) result
 
   module _ (command : Command) (acts : is_acting command ≡ true) (error : CoreError) (old new : Replica K D g h i) (planted : List Planted) (keeps : Continues k (is_fault_kind (kind_of error)) old new) (rest : RestOf old new) where
-    pub early_seat : (can_fail command ≡ false → is_fault_kind (kind_of error) ≡ false) → ByKind (StillSame old new) ⊤ ⊤ (kind_of error) → (w : WorldState)
+    pub early_seat : MayRefuse (doing command) error → (can_fail command ≡ false → is_fault_kind (kind_of error) ≡ false) → ByKind (StillSame old new) ⊤ ⊤ (kind_of error) → (w : WorldState)
         → ByKind (seen_of error ≡ stop_front old.stopped (call_front w old.batch command)) (seen_of error ≡ stop_front old.stopped (call_front w old.batch command)) ⊤ (kind_of error)
         → CallsIn w command (Err error) old new
         → IfOk (answer_of error) (EarlyRow w command (Rose (k.faults old.keeper) (k.faults new.keeper)) (Rose (k.own old.keeper) (k.own new.keeper)) (place k (up old planted)) (place k (up new planted)))
-    early_seat may same w front call =
-        err_early w command (Rose (k.faults old.keeper) (k.faults new.keeper)) (Rose (k.own old.keeper) (k.own new.keeper)) (place k (up old planted)) (place k (up new planted)) error acts
+    early_seat alone may same w front call =
+        err_early w command (Rose (k.faults old.keeper) (k.faults new.keeper)) (Rose (k.own old.keeper) (k.own new.keeper)) (place k (up old planted)) (place k (up new planted)) error acts alone
         (same_by (kind_of error) (k.told old.keeper) (k.told new.keeper) (k.fuse old.keeper) (k.fuse new.keeper) old.stopped new.stopped (running_of old) (running_of new) planted keeps.stops rest.0 rest.1 rest.2 same)
         (front_by (kind_of error) (λ seen. seen ∙ sym (front_of_place w command (k.told old.keeper) (k.fuse old.keeper) old.stopped (running_of old) planted)) front)
         (on_fault (kind_of error) (λ failed. record {
@@ -323,13 +323,13 @@ module _ {K D : Type 0} {g : keeper.Ghosts K D} {h : counted.Ghosts K} {i : coun
     goes_seat n is = subst (λ (n : ℕ). KeeperGoes k (cond (answers_fault (answer_of error)) 1 0) n old.keeper new.keeper) is (subst (λ b. KeeperGoes k (cond b 1 0) 0 old.keeper new.keeper) (sym (fault_answered error)) (keeper_goes keeps.keeper_goes))
 
     -- a command that is not done
-    pub err_acts : (Where : WorldState → Type 0) (result : Result Reply ActError) → result ≡ answer_of error → (can_fail command ≡ false → is_fault_kind (kind_of error) ≡ false) → ByKind (StillSame old new) ⊤ ⊤ (kind_of error)
+    pub err_acts : (Where : WorldState → Type 0) (result : Result Reply ActError) → result ≡ answer_of error → MayRefuse (doing command) error → (can_fail command ≡ false → is_fault_kind (kind_of error) ≡ false) → ByKind (StillSame old new) ⊤ ⊤ (kind_of error)
         → ((w : WorldState) → Where w → ByKind (seen_of error ≡ stop_front old.stopped (call_front w old.batch command)) (seen_of error ≡ stop_front old.stopped (call_front w old.batch command)) ⊤ (kind_of error))
         → ((w : WorldState) → Where w → CallsIn w command (Err error) old new)
         → ByKind ⊤ ⊤ (Told (state_at (place k (up old []))) (state_at (place k (up new []))) (Leaves command)) (kind_of error)
         → SeatActsIn k Where command result (up old planted) (up new planted)
-    err_acts Where result is may same front call left = subst (λ (r : Result Reply ActError). SeatActsIn k Where command r (up old planted) (up new planted)) (sym is) (record {
-      row = λ w here. if_ok (answer_of error) (not_done w command (Rose (k.faults old.keeper) (k.faults new.keeper)) (Rose (k.own old.keeper) (k.own new.keeper)) (place k (up old planted)) (place k (up new planted))) (early_seat may same w (front w here) (call w here));
+    err_acts Where result is alone may same front call left = subst (λ (r : Result Reply ActError). SeatActsIn k Where command r (up old planted) (up new planted)) (sym is) (record {
+      row = λ w here. if_ok (answer_of error) (not_done w command (Rose (k.faults old.keeper) (k.faults new.keeper)) (Rose (k.own old.keeper) (k.own new.keeper)) (place k (up old planted)) (place k (up new planted))) (early_seat alone may same w (front w here) (call w here));
       short = λ e. short_seat e left;
       not_bad = never_bad error;
       goes = goes_seat (arms command) (sym (no_arms command acts));
@@ -360,11 +360,11 @@ module _ {K D : Type 0} {g : keeper.Ghosts K D} {h : counted.Ghosts K} {i : coun
   -- one call of a replica
 
   call_err_up : (command : Command) → is_call command ≡ true → (error : CoreError) (old new : Replica K D g h i) (planted : List Planted) (result : Result Reply ActError) → result ≡ answer_of error → Continues k (is_fault_kind (kind_of error)) old new
-      → (can_fail command ≡ false → is_fault_kind (kind_of error) ≡ false) → CallLeaves k command (Err error) old new
+      → (can_fail command ≡ false → is_fault_kind (kind_of error) ≡ false) → MayRefuse (doing command) error → CallLeaves k command (Err error) old new
       → ((w : WorldState) → seen_of error ≡ stop_front old.stopped (call_front w old.batch command)) → ((w : WorldState) → CallsIn w command (Err error) old new)
       → SeatActsIn k (λ w. ⊤) command result (up old planted) (up new planted)
-  call_err_up command is error old new planted result answered keeps may leaves front call =
-      err_acts command (call_acts command is) error old new planted keeps (leaves.walk_same, leaves.whole_same, leaves.batch_same) (λ w. ⊤) result answered may (refused_by (kind_of error) leaves.refused)
+  call_err_up command is error old new planted result answered keeps may alone leaves front call =
+      err_acts command (call_acts command is) error old new planted keeps (leaves.walk_same, leaves.whole_same, leaves.batch_same) (λ w. ⊤) result answered alone may (refused_by (kind_of error) leaves.refused)
       (λ w here. front_any (kind_of error) (front w)) (λ w here. call w)
       (left_of (λ s. CallRefusal no_world s command) (λ s. EventsOf no_world s command) (Leaves command) (Rose (k.own old.keeper) (k.own new.keeper)) error (state_at (place k (up old []))) (state_at (place k (up new []))) (call no_world))
     where
@@ -394,10 +394,10 @@ module _ {K D : Type 0} {g : keeper.Ghosts K D} {h : counted.Ghosts K} {i : coun
   of_seat Where command result x old new is acts = subst (λ (held : Held K D g h i). SeatActsIn k Where command result (record { held = held; planted = x.planted }) (up new x.planted)) (sym is) acts
 
   pub call_err : (command : Command) → is_call command ≡ true → (error : CoreError) (x : Seat K D g h i) (old new : Replica K D g h i) (result : Result Reply ActError) → x.held ≡ Up old → result ≡ answer_of error
-      → Continues k (is_fault_kind (kind_of error)) old new → (can_fail command ≡ false → is_fault_kind (kind_of error) ≡ false) → CallLeaves k command (Err error) old new
+      → Continues k (is_fault_kind (kind_of error)) old new → (can_fail command ≡ false → is_fault_kind (kind_of error) ≡ false) → MayRefuse (doing command) error → CallLeaves k command (Err error) old new
       → ((w : WorldState) → seen_of error ≡ stop_front old.stopped (call_front w old.batch command)) → ((w : WorldState) → CallsIn w command (Err error) old new)
       → SeatActsIn k (λ w. ⊤) command result x (up new x.planted)
-  call_err command is error x old new result held answered keeps may leaves front call = of_seat (λ w. ⊤) command result x old new held (call_err_up command is error old new x.planted result answered keeps may leaves front call)
+  call_err command is error x old new result held answered keeps may alone leaves front call = of_seat (λ w. ⊤) command result x old new held (call_err_up command is error old new x.planted result answered keeps may alone leaves front call)
 
   pub call_ok : (command : Command) → is_call command ≡ true → (reply : Reply) (x : Seat K D g h i) (old new : Replica K D g h i) → x.held ≡ Up old → Continues k false old new → is_fault reply ≡ false
       → CallLeaves k command (Ok reply) old new → CallMakes k command old new reply
@@ -412,8 +412,8 @@ stopped_due w (Del r key) kept fuse = refl
 stopped_due w command kept fuse = refl
 
 pub stopped_refused : (w : WorldState) (command : Command) (told : Option Kept) (fuse : Option Fuse) (planted : List Planted) → is_acting command ≡ true → RefusedAt w (record { content = told; fuse = fuse; run = None; planted = planted }) command (Some Stopped)
-stopped_refused w command None fuse planted acts = refused_from w (record { content = None; fuse = fuse; run = None; planted = planted }) command (Some Stopped) acts (core.Stopped, refl, tt, refl)
-stopped_refused w command (Some kept) fuse planted acts = refused_from w (record { content = Some kept; fuse = fuse; run = None; planted = planted }) command (Some Stopped) acts (core.Stopped, refl, stopped_due w command kept fuse, refl)
+stopped_refused w command None fuse planted acts = refused_from w (record { content = None; fuse = fuse; run = None; planted = planted }) command (Some Stopped) acts (core.Stopped, refl, tt, refl, λ is. refl)
+stopped_refused w command (Some kept) fuse planted acts = refused_from w (record { content = Some kept; fuse = fuse; run = None; planted = planted }) command (Some Stopped) acts (core.Stopped, refl, stopped_due w command kept fuse, refl, λ is. refl)
 
 module _ {K D : Type 0} {g : keeper.Ghosts K D} {h : counted.Ghosts K} {i : counted.Ghosts D} (k : Members K D) where
   pub down_at : (Where : WorldState → Type 0) (command : Command) → is_acting command ≡ true → (idle : Idle K D g h i) (planted : List Planted) → SeatActsIn k Where command (Ok Stopped) (down idle planted) (down idle planted)

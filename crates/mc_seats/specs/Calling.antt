@@ -1,5 +1,5 @@
 -- What one call of a replica is to a world: one record.
-use Rattle.std.specs.Prelude.{◌≡◌, ⊤, ℕ, Bool, true, false, List, Option, Some, None}
+use Rattle.std.specs.Prelude.{◌≡◌, ⊤, ℕ, Bool, true, false, List, map, Option, Some, None}
 use Rattle.mc_model.specs.Batch.{batch_put}
 use Rattle.mc_model.specs.Events.{Event}
 use Rattle.mc_model.specs.Kept.{processed}
@@ -11,6 +11,9 @@ use Rattle.mc_core.specs.Calls.{Stays}
 use Rattle.mc_core.specs.Events.{ReplicaState}
 use Rattle.mc_core.specs.Reads.{read_refusal, OnlyReads}
 use Rattle.mc_core.specs.Refusals.{Is}
+use Rattle.mc_query.specs.Answers.{AreAnswers}
+use Rattle.mc_query.specs.Places.{pair_of, start_of}
+use Rattle.mc_query.specs.declared.pair.Pair.{Pair}
 use Rattle.mc_script.specs.declared.reply.Reply.{Reply}
 use Rattle.mc_script.specs.declared.reply.Reply.TheVariants.{Done}
 
@@ -31,9 +34,14 @@ abbrev pub AddsPut : List ℕ → List ℕ → Option OpenBatch → Option OpenB
 AddsPut key bytes None new = ⊥
 AddsPut key bytes (Some batch) new = new ≡ Some (batch_put key bytes batch)
 
--- a reply of this form
-abbrev pub IsForm : {T : Type 0} → (T → Reply) → Reply → Type 0
-IsForm {T} form reply = (value : T) × (reply ≡ form value)
+-- a reply of this form, of an answer that fits
+abbrev pub IsForm : {T : Type 0} → (T → Type 0) → (T → Reply) → Reply → Type 0
+IsForm {T} Fits form reply = (value : T) × (reply ≡ form value) × Fits value
+
+-- what the rows of a query are over every keeper: at most so many, of keys that the prefix selects, ascending
+abbrev pub AreRows : List ℕ → ℕ → List (List ℕ × List ℕ) → Type 0
+AreRows prefix count rows =
+    (pairs : List Pair) × (rows ≡ map pair_of pairs) × AreAnswers (start_of prefix) true prefix count pairs
 
 -- how much of a place a call that did all may have changed: nothing; nothing but the batch; or what is kept too. The
 -- relation ties the batches before and after it.
@@ -49,8 +57,8 @@ batch_of (Blocks B) old new = B old new
 
 -- One call of a replica. `front` is the refusal that the replica decides without a look at its keeper, `Due` says which
 -- refusal is due where the content is told, `Makes` which events are made with which reply, and `Short` what a want of
--- memory leaves. Over every keeper `reach` says what may have changed, and the reply is `says` of some answer. `may`
--- says whether the keeper may fail in it.
+-- memory leaves. Over every keeper `reach` says what may have changed, and the reply is `says` of some answer of which
+-- `Fits` holds. `may` says whether the keeper may fail in it.
 pub record Calling : Type 1 where
   pub front : Option OpenBatch → Option CoreError
   pub Due : ReplicaState → Option CoreError → Type 0
@@ -58,18 +66,20 @@ pub record Calling : Type 1 where
   pub Short : ReplicaState → ReplicaState → Type 0
   pub reach : Reach
   pub Answer : Type 0
+  pub Fits : Answer → Type 0
   pub says : Answer → Reply
   pub may : Bool
 
--- one that only reads: what is found in the processed blocks, and how it is said
-abbrev pub reads : {T : Type 0} → (List Block → T) → (T → Reply) → Calling
-reads {T} find says = record {
+-- one that only reads: what is found in the processed blocks, what is so of it over every keeper, and how it is said
+abbrev pub reads : {T : Type 0} → (List Block → T) → (T → Type 0) → (T → Reply) → Calling
+reads {T} find Fits says = record {
   front = λ batch. None;
   Due = λ s. Is (read_refusal s);
   Makes = λ s. Answers (OnlyReads (λ kept found. found ≡ find (processed kept)) s) (λ found reply. reply ≡ says found);
   Short = Stays;
   reach = Nothing;
   Answer = T;
+  Fits = Fits;
   says = says;
   may = true;
 }
@@ -84,6 +94,7 @@ batches front refusal Makes Batch may = record {
   Short = Stays;
   reach = Batches Batch;
   Answer = ⊤;
+  Fits = λ done. ⊤;
   says = λ done. Done;
   may = may;
 }
@@ -99,6 +110,7 @@ writes {T} front Due Makes Short Batch says = record {
   Short = Short;
   reach = Blocks Batch;
   Answer = T;
+  Fits = λ answer. ⊤;
   says = says;
   may = true;
 }

@@ -6,7 +6,7 @@ use Rattle.mc_keep.specs.declared.keeper.Keeper as keeper
 use Rattle.mc_model.specs.State.{OpenBatch}
 use Rattle.mc_core.specs.declared.CoreError.{CoreError}
 use Rattle.mc_core.specs.declared.replica.Replica.{Replica}
-use Rattle.mc_core.specs.Exact.{IfRefused}
+use Rattle.mc_core.specs.Exact.{DecidesAlone, IfRefused}
 use Rattle.mc_core.specs.Words.{TellsSame}
 use Rattle.mc_script.specs.declared.command.Command.{Command}
 use Rattle.mc_script.specs.declared.reply.Reply.{Reply}
@@ -39,7 +39,7 @@ BatchBy command old new = batch_by (doing command) old new
 
 -- the form of its reply
 abbrev pub form_by : Doing → Reply → Type 0
-form_by (At r (Calls call)) reply = IsForm call.says reply
+form_by (At r (Calls call)) reply = IsForm call.Fits call.says reply
 form_by d reply = ⊥
 
 abbrev pub FormBy : Command → Reply → Type 0
@@ -52,6 +52,10 @@ runs_by d = true
 
 abbrev pub only_runs : Command → Bool
 only_runs command = runs_by (doing command)
+
+-- a call that makes no block is refused for none
+abbrev pub RefusesAlone : Command → Result Reply CoreError → Type 0
+RefusesAlone command result = only_runs command ≡ true → IfErr result DecidesAlone
 
 module _ {K D : Type 0} {g : keeper.Ghosts K D} {h : counted.Ghosts K} {i : counted.Ghosts D} (k : Members K D) where
   -- What is as before, over every keeper: the walk and the whole; after every error the batch; after a refusal what is

@@ -19,7 +19,7 @@ use Rattle.mc_script.specs.declared.command.Command.TheVariants.{Get, Has as Has
 use Rattle.mc_script.specs.declared.command.Command.TheVariants.{Cast, Wire, Hear, Plant, Link, Step, Work, Repair}
 use Rattle.mc_script.specs.declared.command.Command.TheVariants.{Storm, State, Same, Stop, Open, StopAt, StopAfter}
 use Rattle.mc_script.specs.declared.reply.Reply.TheVariants.{Done, Priority, Deleted, Value, Has, Rows, Heads}
-use Rattle.mc_seats.specs.Calling.{AddsPut, Answers, Calling, SameBatch, batch_priority, batches, reads, writes}
+use Rattle.mc_seats.specs.Calling.{AddsPut, Answers, AreRows, Calling, SameBatch, batch_priority, batches, reads, writes}
 use Rattle.mc_seats.specs.Tending.{Tending, counts, fuses, opens, plants, stops}
 
 -- what is done at one replica: a call of it, what the world does at its place, a message that is made or heard, a job,
@@ -62,11 +62,12 @@ doing (BatchDel r key) = At r (Calls (batches (λ batch. no_batch_refusal batch 
 doing (Commit r) = At r (Calls (writes (λ batch. no_batch_refusal batch (λ held. None)) (λ s. Is (commit_refusal s))
     (λ s. Answers (CommitEvents s) (λ written reply. reply ≡ Priority (batch_priority written)))
     Stays (λ old new. new ≡ None) (λ n. Priority n)))
-doing (Get r key) = At r (Calls (reads (λ blocks. value blocks key) (λ found. Value found)))
-doing (HasKey r key) = At r (Calls (reads (λ blocks. has_value blocks key) (λ yes. Has yes)))
+doing (Get r key) = At r (Calls (reads (λ blocks. value blocks key) (λ found. ⊤) (λ found. Value found)))
+doing (HasKey r key) = At r (Calls (reads (λ blocks. has_value blocks key) (λ yes. ⊤) (λ yes. Has yes)))
 doing (Query r prefix skip take) =
-    At r (Calls (reads (λ blocks. answers.query blocks (is_under prefix) skip take) (λ rows. Rows rows)))
-doing (HeadsOf r) = At r (Calls (reads heads (λ rows. Heads rows)))
+    At r (Calls (reads (λ blocks. answers.query blocks (is_under prefix) skip take) (AreRows prefix take)
+    (λ rows. Rows rows)))
+doing (HeadsOf r) = At r (Calls (reads heads (λ rows. ⊤) (λ rows. Heads rows)))
 doing (Cast r) = At r Casts
 doing (Wire bytes) = Sends bytes
 doing (Hear r message) = At r (Hears message)

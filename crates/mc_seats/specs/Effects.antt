@@ -1,5 +1,5 @@
 -- What a command does at one replica: when it is refused, which events it makes, and what is exact over every keeper.
-use Rattle.std.specs.Prelude.{◌≡◌, ◌≢◌, ◌⊎◌, ℕ, List, [], Option, Some, None, Result, Ok, Err, IfSome}
+use Rattle.std.specs.Prelude.{◌≡◌, ◌≢◌, ◌⊎◌, ℕ, true, List, [], Option, Some, None, Result, Ok, Err, IfSome}
 use Rattle.mc_base.specs.Told.{Told}
 use Rattle.mc_base.specs.declared.cid.Cid.{Cid}
 use Rattle.mc_key.specs.KeyRule.{fault_number}
@@ -11,7 +11,7 @@ use Rattle.mc_core.specs.declared.CoreError.{CoreError}
 use Rattle.mc_core.specs.declared.CoreError.TheVariants as core
 use Rattle.mc_core.specs.Calls.{Stays}
 use Rattle.mc_core.specs.Events.{ReplicaState, Goes}
-use Rattle.mc_core.specs.Exact.{seen_of, stop_front}
+use Rattle.mc_core.specs.Exact.{DecidesAlone, seen_of, stop_front}
 use Rattle.mc_core.specs.Hears.{HearEvents, IsQueued, cast_refusal, hear_refusal}
 use Rattle.mc_core.specs.Jobs.{NextShort}
 use Rattle.mc_core.specs.Reads.{read_refusal}
@@ -28,6 +28,7 @@ use Rattle.mc_seats.specs.declared.error.ActError.{ActError}
 use Rattle.mc_seats.specs.declared.error.ActError.TheVariants.{Memory}
 use Rattle.mc_seats.specs.Asks.{message_at}
 use Rattle.mc_seats.specs.Calling.{Batches, Blocks, Calling, Nothing, Reach}
+use Rattle.mc_seats.specs.Calls.{runs_by}
 use Rattle.mc_seats.specs.Doing.{At, Calls, Casts, Doing, Hears, Repairs, Steps, Storms, Tends, Works, doing}
 use Rattle.mc_seats.specs.Fetching.{StepEvents}
 use Rattle.mc_seats.specs.Storming.{stormed_reply}
@@ -136,9 +137,9 @@ IsIdle run reply = ⊥
 
 -- what a call that did all leaves of its place, by what may have changed
 abbrev pub CallsAt : Reach → Calling → Place → Place → Reply → Type 0
-CallsAt Nothing call p q reply = (q ≡ p) × IsForm call.says reply
-CallsAt (Batches B) call p q reply = RunsOn B p q × TellsSame p q × IsForm call.says reply
-CallsAt (Blocks B) call p q reply = RunsOn B p q × IsForm call.says reply
+CallsAt Nothing call p q reply = (q ≡ p) × IsForm call.Fits call.says reply
+CallsAt (Batches B) call p q reply = RunsOn B p q × TellsSame p q × IsForm call.Fits call.says reply
+CallsAt (Blocks B) call p q reply = RunsOn B p q × IsForm call.Fits call.says reply
 
 -- what is exact over every keeper of a command that has its events at a replica
 abbrev pub exact_by : Doing → Place → Place → Reply → Type 0
@@ -178,12 +179,16 @@ seen_by w p d = stop_front (is_down p.run) (front_by w (batch_in p.run) d)
 abbrev pub front_at : WorldState → Place → Command → Option CoreError
 front_at w p command = seen_by w p (doing command)
 
+-- over every keeper only a command that makes blocks is refused for one of them
+abbrev pub MayRefuse : Doing → CoreError → Type 0
+MayRefuse d error = runs_by d ≡ true → DecidesAlone error
+
 -- the refusal of a call, by its reply: one that needs no look at the keeper is exact over every keeper, this one or
 -- none, and any is where the content is told
 abbrev pub call_refused : WorldState → Place → Doing → Option Reply → Type 0
 call_refused w p d None = (seen_by w p d ≡ None) × IfSome (state_at p) (λ s. due_by w s d None)
 call_refused w p d (Some reply) = (error : CoreError) × (seen_of error ≡ seen_by w p d)
-    × IfSome (state_at p) (λ s. due_by w s d (Some error)) × IsReply error reply
+    × IfSome (state_at p) (λ s. due_by w s d (Some error)) × IsReply error reply × MayRefuse d error
 
 abbrev pub CallRefused : WorldState → Place → Command → Option Reply → Type 0
 CallRefused w p command due = call_refused w p (doing command) due

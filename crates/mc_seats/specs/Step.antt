@@ -2,16 +2,17 @@
 use Rattle.std.specs.Prelude.{◌≡◌, ◌≢◌, ◌⊎◌, ◌↔◌, ⊤, ℕ, ◌+◌, Bool, true, false, List, [], ◌∷◌, ◌++◌, filter, not}
 use Rattle.std.specs.Prelude.{if◌then◌else◌, length, Option, Some, None, Result, Ok, Err, IfSome, slice_get}
 use Rattle.std.specs.List.{list_any}
-use Rattle.std.specs.Option.{option_or}
+use Rattle.std.specs.Option.{option_and_then, option_or}
 use Rattle.mc_base.specs.Told.{Told}
 use Rattle.mc_base.specs.declared.cid.Cid.{Cid}
 use Rattle.mc_keep.specs.Causes.{has_fired}
 use Rattle.mc_model.specs.Graph.{has}
+use Rattle.mc_model.specs.Kept.{bytes_at}
 use Rattle.mc_model.specs.State.{Running, kept_of}
 use Rattle.mc_core.specs.Calls.{Faults}
 use Rattle.mc_core.specs.Events.{ReplicaState}
 use Rattle.mc_core.specs.Hears.{written_cast}
-use Rattle.mc_core.specs.Jobs.{tried_first}
+use Rattle.mc_core.specs.Jobs.{first_waiting, tried_first}
 use Rattle.mc_drain.specs.Repairs.{RepairLeads}
 use Rattle.mc_drain.specs.Works.{WorkLeads}
 use Rattle.mc_drain.specs.declared.working.WorkError.TheVariants as broke
@@ -177,12 +178,22 @@ peer_by w d peer = false
 abbrev pub asks_peer : WorldState → Command → ℕ → Bool
 asks_peer w command peer = peer_by w (doing command) peer
 
+-- the bytes that a replica has stored itself for the block that waits first, or none
+abbrev pub first_stored : ReplicaState → Option (List ℕ)
+first_stored s = option_and_then (bytes_at (kept_of s.state.durable).graph) (first_waiting s)
+
+-- what a command that fetches lacks: a step asks no peer for a block that the replica has stored, where that is told
+abbrev pub lacks_by : WorldState → Doing → Type 0
+lacks_by w (At r Steps) = AtPlace w r (λ p. IfSome (state_at p) (λ s. first_stored s ≡ None))
+lacks_by w d = ⊤
+
 -- A desk of a peer failed, and all but the replica that fetched is as it was. `named` says of which replicas a desk
 -- failed.
 pub record IsPeerFault (w : WorldState) (command : Command) (named : ℕ → Type 0) (reply : Reply) (w2 : WorldState)
     : Type 0 where
   pub at : ℕ
   pub among : asks_peer w command at ≡ true
+  pub lacks : lacks_by w (doing command)
   pub allowed : Refuses w command None
   pub cause : named at
   pub says : reply ≡ FaultPeer

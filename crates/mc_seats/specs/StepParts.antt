@@ -5,8 +5,6 @@ use Rattle.std.specs.List.{AllZip, list_all, sum_by}
 use Rattle.mc_base.specs.Causes.{Rose}
 use Rattle.mc_base.specs.declared.cid.Cid.{Cid}
 use Rattle.mc_base.specs.declared.counted.Counted as counted
-use Rattle.mc_core.specs.declared.CoreError.{CoreError}
-use Rattle.mc_core.specs.declared.CoreError.TheVariants as core
 use Rattle.mc_core.specs.declared.replica.Replica.{Replica}
 use Rattle.mc_fetch.specs.declared.error.FetchError.{FetchError}
 use Rattle.mc_fetch.specs.declared.error.FetchError.TheVariants.{Failed, Memory as FetchMemory}
@@ -24,7 +22,7 @@ use Rattle.mc_model.specs.State.{Running, kept_of}
 use Rattle.mc_model.specs.Wanted.{start_first}
 use Rattle.mc_script.specs.declared.command.Command.TheVariants.{Step}
 use Rattle.mc_script.specs.declared.reply.Reply.{Reply}
-use Rattle.mc_script.specs.declared.reply.Reply.TheVariants.{FaultKeeper, FaultPeer, Idle, Stopped}
+use Rattle.mc_script.specs.declared.reply.Reply.TheVariants.{FaultPeer, Idle}
 use Rattle.mc_seats.specs.declared.error.ActError.{ActError}
 use Rattle.mc_seats.specs.declared.error.ActError.TheVariants.{BadLine, Memory}
 use Rattle.mc_seats.specs.declared.links.Link.{Link}
@@ -39,12 +37,6 @@ use Rattle.mc_seats.specs.Step.{GivesBack, ShortAt, answers_fault, is_fault}
 use Rattle.mc_seats.specs.Words.{KeeperGoes, PlaceRow}
 use Rattle.mc_seats.specs.Worlds.{IfRuns, Place, WorldState, is_linked, is_marked, is_up}
 use Rattle.mc_seats.specs.Worlds.{peer_row, peers_of, picked, place_with, state_at}
-
--- what is answered for a call on a job that did not come to its end; no other cause than these and want of memory comes
-abbrev pub broke_of : CoreError → Result Reply ActError
-broke_of core.KeeperFault = Ok FaultKeeper
-broke_of core.Stopped = Ok Stopped
-broke_of error = Err Memory
 
 -- what a call answers that begins a job, or none where nothing waits
 abbrev pub begun_of : Option Job → Result Job Reply

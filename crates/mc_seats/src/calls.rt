@@ -51,7 +51,7 @@ fn numbers_of<K: Keeper>(replica: &Replica<K>) -> Reply
             missing: report.counts.missing,
             bad: report.counts.bad,
             mark: report.mark,
-            whole: replica.is_whole(),
+            whole: report.whole,
         },
         Err(_) => Reply::Stopped,
     }

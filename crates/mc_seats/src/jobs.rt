@@ -5,13 +5,14 @@ ghost use Rattle.mc_fetch.specs.declared.plants.Planted.{Planted};
 ghost use Rattle.mc_core.specs.Jobs.{found_in, is_known};
 ghost use Rattle.mc_seats.specs.Fetching.{IsStepReply};
 ghost use Rattle.mc_seats.specs.Keepers.{keeper_of};
-ghost use Rattle.mc_seats.specs.StepParts.{BacksAt, BeginsAt, DeliversAt, IsFlying, begun_of, broke_of, up};
+ghost use Rattle.mc_seats.specs.StepParts.{BacksAt, BeginsAt, DeliversAt, IsFlying, begun_of, up};
 ghost use Rattle.mc_seats.specs.Words.{place};
 
 use crate::ActError;
+use crate::replies::answer;
 use crate::seat::{Held, Seat};
 use mc_base::Cid;
-use mc_core::{CoreError, Replica};
+use mc_core::Replica;
 use mc_fetch::{Delivered, Found, Job};
 use mc_keep::Keeper;
 use mc_script::Reply;
@@ -38,7 +39,7 @@ fn begin<K: Keeper>(replica: &mut Replica<K>, alloc: Global) -> Result<Result<Jo
 {
     match replica.next_job(alloc) {
         Ok(next) => Ok(begun(next)),
-        Err(error) => match broke(error) {
+        Err(error) => match answer(error) {
             Ok(reply) => Ok(Err(reply)),
             Err(error) => Err(error),
         },
@@ -88,7 +89,7 @@ fn deliver<K: Keeper>(
 {
     match replica.deliver(alloc, Job { cid, own: None }, found) {
         Ok(delivered) => Ok(reply_to(delivered)),
-        Err(error) => broke(error),
+        Err(error) => answer(error),
     }
 }
 
@@ -125,24 +126,5 @@ fn reply_to(delivered: Delivered) -> Reply
             damage: damage as u64,
         },
         Delivered::Known => unreachable!(),
-    }
-}
-
-// What is answered for a call on a job that did not come to its end. A replica that runs refuses no such call.
-fn broke(error: CoreError) -> Result<Reply, ActError>
-    ensures { result ≡ broke_of error }
-{
-    match error {
-        CoreError::KeeperFault => Ok(Reply::FaultKeeper),
-        CoreError::Stopped => Ok(Reply::Stopped),
-        CoreError::BadKey { .. }
-        | CoreError::ValueTooLong
-        | CoreError::BlockTooLarge { .. }
-        | CoreError::PriorityFull
-        | CoreError::Clash { .. }
-        | CoreError::BadCast { .. }
-        | CoreError::NoBatch
-        | CoreError::BatchOpen
-        | CoreError::Memory => Err(ActError::Memory),
     }
 }

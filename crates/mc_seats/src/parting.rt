@@ -126,21 +126,12 @@ fn fill_desks<K: Keeper>(
     Ok(())
 }
 
-// Why a replica that was just opened made no desk.
+// Why a replica that was just opened, and so refuses none, made no desk.
 fn cause_of(error: CoreError) -> OpenCause
     ensures { is_fault_cause result ≡ is_fault_kind (kind_of error) }
 {
     match error {
         CoreError::KeeperFault => OpenCause::KeeperFault,
-        CoreError::BadKey { .. }
-        | CoreError::ValueTooLong
-        | CoreError::BlockTooLarge { .. }
-        | CoreError::PriorityFull
-        | CoreError::Clash { .. }
-        | CoreError::Stopped
-        | CoreError::BadCast { .. }
-        | CoreError::NoBatch
-        | CoreError::BatchOpen
-        | CoreError::Memory => OpenCause::Memory,
+        _ => OpenCause::Memory,
     }
 }

@@ -6,7 +6,7 @@ ghost use Rattle.mc_core.specs.Exact.{front_of, stop_front};
 ghost use Rattle.mc_core.specs.Refusals.{is_fault};
 ghost use Rattle.mc_core.specs.Words.{Acts, Continues};
 ghost use Rattle.mc_seats.specs.declared.error.ActError.{ActError};
-ghost use Rattle.mc_seats.specs.Calls.{is_call, is_read, CallLeaves, CallMakes};
+ghost use Rattle.mc_seats.specs.Calls.{is_call, is_read, CallLeaves, CallMakes, RefusesAlone};
 ghost use Rattle.mc_seats.specs.Effects.{CallRefusal, Leaves, EventsOf, answer_of, batch_priority, call_front};
 ghost use Rattle.mc_seats.specs.Step.{answers_fault};
 ghost use Rattle.mc_seats.specs.Words.{can_fail};
@@ -32,6 +32,7 @@ pub(crate) fn call<K: Keeper>(
     ensures keeps { Continues K.Keeper (is_fault result) replica.old replica.new }
     ensures front { (w : WorldState) →
         front_of result ≡ stop_front replica.old.stopped (call_front w replica.old.batch command.now) }
+    ensures alone { RefusesAlone command.now result }
     ensures value { answers_fault result ≡ false }
     ensures may { can_fail command.now ≡ false → is_fault result ≡ false }
     ensures leaves { CallLeaves K.Keeper command.now result replica.old replica.new }
@@ -75,6 +76,7 @@ fn read<K: Keeper>(
     ensures keeps { Continues K.Keeper (is_fault result) replica.old replica.new }
     ensures front { (w : WorldState) →
         front_of result ≡ stop_front replica.old.stopped (call_front w replica.old.batch command.now) }
+    ensures alone { RefusesAlone command.now result }
     ensures value { answers_fault result ≡ false }
     ensures may { can_fail command.now ≡ false → is_fault result ≡ false }
     ensures leaves { CallLeaves K.Keeper command.now result replica.old replica.new }

@@ -8,12 +8,10 @@ use Rattle.mc_model.specs.Live.{value}
 use Rattle.mc_model.specs.State.{blocks_of}
 use Rattle.mc_core.specs.Calls.{Faults, Does as Done}
 use Rattle.mc_core.specs.Events.{ReplicaState, Breaks}
+pub use Rattle.mc_core.specs.Exact.{is_block_refusal}
 use Rattle.mc_core.specs.Puts.{AddsPut, PutEvents, put_refusal}
 use Rattle.mc_core.specs.Refusals.{Is}
 use Rattle.mc_core.specs.declared.CoreError.{CoreError}
-use Rattle.mc_core.specs.declared.CoreError.TheVariants.{BadKey, ValueTooLong, BlockTooLarge, PriorityFull, Clash}
-use Rattle.mc_core.specs.declared.CoreError.TheVariants.{KeeperFault, Stopped, BadCast, NoBatch, BatchOpen}
-use Rattle.mc_core.specs.declared.CoreError.TheVariants.{Memory}
 use Rattle.mc_core.specs.declared.Written.{Written}
 use Rattle.mc_storm.specs.Interleavings.{InTurn, IsInterleaving, IsPartOfOne, StormCall, Write, gets_same, puts_made}
 use Rattle.mc_storm.specs.declared.outcome.StormError.{StormError}
@@ -26,20 +24,6 @@ storm_key writer = codes "/storm/" ++ decimal writer
 
 abbrev pub storm_value : ℕ → List ℕ
 storm_value number = to_be_bytes w32 number
-
--- whether a refusal is one of the block that a put would make: by its priority, its size or a clash
-abbrev pub is_block_refusal : CoreError → Bool
-is_block_refusal (BlockTooLarge len) = true
-is_block_refusal PriorityFull = true
-is_block_refusal (Clash cid) = true
-is_block_refusal (BadKey fault) = false
-is_block_refusal ValueTooLong = false
-is_block_refusal KeeperFault = false
-is_block_refusal Stopped = false
-is_block_refusal (BadCast fault) = false
-is_block_refusal NoBatch = false
-is_block_refusal BatchOpen = false
-is_block_refusal Memory = false
 
 -- a put makes its block, by the events of a put over the blocks before it, and nothing refuses it there
 pub record PutMakes (key bytes : List ℕ) (s new : ReplicaState) : Type 0 where

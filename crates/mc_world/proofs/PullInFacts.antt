@@ -22,7 +22,8 @@ use Rattle.mc_seats.specs.Desked.{desks_each, is_full_list}
 use Rattle.mc_seats.specs.Keepers.{desk_count, keeper_of}
 use Rattle.mc_seats.specs.Effects.{AsksAt, DoneAt, RefusedAt}
 use Rattle.mc_seats.specs.Record.{RoseAt, RoseIn}
-use Rattle.mc_seats.specs.Step.{Asks, CutShort, LeavesStep, PeerBreaks, Refuses, Row, Says, Sets, ShortIn, asks_peer}
+use Rattle.mc_seats.specs.Doing.{doing}
+use Rattle.mc_seats.specs.Step.{Asks, CutShort, LeavesStep, PeerBreaks, Refuses, Row, Says, Sets, ShortIn, asks_peer, lacks_by}
 use Rattle.mc_seats.specs.StepParts.{AllDesksGo, DesksGo, PeerFailed}
 use Rattle.mc_seats.specs.Words.{DeskRose, KeeperRose, OwnRose, place, state}
 use Rattle.mc_seats.specs.Worlds.{AtPlace, Moved, MovedAt, Place, WorldState, is_marked, peer_row}
@@ -156,11 +157,12 @@ module _ {K D : Type 0} {g : keeper.Ghosts K D} {h : counted.Ghosts K} {i : coun
       around = around;
     }))
 
-    pub row_peer : (AtPlace (W old) r (λ p. RefusedAt (W old) p command None) → Refuses (W old) command None) → ((at : ℕ) → is_marked (peer_row (W old).around.down r 0 (W old).places) at ≡ true → asks_peer (W old) command at ≡ true)
+    pub row_peer : lacks_by (W old) (doing command) → (AtPlace (W old) r (λ p. RefusedAt (W old) p command None) → Refuses (W old) command None) → ((at : ℕ) → is_marked (peer_row (W old).around.down r 0 (W old).places) at ≡ true → asks_peer (W old) command at ≡ true)
         → RefusedAt (W old) (place k x) command None → PeerFailed desk_faults (peer_row (W old).around.down r 0 (W old).places) old.desks.items new.desks.items → PeerBreaks (W old) command (place k x) (place k y) → Rows FaultPeer
-    row_peer refuses peer allowed failed breaks = inr (record {
+    row_peer lacks refuses peer allowed failed breaks = inr (record {
       at = failed.at;
       among = peer failed.at failed.among;
+      lacks = lacks;
       allowed = refuses (at_place (λ p. RefusedAt (W old) p command None) allowed);
       cause = failed.rose;
       says = refl;

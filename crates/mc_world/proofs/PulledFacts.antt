@@ -72,7 +72,7 @@ work_allowed : (w : WorldState) (p : Place) (r workers : ℕ) (budget : Option �
 work_allowed w p r workers budget up = (ap (λ b. stop_front b None) up, told_allowed p.content p.fuse p.run up)
 
 work_refused : (w : WorldState) (p : Place) (r workers : ℕ) (budget : Option ℕ) → is_down p.run ≡ true → CallRefused w p (Work r workers budget) (Some reply.Stopped)
-work_refused w p r workers budget down = (core.Stopped, sym (ap (λ b. stop_front b None) down), told_refused p.content p.fuse p.run down, refl)
+work_refused w p r workers budget down = (core.Stopped, sym (ap (λ b. stop_front b None) down), told_refused p.content p.fuse p.run down, refl, λ is. refl)
 
 module _ {K D : Type 0} {g : keeper.Ghosts K D} {h : counted.Ghosts K} {i : counted.Ghosts D} (k : Members K D) (desk_faults : D → ℕ) (r workers : ℕ) (budget : Option ℕ) (old new : World K D g h i) (list : List D) (left : List (List D))
     (list_stands : slice_get old.desks.items r ≡ Some list) (list_back : new.desks.items ≡ insert left r list) (around : (state k desk_faults new).around ≡ (state k desk_faults old).around) (entries : new.entries ≡ old.entries) where
@@ -95,7 +95,7 @@ module _ {K D : Type 0} {g : keeper.Ghosts K D} {h : counted.Ghosts K} {i : coun
   work_at (Err PeerFault) p =
       let failed : PeerFailed desk_faults (peer_row (state k desk_faults old).around.down r 0 (state k desk_faults old).places) old.desks.items new.desks.items = (subst (λ (l : List (List D)). PeerFailed desk_faults (peer_row (state k desk_faults old).around.down r 0 (state k desk_faults old).places) old.desks.items l) (sym list_back) (peer_failed k desk_faults p.quiet (peer_row (state k desk_faults old).around.down r 0 (state k desk_faults old).places) old.desks.items left r list list_stands p.of_desks (p.rose refl))) in
       record {
-        row = row_peer k desk_faults r old new p.old p.new p.stands p.after around (Work r workers budget) refl (λ h. h) (λ at h. h) (work_allowed (state k desk_faults old) (place k p.old) r workers budget p.pulls.0) failed p.pulls.1;
+        row = row_peer k desk_faults r old new p.old p.new p.stands p.after around (Work r workers budget) refl tt (λ h. h) (λ at h. h) (work_allowed (state k desk_faults old) (place k p.old) r workers budget p.pulls.0) failed p.pulls.1;
         short = λ e. is_no_error e;
         not_bad = λ e. is_no_error e;
         goes = goes_failed k desk_faults r old new p.old p.new p.stands p.after p.quiet p.still (subst (λ (l : List (List D)). AllDesksGo k desk_faults p.quiet old.desks.items l) (sym list_back) (insert_go k desk_faults p.quiet old.desks.items left r list list_stands (lists_go k desk_faults p.quiet (remove old.desks.items r) left p.of_desks))) (peer_row (state k desk_faults old).around.down r 0 (state k desk_faults old).places) failed p.of_keeper.goes;
@@ -147,7 +147,7 @@ repair_allowed : (w : WorldState) (p : Place) (r workers : ℕ) → is_down p.ru
 repair_allowed w p r workers up = (ap (λ b. stop_front b None) up, told_allowed p.content p.fuse p.run up)
 
 repair_refused : (w : WorldState) (p : Place) (r workers : ℕ) → is_down p.run ≡ true → CallRefused w p (Repair r workers) (Some reply.Stopped)
-repair_refused w p r workers down = (core.Stopped, sym (ap (λ b. stop_front b None) down), told_refused p.content p.fuse p.run down, refl)
+repair_refused w p r workers down = (core.Stopped, sym (ap (λ b. stop_front b None) down), told_refused p.content p.fuse p.run down, refl, λ is. refl)
 
 module _ {K D : Type 0} {g : keeper.Ghosts K D} {h : counted.Ghosts K} {i : counted.Ghosts D} (k : Members K D) (desk_faults : D → ℕ) (r workers : ℕ) (old new : World K D g h i) (list : List D) (left : List (List D))
     (list_stands : slice_get old.desks.items r ≡ Some list) (list_back : new.desks.items ≡ insert left r list) (around : (state k desk_faults new).around ≡ (state k desk_faults old).around) (entries : new.entries ≡ old.entries) where
@@ -170,7 +170,7 @@ module _ {K D : Type 0} {g : keeper.Ghosts K D} {h : counted.Ghosts K} {i : coun
   repair_at (Err PeerFault) p =
       let failed : PeerFailed desk_faults (peer_row (state k desk_faults old).around.down r 0 (state k desk_faults old).places) old.desks.items new.desks.items = (subst (λ (l : List (List D)). PeerFailed desk_faults (peer_row (state k desk_faults old).around.down r 0 (state k desk_faults old).places) old.desks.items l) (sym list_back) (peer_failed k desk_faults p.quiet (peer_row (state k desk_faults old).around.down r 0 (state k desk_faults old).places) old.desks.items left r list list_stands p.of_desks (p.rose refl))) in
       record {
-        row = row_peer k desk_faults r old new p.old p.new p.stands p.after around (Repair r workers) refl (λ h. h) (λ at h. h) (repair_allowed (state k desk_faults old) (place k p.old) r workers p.pulls.0) failed p.pulls.1;
+        row = row_peer k desk_faults r old new p.old p.new p.stands p.after around (Repair r workers) refl tt (λ h. h) (λ at h. h) (repair_allowed (state k desk_faults old) (place k p.old) r workers p.pulls.0) failed p.pulls.1;
         short = λ e. is_no_error e;
         not_bad = λ e. is_no_error e;
         goes = goes_failed k desk_faults r old new p.old p.new p.stands p.after p.quiet p.still (subst (λ (l : List (List D)). AllDesksGo k desk_faults p.quiet old.desks.items l) (sym list_back) (insert_go k desk_faults p.quiet old.desks.items left r list list_stands (lists_go k desk_faults p.quiet (remove old.desks.items r) left p.of_desks))) (peer_row (state k desk_faults old).around.down r 0 (state k desk_faults old).places) failed p.of_keeper.goes;

@@ -51,8 +51,8 @@ storm_allowed w r writers writes (Some kept) fuse (Some run) planted is = (refl,
 storm_refused : (w : WorldState) (r writers writes : ℕ) (content : Option Kept) (fuse : Option Fuse) (run : Option Running) (planted : List Planted) → is_down run ≡ true
     → RefusedAt w (record { content = content; fuse = fuse; run = run; planted = planted }) (Storm r writers writes) (Some Stopped)
 storm_refused w r writers writes content fuse (Some run) planted is = never (sym is)
-storm_refused w r writers writes None fuse None planted is = (core.Stopped, refl, tt, refl)
-storm_refused w r writers writes (Some kept) fuse None planted is = (core.Stopped, refl, refl, refl)
+storm_refused w r writers writes None fuse None planted is = (core.Stopped, refl, tt, refl, λ is. refl)
+storm_refused w r writers writes (Some kept) fuse None planted is = (core.Stopped, refl, refl, refl, λ is. refl)
 
 -- a flag that is not true
 not_true : (b : Bool) → (b ≡ true → ⊥) → b ≡ false

@@ -1,11 +1,13 @@
 // The calls of a node that only read its replica.
-ghost use Rattle.std.specs.Prelude.{◌≡◌, map};
+ghost use Rattle.std.specs.Prelude.{◌≡◌, true, map, IfErr, IfOk};
 ghost use Rattle.mc_turn.specs.Seats.{IsSeatOf};
 ghost use Rattle.mc_key.specs.Prefix.{is_under};
 ghost use Rattle.mc_model.specs.Answers as answers;
 ghost use Rattle.mc_model.specs.Kept.{processed};
 ghost use Rattle.mc_model.specs.Live.{value};
-ghost use Rattle.mc_query.specs.Places.{pair_of};
+ghost use Rattle.mc_query.specs.Answers.{AreAnswers};
+ghost use Rattle.mc_query.specs.Places.{pair_of, start_of};
+ghost use Rattle.mc_core.specs.Exact.{DecidesAlone};
 ghost use Rattle.mc_node.specs.Entries.{StaysOpen, items};
 ghost use Rattle.mc_node.specs.Moves.{ReadDoes};
 ghost use Rattle.mc_node.specs.Seats.{knows};
@@ -40,6 +42,7 @@ impl<K: Keeper, J: Naming> Node<Stored<K, J>> {
         ensures turned { Turned (knows seat.old) (knows seat.new) (λ old new.
             ReadDoes (λ kept found. found ≡ value (processed kept) key.now) result (items K.Keeper old)
             (items K.Keeper new)) }
+        ensures seen { IfErr result DecidesAlone }
     {
         let mut held = self.turn.take(&mut seat.seat, wait);
         let result = held.value.get(alloc, key);
@@ -48,7 +51,8 @@ impl<K: Keeper, J: Naming> Node<Stored<K, J>> {
     }
 
     /// The keys with a value that a prefix selects, ascending by their bytes, each with its value: those after the
-    /// first `skip` of them, and at most `count`. The rest is as of `get`.
+    /// first `skip` of them, and at most `count`; over every keeper they ascend, are selected and are at most so many.
+    /// The rest is as of `get`.
     pub fn query<W: Wait>(
         &self,
         alloc: Global,
@@ -65,6 +69,9 @@ impl<K: Keeper, J: Naming> Node<Stored<K, J>> {
             ReadDoes (λ kept pairs. map pair_of pairs ≡ answers.query (processed kept)
             (is_under prefix.now) skip count) result
             (items K.Keeper old) (items K.Keeper new)) }
+        ensures ascend { IfOk result (λ seen.
+            AreAnswers (start_of prefix.now) true prefix.now count seen.answer) }
+        ensures seen { IfErr result DecidesAlone }
     {
         let mut held = self.turn.take(&mut seat.seat, wait);
         let result = held.value.query(alloc, prefix, skip, count);
@@ -87,6 +94,7 @@ impl<K: Keeper, J: Naming> Node<Stored<K, J>> {
         ensures turned { IfFree result (λ answer. Turned (knows seat.old) (knows seat.new) (λ old new.
             ReadDoes (λ kept found. found ≡ value (processed kept) key.now) answer (items K.Keeper old)
             (items K.Keeper new))) }
+        ensures seen { IfFree result (λ answer. IfErr answer DecidesAlone) }
     {
         match self.turn.try_take(&mut seat.seat) {
             Ok(held) => {

@@ -1,6 +1,7 @@
 // Entries of the log: their memory is taken before anything changes.
 ghost use Rattle.std.specs.Prelude.{◌≡◌, ◌<◌, false, length, vec_len, vec_capacity, IfOk, IfErr, IfSome, OnOk};
 ghost use Rattle.mc_core.specs.Counted.{capped};
+ghost use Rattle.mc_core.specs.Exact.{DecidesAlone};
 ghost use Rattle.mc_node.specs.Entries.{AddsEntry};
 ghost use Rattle.mc_node.specs.Moves.{BeginsNot, note_of};
 
@@ -22,6 +23,7 @@ impl<K: Keeper, J: Naming> Stored<K, J> {
         ensures length { IfOk result (λ count. IfSome (K.told self.new.replica.keeper) (λ kept.
             count ≡ capped (length kept.order))) }
         ensures refused { IfErr result (λ error. BeginsNot self.old.replica.stopped error) }
+        ensures seen { IfErr result DecidesAlone }
     {
         match self.replica.report() {
             Ok(report) => match self.log.reserve(1) {

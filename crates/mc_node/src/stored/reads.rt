@@ -1,11 +1,13 @@
 // The calls of a replica that only read. A fault of the keeper alone is noted.
-ghost use Rattle.std.specs.Prelude.{◌≡◌, map};
+ghost use Rattle.std.specs.Prelude.{◌≡◌, true, map, IfErr, IfOk};
 ghost use Rattle.mc_turn.specs.Lists.{Begins};
 ghost use Rattle.mc_key.specs.Prefix.{is_under};
 ghost use Rattle.mc_model.specs.Answers as answers;
 ghost use Rattle.mc_model.specs.Kept.{processed};
 ghost use Rattle.mc_model.specs.Live.{value};
-ghost use Rattle.mc_query.specs.Places.{pair_of};
+ghost use Rattle.mc_query.specs.Answers.{AreAnswers};
+ghost use Rattle.mc_query.specs.Places.{pair_of, start_of};
+ghost use Rattle.mc_core.specs.Exact.{DecidesAlone};
 ghost use Rattle.mc_node.specs.Entries.{items};
 ghost use Rattle.mc_node.specs.Moves.{ReadDoes, seen_by};
 
@@ -26,6 +28,7 @@ impl<K: Keeper, J: Naming> Stored<K, J> {
         ensures extends { Begins self.old.log.items self.new.log.items }
         ensures does { ReadDoes (λ kept found. found ≡ value (processed kept) key.now) result
             (items K.Keeper self.old.log.items) (items K.Keeper self.new.log.items) }
+        ensures seen { IfErr result DecidesAlone }
     {
         replicas_only_grow();
         kept_is_durable();
@@ -52,6 +55,9 @@ impl<K: Keeper, J: Naming> Stored<K, J> {
         ensures does { ReadDoes (λ kept pairs.
             map pair_of pairs ≡ answers.query (processed kept) (is_under prefix.now) skip count) result
             (items K.Keeper self.old.log.items) (items K.Keeper self.new.log.items) }
+        ensures ascend { IfOk result (λ seen.
+            AreAnswers (start_of prefix.now) true prefix.now count seen.answer) }
+        ensures seen { IfErr result DecidesAlone }
     {
         replicas_only_grow();
         kept_is_durable();

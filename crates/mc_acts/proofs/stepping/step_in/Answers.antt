@@ -65,5 +65,5 @@ returns-in-Err-find g c = record {
       })
       c.in-Ok-Ok.job c.in-Ok-Ok.field-0 c.in-Ok-Ok.field-0-is c.in-Ok-Ok.ensures.begins c.in-Err-find.ensures.desks c.in-Err-find.error c.index_mut-in-Err-find.result.now _
       (there_again c.args.world.now.seats.items c.find.new.world.seats.items c.args.r c.index_mut.result.now c.begin_at.new.seat c.index_mut-in-Err-find.result.now (slice_get_read c.args.world.now.seats.items (vec_len c.args.world.now.seats) c.args.r c.index_mut.result.now (search rules) c.requires.there c.index_mut.ensures.value) (ap (λ v. v.items) c.in-Err-find.ensures.same.seats_same) c.index_mut-in-Err-find.ensures.value)
-      c.given_up.ensures c.in-Err-find.ensures.failed c.give_back_at.ensures.backs;
+      c.given_up.ensures c.in-Err-find.ensures.failed c.in-Err-find.ensures.lacks c.give_back_at.ensures.backs;
 }

@@ -8,14 +8,14 @@ returns-in-Ok g c = record {
       c.in-Ok.ensures.digest c.in-Ok.ensures.wants;
 }
 
-pub returns-in-Ok-broke : goal.returns-in-Ok-broke
-returns-in-Ok-broke g c = record {
-  begins = λ planted. begins_broke (members g.K.Keeper g.K.Counted) planted _ _ c.in-Err.error _ (sym c.in-Ok-broke.is ∙ c.broke.ensures) c.in-Err.ensures.call c.in-Err.ensures.keeps c.in-Err.ensures.front
+pub returns-in-Ok-answer : goal.returns-in-Ok-answer
+returns-in-Ok-answer g c = record {
+  begins = λ planted. begins_broke (members g.K.Keeper g.K.Counted) planted _ _ c.in-Err.error _ (sym c.in-Ok-answer.is ∙ c.answer.ensures) c.in-Err.ensures.call c.in-Err.ensures.keeps c.in-Err.ensures.seen c.in-Err.ensures.front
       c.in-Err.ensures.rest c.in-Err.ensures.tells c.in-Err.ensures.wants;
 }
 
-pub returns-in-Err-broke : goal.returns-in-Err-broke
-returns-in-Err-broke g c = record {
-  begins = λ planted. begins_broke (members g.K.Keeper g.K.Counted) planted _ _ c.in-Err.error _ (sym c.in-Err-broke.is ∙ c.broke.ensures) c.in-Err.ensures.call c.in-Err.ensures.keeps c.in-Err.ensures.front
+pub returns-in-Err-answer : goal.returns-in-Err-answer
+returns-in-Err-answer g c = record {
+  begins = λ planted. begins_broke (members g.K.Keeper g.K.Counted) planted _ _ c.in-Err.error _ (sym c.in-Err-answer.is ∙ c.answer.ensures) c.in-Err.ensures.call c.in-Err.ensures.keeps c.in-Err.ensures.seen c.in-Err.ensures.front
       c.in-Err.ensures.rest c.in-Err.ensures.tells c.in-Err.ensures.wants;
 }

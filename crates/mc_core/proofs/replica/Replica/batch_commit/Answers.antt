@@ -1,6 +1,6 @@
 use Rattle.mc_plan.specs.Batches.{commit_refusal, CommitEvents}
 use Rattle.mc_plan.specs.Refusals.{Is}
-use Rattle.std.proofs.Common.{refl, None}
+use Rattle.std.proofs.Common.{refl, sym, None}
 use Rattle.std.specs.Prelude.{⊤}
 use Rattle.mc_plan.proofs.CallFacts.{early_call, part_call}
 use Rattle.mc_plan.proofs.MadeFacts.{commit_made, nothing_made}
@@ -11,6 +11,7 @@ use Rattle.mc_plan.proofs.PutFacts.{some_plan}
 use Rattle.mc_plan.proofs.SoundFacts.{looks_down}
 use Rattle.mc_plan.specs.Batches.{delta_of_batch}
 use Rattle.mc_plan.specs.Puts.{next_links}
+use Rattle.mc_core.proofs.AnswerFacts.{none_made, one_made}
 use Rattle.mc_core.proofs.replica.Replica.batch_commit.Goals as goal
 
 pub returns-then-is_empty-clause-call : goal.returns-then-is_empty-clause-call
@@ -55,3 +56,9 @@ take_up_batch-requires-clause-uptake g c = rw (c.in-Ok.ensures.reads.told_same) 
 
 pub invariant_of-self-in-Err-clause-sound : goal.invariant_of-self-in-Err-clause-sound
 invariant_of-self-in-Err-clause-sound g c = looks_down _ _ _ _ (running_of c.args.self.now) c.if-self.false c.in-Err.ensures.reads.told_same c.args.self.now.sound
+
+pub returns-then-is_empty-clause-empty : goal.returns-then-is_empty-clause-empty
+returns-then-is_empty-clause-empty g c = none_made _ c.in-Some.batch c.in-Some.is (sym c.if-is_empty.ensures)
+
+pub returns-in-Ok-clause-empty : goal.returns-in-Ok-clause-empty
+returns-in-Ok-clause-empty g c = one_made _ c.in-Some.batch _ _ c.in-Some.is (sym c.if-is_empty.ensures) c.take_up_batch.ensures.answer

@@ -8,6 +8,7 @@ use Rattle.std.proofs.lemmas.Result.{err_from_is_err_and}
 use Rattle.mc_core.proofs.Keeps.{looks_on, still_on, stops_once}
 use Rattle.mc_plan.proofs.FaultFacts.{same_fault}
 use Rattle.mc_core.specs.Replica.{running_of}
+use Rattle.mc_core.proofs.AloneFacts.{key_alone}
 use Rattle.mc_core.proofs.replica.Replica.batch_delete.Goals as goal
 
 pub returns-in-Ok-clause-call : goal.returns-in-Ok-clause-call
@@ -44,3 +45,8 @@ returns-in-Err-clause-keeps g c =
 
 pub returns-in-Err-clause-still_open : goal.returns-in-Err-clause-still_open
 returns-in-Err-clause-still_open g c = sym (ap is_some c.in-Some.is)
+
+pub returns-in_err-key-clause-seen : goal.returns-in_err-key-clause-seen
+returns-in_err-key-clause-seen g c =
+    let p = err_from_is_err_and c.from_residual.result c.from_residual.ensures.1 in
+    rw (p.1, p.2) (key_alone c.args.key.now _ c.in_err-key.ensures.refused)

@@ -6,6 +6,7 @@ use Rattle.mc_plan.proofs.BatchFacts.{batch_call, put_into}
 use Rattle.std.proofs.lemmas.Result.{err_from_is_err_and}
 use Rattle.mc_core.proofs.Keeps.{still_on}
 use Rattle.mc_core.specs.Replica.{running_of}
+use Rattle.mc_core.proofs.AloneFacts.{key_alone, value_alone}
 use Rattle.mc_core.proofs.replica.Replica.batch_put.Goals as goal
 
 pub returns-in-Ok-clause-call : goal.returns-in-Ok-clause-call
@@ -35,3 +36,13 @@ returns-in-Ok-clause-keeps g c = still_on refl refl refl
 
 pub returns-in-Err-clause-keeps : goal.returns-in-Err-clause-keeps
 returns-in-Err-clause-keeps g c = still_on refl refl refl
+
+pub returns-in_err-name-clause-seen : goal.returns-in_err-name-clause-seen
+returns-in_err-name-clause-seen g c =
+    let p = err_from_is_err_and c.from_residual.result c.from_residual.ensures.1 in
+    rw (p.1, p.2) (key_alone c.args.key.now _ c.in_err-name.ensures.refused)
+
+pub returns-in_err-check_value-clause-seen : goal.returns-in_err-check_value-clause-seen
+returns-in_err-check_value-clause-seen g c =
+    let p = err_from_is_err_and c.from_residual-in_err-check_value.result c.from_residual-in_err-check_value.ensures.1 in
+    rw (p.1, p.2) (value_alone c.args.value.now _ c.in_err-check_value.ensures.refused)

@@ -8,6 +8,7 @@ use Rattle.mc_plan.specs.Jobs.{DeliverEvents, DeliverShort}
 use Rattle.mc_plan.specs.Reads.{read_refusal}
 use Rattle.mc_plan.specs.Refusals.{Is}
 use Rattle.mc_core.specs.Replica.{running_of}
+use Rattle.mc_core.proofs.AnswerFacts.{good_answers}
 use Rattle.mc_core.proofs.replica.Replica.deliver_block.Goals as goal
 
 pub plan_arrival-requires-clause-new : goal.plan_arrival-requires-clause-new
@@ -30,3 +31,6 @@ invariant_of-self-in-Err-Memory-clause-sound g c =
     (λ none. c.in-Err-Memory.ensures.reads.told_same ∙ none)
     (deliver_short _ _ (g.K.Keeper.fuse c.args.self.now.keeper) _ _ (running_of c.args.self.now) c.args.cid ⊤ c.requires.up c.in-Err-Memory.ensures.reads.told_same c.in-Err-Memory.ensures.reads.fuse_same c.requires.flight (Some c.args.bytes) _ c.back.ensures.queue)
     c.args.self.now.sound
+
+pub returns-in-Ok-clause-answers : goal.returns-in-Ok-clause-answers
+returns-in-Ok-clause-answers g c = good_answers c.args.cid c.args.bytes c.args.block _ _ c.requires.good.0 c.take_up_arrival.ensures.answer

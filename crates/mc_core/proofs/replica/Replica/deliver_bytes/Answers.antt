@@ -9,6 +9,7 @@ use Rattle.mc_plan.specs.Jobs.{DeliverEvents, DeliverShort}
 use Rattle.mc_plan.specs.Reads.{read_refusal}
 use Rattle.mc_plan.specs.Refusals.{Is}
 use Rattle.mc_core.specs.Replica.{running_of}
+use Rattle.mc_core.proofs.AnswerFacts.{bad_answers}
 use Rattle.mc_core.proofs.replica.Replica.deliver_bytes.Goals as goal
 
 pub returns-in-Err-Damaged-clause-keeps : goal.returns-in-Err-Damaged-clause-keeps
@@ -34,3 +35,7 @@ pub invariant_of-self-in-Err-Memory-clause-sound : goal.invariant_of-self-in-Err
 invariant_of-self-in-Err-Memory-clause-sound g c =
     call_sound (λ s. Is (read_refusal s)) (λ s. DeliverEvents s c.args.cid (Some c.args.bytes)) (λ s. DeliverShort s c.args.cid) ⊤ (Err Memory) (deliver_short_sound c.args.cid) _ _ (g.K.Keeper.fuse c.args.self.now.keeper) _ _ _ (running_of c.args.self.now) _ (λ none. none)
     (deliver_short _ _ (g.K.Keeper.fuse c.args.self.now.keeper) _ _ (running_of c.args.self.now) c.args.cid ⊤ c.requires.up refl refl c.requires.flight (Some c.args.bytes) _ c.back.ensures.queue) c.args.self.now.sound
+
+pub returns-in-Err-Damaged-clause-answers : goal.returns-in-Err-Damaged-clause-answers
+returns-in-Err-Damaged-clause-answers g c =
+    bad_answers c.args.cid c.args.bytes _ _ (rw (c.in-Err-Damaged.field-0-is, c.as_slice.ensures) at c.in-Err-Damaged.ensures.damaged) (search (c.in-Err-Damaged.damage-is, c.number-damage.ensures))

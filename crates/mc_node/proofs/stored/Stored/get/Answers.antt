@@ -7,7 +7,8 @@ use Rattle.mc_model.specs.Live.{value}
 use Rattle.mc_node.specs.Moves.{NoMore, SeenOver}
 use Rattle.mc_node.specs.Entries.{items_at}
 use Rattle.mc_node.proofs.CallFacts.{does_not_begin}
-use Rattle.mc_node.proofs.ReplicaFacts.{adds_begins, read_ends}
+use Rattle.mc_core.specs.Exact.{DecidesAlone}
+use Rattle.mc_node.proofs.ReplicaFacts.{adds_begins, read_ends, seen_err}
 use Rattle.mc_node.proofs.stored.Stored.get.Goals as goal
 
 pub returns-in-Err-clause-does : goal.returns-in-Err-clause-does
@@ -33,3 +34,6 @@ returns-clause-does g c = (read_ends g.K.Keeper.told g.K.Keeper.fuse g.K.Keeper.
     _ c.begin.new.self.replica c.get-result.new.self c.args.self.now.log.items c.begin.new.self.log.items c.note.new.log.items c.noted-entry.result c.get-result.result c.seen.result c.seen.ensures
     c.begin.new.self.tied c.in-Ok.ensures.log c.in-Ok.ensures.runs c.is_sound.ensures.kept c.in-Ok.ensures.length c.get-result.ensures.call
     c.get-result.ensures.keeps c.get-result.ensures.rest c.get-result.ensures.front c.noted-entry.ensures c.note.ensures c.get-result.ensures.same).1
+
+pub returns-clause-seen : goal.returns-clause-seen
+returns-clause-seen g c = rw c.seen.ensures (seen_err _ c.get-result.result DecidesAlone c.get-result.ensures.seen)

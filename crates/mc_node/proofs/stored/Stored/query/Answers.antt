@@ -1,4 +1,4 @@
-use Rattle.std.proofs.Common.{◌≡◌, ap, refl, None}
+use Rattle.std.proofs.Common.{◌≡◌, ap, refl, true, List, None}
 use Rattle.mc_core.specs.Calls.{Stays}
 use Rattle.mc_core.specs.Reads.{OnlyReads, read_refusal}
 use Rattle.mc_core.specs.Refusals.{Is}
@@ -6,11 +6,14 @@ use Rattle.mc_model.specs.Kept.{processed}
 use Rattle.std.proofs.Common.{map}
 use Rattle.mc_key.specs.Prefix.{is_under}
 use Rattle.mc_model.specs.Answers as answers
-use Rattle.mc_query.specs.Places.{pair_of}
+use Rattle.mc_query.specs.Answers.{AreAnswers}
+use Rattle.mc_query.specs.Places.{pair_of, start_of}
+use Rattle.mc_query.specs.declared.pair.Pair.{Pair}
 use Rattle.mc_node.specs.Moves.{NoMore, SeenOver}
 use Rattle.mc_node.specs.Entries.{items_at}
 use Rattle.mc_node.proofs.CallFacts.{does_not_begin}
-use Rattle.mc_node.proofs.ReplicaFacts.{adds_begins, read_ends}
+use Rattle.mc_core.specs.Exact.{DecidesAlone}
+use Rattle.mc_node.proofs.ReplicaFacts.{adds_begins, read_ends, seen_err, seen_ok}
 use Rattle.mc_node.proofs.stored.Stored.query.Goals as goal
 
 pub returns-in-Err-clause-does : goal.returns-in-Err-clause-does
@@ -36,3 +39,9 @@ returns-clause-does g c = (read_ends g.K.Keeper.told g.K.Keeper.fuse g.K.Keeper.
     _ c.begin.new.self.replica c.query-result.new.self c.args.self.now.log.items c.begin.new.self.log.items c.note.new.log.items c.noted-entry.result c.query-result.result c.seen.result c.seen.ensures
     c.begin.new.self.tied c.in-Ok.ensures.log c.in-Ok.ensures.runs c.is_sound.ensures.kept c.in-Ok.ensures.length c.query-result.ensures.call
     c.query-result.ensures.keeps c.query-result.ensures.rest c.query-result.ensures.front c.noted-entry.ensures c.note.ensures c.query-result.ensures.same).1
+
+pub returns-clause-seen : goal.returns-clause-seen
+returns-clause-seen g c = rw c.seen.ensures (seen_err _ c.query-result.result DecidesAlone c.query-result.ensures.seen)
+
+pub returns-clause-ascend : goal.returns-clause-ascend
+returns-clause-ascend g c = rw c.seen.ensures (seen_ok _ c.query-result.result (λ (pairs : List Pair). AreAnswers (start_of c.args.prefix.now) true c.args.prefix.now c.args.count pairs) c.query-result.ensures.ascend)
