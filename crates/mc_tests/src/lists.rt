@@ -21,7 +21,9 @@ fn calls_leave_four_lists(rt: HostRuntime) -> Result<(), Fail> {
     let third = lists.add(0, 3);
     assert!(rt; lists.first(0) == Some(first) && lists.len(0) == 3 && lists.spare() == 0);
     lists.shift(second, 1);
-    assert!(rt; lists.first(1) == Some(second) && *lists.item(second) == 2 && lists.list(second) == 1);
+    assert!(rt;
+        lists.first(1) == Some(second) && *lists.item(second) == 2 && lists.list(second) == 1
+    );
     assert!(rt; lists.take(third) == 3 && lists.len(0) == 1 && lists.spare() == 1);
     let fourth = lists.add(3, 4);
     assert!(rt; lists.first(3) == Some(fourth) && lists.first(2) == None);
