@@ -86,7 +86,7 @@ module _ (w : WorldState) (command : Command) (calm : Bool) (named own desk : �
     entry = record { keepers = []; desks = peer.at ∷ []; own = [] };
     step = record {
       there = there;
-      row = inr (record { at = peer.at; among = peer.among; allowed = peer.allowed; cause = named_first peer.at []; says = peer.says; moved = peer.moved; around = peer.around });
+      row = inr (record { at = peer.at; among = peer.among; lacks = peer.lacks; allowed = peer.allowed; cause = named_first peer.at []; says = peer.says; moved = peer.moved; around = peer.around });
     };
     owns = none_named own;
     desked = λ r. one_named desk peer.at r peer.cause;
