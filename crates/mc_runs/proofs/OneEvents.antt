@@ -26,12 +26,12 @@ use Rattle.mc_core.specs.Jobs.{IsDelivered, first_waiting}
 use Rattle.mc_core.specs.declared.Heard.{Heard}
 use Rattle.mc_core.specs.declared.Written.{Written}
 use Rattle.mc_script.specs.declared.command.Command.{Command}
-use Rattle.mc_script.specs.declared.command.Command.TheVariants.{Put, Del, Begin, BatchPut, BatchDel, Commit, Get, Has as HasKey, Query, Heads as HeadsOf, Hear, Step as StepOf}
+use Rattle.mc_script.specs.declared.command.Command.TheVariants.{Put, Del, Begin, BatchPut, BatchDel, Commit, Hear, Step as StepOf}
 use Rattle.mc_script.specs.declared.reply.Reply.{Reply}
-use Rattle.mc_script.specs.declared.reply.Reply.TheVariants.{Bad, Priority, Value, Has, Rows, Heads, Queued, Idle}
+use Rattle.mc_script.specs.declared.reply.Reply.TheVariants.{Bad, Priority, Queued, Idle}
 use Rattle.mc_seats.specs.declared.error.ActError.{ActError}
 use Rattle.mc_seats.specs.Asks.{message_at}
-use Rattle.mc_seats.specs.Calling.{batch_priority}
+use Rattle.mc_seats.specs.Calling.{Finds, Makes, Outcome, batch_priority, outcome_of}
 use Rattle.mc_seats.specs.Doing.{At, Calls, Doing, Hears, Steps, doing}
 use Rattle.mc_seats.specs.Effects.{events_by, happens_by}
 use Rattle.mc_seats.specs.Fetching.{IsFound, IsStepReply, StepEvents, StepsWith, found_among, offers_of}
@@ -258,6 +258,26 @@ made_by (At r (Hears message)) = true
 made_by (At r Steps) = true
 made_by d = false
 
+abbrev is_found : Outcome → Bool
+is_found (Finds find says) = true
+is_found (Makes M) = false
+
+abbrev found_by : Doing → Bool
+found_by (At r (Calls call)) = is_found call.outcome
+found_by d = false
+
+outcome_one : (outcome : Outcome) (s : ReplicaState) (events events2 : List Event) (reply reply2 : Reply) → is_found outcome ≡ true
+    → outcome_of outcome s events reply → outcome_of outcome s events2 reply2 → (events ≡ events2) × (reply ≡ reply2)
+outcome_one (Finds find says) s events events2 reply reply2 found h h2 = (h.1.0 ∙ sym h2.1.0, h.2 ∙ ap says (h.1.1 ∙ sym h2.1.1) ∙ sym h2.2)
+outcome_one (Makes M) s events events2 reply reply2 found h h2 = absurd (true≢false (sym found))
+
+-- a command that only reads, of those that make events
+found_one : (w : WorldState) (s : ReplicaState) (d : Doing) → made_by d ≡ true → found_by d ≡ made_by d → Made w s d
+found_one w s (At r (Calls call)) made found = λ events events2 reply reply2 h h2. outcome_one call.outcome s events events2 reply reply2 found h h2
+found_one w s (At r (Hears message)) made found = absurd (true≢false (sym found))
+found_one w s (At r Steps) made found = absurd (true≢false (sym found))
+found_one w s d made found = absurd (true≢false (sym made))
+
 pub made_one : (w : WorldState) (s : ReplicaState) (command : Command) → AreOpen w → has_one_outcome command ≡ true → made_by (doing command) ≡ true → Made w s (doing command)
 made_one w s (Put r key bytes) all one made = λ events events2 reply reply2 h h2. (h.1.0 ∙ sym h2.1.0, h.2 ∙ ap (λ (x : Written). Priority x.priority) (h.1.1 ∙ sym h2.1.1) ∙ sym h2.2)
 made_one w s (Begin r) all one made = λ events events2 reply reply2 h h2. (h.1 ∙ sym h2.1, h.2 ∙ sym h2.2)
@@ -267,12 +287,8 @@ made_one w s (Commit r) all one made = λ events events2 reply reply2 h h2.
     let both = of_run s.state.run (λ batch. BatchBecomes (kept_of s.state.durable) batch (is_empty_batch batch) events h.0) (λ batch. BatchBecomes (kept_of s.state.durable) batch (is_empty_batch batch) events2 h2.0) ((events ≡ events2) × (h.0 ≡ h2.0))
     (λ b p q. becomes_one (kept_of s.state.durable) b (is_empty_batch b) events events2 h.0 h2.0 p q) h.1 h2.1 in
     (both.0, h.2 ∙ ap (λ (x : Option Written). Priority (batch_priority x)) both.1 ∙ sym h2.2)
-made_one w s (Get r key) all one made = λ events events2 reply reply2 h h2. (h.1.0 ∙ sym h2.1.0, h.2 ∙ ap Value (h.1.1 ∙ sym h2.1.1) ∙ sym h2.2)
-made_one w s (HasKey r key) all one made = λ events events2 reply reply2 h h2. (h.1.0 ∙ sym h2.1.0, h.2 ∙ ap Has (h.1.1 ∙ sym h2.1.1) ∙ sym h2.2)
-made_one w s (Query r prefix skip take) all one made = λ events events2 reply reply2 h h2. (h.1.0 ∙ sym h2.1.0, h.2 ∙ ap Rows (h.1.1 ∙ sym h2.1.1) ∙ sym h2.2)
-made_one w s (HeadsOf r) all one made = λ events events2 reply reply2 h h2. (h.1.0 ∙ sym h2.1.0, h.2 ∙ ap Heads (h.1.1 ∙ sym h2.1.1) ∙ sym h2.2)
 made_one w s (Hear r message) all one made = λ events events2 reply reply2 h h2.
     let both = heard_one s (message_at w.around.bag message) events events2 h.0 h2.0 h.1 h2.1 in (both.0, h.2 ∙ ap Queued both.1 ∙ sym h2.2)
 made_one w s (StepOf r) all one made = λ events events2 reply reply2 h h2. step_made (peers_of w r) s events events2 reply reply2 (all_picked (peer_row w.around.down r 0 w.places) w.places all) h h2
 made_one w s (Del r key) all one made = absurd (true≢false (sym one))
-made_one w s command all one made = absurd (true≢false (sym made))
+made_one w s command all one made = found_one w s (doing command) made refl

@@ -55,14 +55,24 @@ batch_of Nothing old new = SameBatch old new
 batch_of (Batches B) old new = B old new
 batch_of (Blocks B) old new = B old new
 
+-- which events a call has, with which reply: a read makes none, and says what it finds in the processed blocks
+pub data Outcome : Type 1 where
+  Finds : {T : Type 0} → (List Block → T) → (T → Reply) → Outcome
+  Makes : (ReplicaState → List Event → Reply → Type 0) → Outcome
+
+abbrev pub outcome_of : Outcome → ReplicaState → List Event → Reply → Type 0
+outcome_of (Finds find says) s =
+    Answers (OnlyReads (λ kept found. found ≡ find (processed kept)) s) (λ found reply. reply ≡ says found)
+outcome_of (Makes M) s = M s
+
 -- One call of a replica. `front` is the refusal that the replica decides without a look at its keeper, `Due` says which
--- refusal is due where the content is told, `Makes` which events are made with which reply, and `Short` what a want of
+-- refusal is due where the content is told, `outcome` which events it has with which reply, and `Short` what a want of
 -- memory leaves. Over every keeper `reach` says what may have changed, and the reply is `says` of some answer of which
 -- `Fits` holds. `may` says whether the keeper may fail in it.
 pub record Calling : Type 1 where
   pub front : Option OpenBatch → Option CoreError
   pub Due : ReplicaState → Option CoreError → Type 0
-  pub Makes : ReplicaState → List Event → Reply → Type 0
+  pub outcome : Outcome
   pub Short : ReplicaState → ReplicaState → Type 0
   pub reach : Reach
   pub Answer : Type 0
@@ -75,7 +85,7 @@ abbrev pub reads : {T : Type 0} → (List Block → T) → (T → Type 0) → (T
 reads {T} find Fits says = record {
   front = λ batch. None;
   Due = λ s. Is (read_refusal s);
-  Makes = λ s. Answers (OnlyReads (λ kept found. found ≡ find (processed kept)) s) (λ found reply. reply ≡ says found);
+  outcome = Finds find says;
   Short = Stays;
   reach = Nothing;
   Answer = T;
@@ -87,10 +97,10 @@ reads {T} find Fits says = record {
 -- one of the batch, which makes this of it and is answered by `ok`
 abbrev pub batches : (Option OpenBatch → Option CoreError) → (ReplicaState → Option CoreError)
     → (ReplicaState → List Event → Reply → Type 0) → (Option OpenBatch → Option OpenBatch → Type 0) → Bool → Calling
-batches front refusal Makes Batch may = record {
+batches front refusal M Batch may = record {
   front = front;
   Due = λ s. Is (refusal s);
-  Makes = Makes;
+  outcome = Makes M;
   Short = Stays;
   reach = Batches Batch;
   Answer = ⊤;
@@ -103,10 +113,10 @@ batches front refusal Makes Batch may = record {
 abbrev pub writes : {T : Type 0} → (Option OpenBatch → Option CoreError) → (ReplicaState → Option CoreError → Type 0)
     → (ReplicaState → List Event → Reply → Type 0) → (ReplicaState → ReplicaState → Type 0)
     → (Option OpenBatch → Option OpenBatch → Type 0) → (T → Reply) → Calling
-writes {T} front Due Makes Short Batch says = record {
+writes {T} front Due M Short Batch says = record {
   front = front;
   Due = Due;
-  Makes = Makes;
+  outcome = Makes M;
   Short = Short;
   reach = Blocks Batch;
   Answer = T;

@@ -27,7 +27,7 @@ use Rattle.mc_script.specs.declared.reply.Reply.TheVariants.{RefusedClash, Refus
 use Rattle.mc_seats.specs.declared.error.ActError.{ActError}
 use Rattle.mc_seats.specs.declared.error.ActError.TheVariants.{Memory}
 use Rattle.mc_seats.specs.Asks.{message_at}
-use Rattle.mc_seats.specs.Calling.{Batches, Blocks, Calling, Nothing, Reach}
+use Rattle.mc_seats.specs.Calling.{Batches, Blocks, Calling, Nothing, Reach, outcome_of}
 use Rattle.mc_seats.specs.Calls.{runs_by}
 use Rattle.mc_seats.specs.Doing.{At, Calls, Casts, Doing, Hears, Repairs, Steps, Storms, Tends, Works, doing}
 use Rattle.mc_seats.specs.Fetching.{StepEvents}
@@ -87,7 +87,7 @@ Leaves command s left = leaves_by (doing command) s left
 
 -- the events of a command that is not refused, and its reply
 abbrev pub events_by : WorldState → ReplicaState → Doing → List Event → Reply → Type 0
-events_by w s (At r (Calls call)) = call.Makes s
+events_by w s (At r (Calls call)) = outcome_of call.outcome s
 events_by w s (At r (Hears message)) =
     Answers (HearEvents s (message_at w.around.bag message)) (λ heard reply. reply ≡ Queued heard.queued)
 events_by w s (At r Steps) = StepEvents (peers_of w r) s
