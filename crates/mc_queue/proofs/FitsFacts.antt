@@ -14,7 +14,7 @@ use Rattle.mc_list.specs.Entries.{Entry as Placed, entry, those_at, others as ot
 use Rattle.mc_list.specs.Views.{entries, all_entries, IsUsed, KeepsPlaces, KeepsOthers}
 use Rattle.mc_list.specs.declared.lists.Lists.{Lists}
 use Rattle.mc_list.specs.declared.lists.Place.{Place}
-use Rattle.mc_list.proofs.RingFacts.{eqb-self}
+use Rattle.mc_list.proofs.RingFacts.{eqb-self, eqb-symm}
 use Rattle.mc_queue.specs.declared.part.Part.{Part}
 use Rattle.mc_queue.specs.declared.part.Part.TheVariants.{Waiting, Flight, Missing, Bad}
 use Rattle.mc_queue.specs.declared.part.Entry.{Entry}
@@ -73,8 +73,11 @@ module _ (at : Cid → Option Place) (lists : Lists Entry) (fits : Fits lists at
       by None is = omega (arith, times_none c (wanted (shown_in lists)) (none_wanted c is))
       by (Some p) is = omega (arith, few p, times_cids at c p is (λ d h. fits.apart c d p is h) (all_entries lists) all, ap (times c) (wanted_are lists))
 
-  pub is_in_part : (c : Cid) (p : Place) → at c ≡ Some p → (part : Part) → has_place p (entries_of lists part) ≡ has c (cids_of part (shown_in lists))
-  is_in_part c p is part = has_cids at c p is (λ d h. fits.apart c d p is h) (entries_of lists part) (fits.found (list_of part)) ∙ sym (ap (has c) (cids_are lists part))
+  -- the list of what stands at the place tells the part of the block
+  pub is_listed : (c : Cid) (p : Place) → at c ≡ Some p → (list : ℕ) → ((other : ℕ) → has_place p (entries lists other) ≡ eqb other list)
+      → (part : Part) (n : ℕ) → n ≡ list_of part → eqb list n ≡ has c (cids_of part (shown_in lists))
+  is_listed c p is list only part n number = ap (eqb list) number ∙ eqb-symm list (list_of part) ∙ sym (only (list_of part))
+      ∙ has_cids at c p is (λ d h. fits.apart c d p is h) (entries_of lists part) (fits.found (list_of part)) ∙ sym (ap (has c) (cids_are lists part))
 
   -- the first block of a part, and its place
   pub record StandsFirst (part : Part) (p : Place) : Type 0 where

@@ -1,8 +1,8 @@
 -- The moves as functions of the four lists.
-use Rattle.std.proofs.Common.{◌≡◌, ℕ, suc, ◌+◌, ◌≤◌, ◌<◌, Bool, true, false, not, cond, List, [], ◌∷◌, ◌++◌, ◌||◌, Option, Some, None, sym, refl, ap, ◌∙◌, subst, arith, length}
+use Rattle.std.proofs.Common.{◌≡◌, ℕ, suc, ◌+◌, ◌≤◌, ◌<◌, inl, inr, Bool, true, false, not, cond, List, [], ◌∷◌, ◌++◌, ◌||◌, Option, Some, None, sym, refl, ap, ◌∙◌, subst, arith, length}
 use Rattle.std.specs.Prelude.{is_some}
 use Rattle.std.proofs.lemmas.List.{append_assoc, append-nil}
-use Rattle.std.proofs.lemmas.Bool.{or_left, or_right}
+use Rattle.std.proofs.lemmas.Bool.{or_left, or_cases}
 use Rattle.mc_base.specs.declared.cid.Cid.{Cid}
 use Rattle.mc_model.specs.Front.{same_cid}
 use Rattle.mc_model.specs.Graph.{times, has}
@@ -110,27 +110,30 @@ pub next_is : (q now : Queue) (c : Cid) → first_of q.waiting ≡ Some c → ti
 next_is q now c f once e = e ∙ start_is q c once f
 
 -- a block leaves flight, where it is in it
-module _ (q now : Queue) (c : Cid) (once : times c (wanted q) ≤ 1) (within : has c q.flight ≡ true) where
-  waits : others q.waiting c ≡ q.waiting
-  waits = stays q c once Flight within Waiting refl
 
-  misses : others q.missing c ≡ q.missing
-  misses = stays q c once Flight within Missing refl
+where_it_is : (b : Bool) (now target q : Queue) → (b ≡ true → now ≡ target) → cond b now q ≡ cond b target q
+where_it_is true now target q same = same refl
+where_it_is false now target q same = refl
 
-  is_bad : bad_others q.bad c ≡ q.bad
-  is_bad = bad_stays q c once Flight within refl
+module _ (q : Queue) (c : Cid) (once : has c q.flight ≡ true → times c (wanted q) ≤ 1) where
+  waits : has c q.flight ≡ true → others q.waiting c ≡ q.waiting
+  waits within = stays q c (once within) Flight within Waiting refl
 
-  where_it_is : (target : Queue) → now ≡ target → now ≡ cond (has c q.flight) target q
-  where_it_is target e = e ∙ ap (λ b. cond b target q) (sym within)
+  misses : has c q.flight ≡ true → others q.missing c ≡ q.missing
+  misses within = stays q c (once within) Flight within Missing refl
 
-  pub back_is : now ≡ moved (Some Waiting) q c 0 → now ≡ cond (has c q.flight) (give_back q c) q
-  back_is e = where_it_is (give_back q c) (e ∙ (λ i. record { waiting = waits i ++ c ∷ []; flight = others q.flight c; missing = misses i; bad = is_bad i }))
+  is_bad : has c q.flight ≡ true → bad_others q.bad c ≡ q.bad
+  is_bad within = bad_stays q c (once within) Flight within refl
 
-  pub missing_is : now ≡ moved (Some Missing) q c 0 → now ≡ cond (has c q.flight) (to_missing q c) q
-  missing_is e = where_it_is (to_missing q c) (e ∙ (λ i. record { waiting = waits i; flight = others q.flight c; missing = misses i ++ c ∷ []; bad = is_bad i }))
+  pub back_is : cond (has c q.flight) (moved (Some Waiting) q c 0) q ≡ cond (has c q.flight) (give_back q c) q
+  back_is = where_it_is (has c q.flight) (moved (Some Waiting) q c 0) (give_back q c) q (λ within i. record { waiting = waits within i ++ c ∷ []; flight = others q.flight c; missing = misses within i; bad = is_bad within i })
 
-  pub bad_is : (damage : ℕ) → now ≡ moved (Some Bad) q c damage → now ≡ cond (has c q.flight) (to_bad q c damage) q
-  bad_is damage e = where_it_is (to_bad q c damage) (e ∙ (λ i. record { waiting = waits i; flight = others q.flight c; missing = misses i; bad = is_bad i ++ (c, damage) ∷ [] }))
+  pub missing_is : cond (has c q.flight) (moved (Some Missing) q c 0) q ≡ cond (has c q.flight) (to_missing q c) q
+  missing_is = where_it_is (has c q.flight) (moved (Some Missing) q c 0) (to_missing q c) q (λ within i. record { waiting = waits within i; flight = others q.flight c; missing = misses within i ++ c ∷ []; bad = is_bad within i })
+
+  pub bad_is : (damage : ℕ) → has c q.flight ≡ true → moved (Some Bad) q c damage ≡ cond (has c q.flight) (to_bad q c damage) q
+  bad_is damage within = ap (λ b. cond b (moved (Some Bad) q c damage) q) (sym within)
+      ∙ where_it_is (has c q.flight) (moved (Some Bad) q c damage) (to_bad q c damage) q (λ within i. record { waiting = waits within i; flight = others q.flight c; missing = misses within i; bad = is_bad within i ++ (c, damage) ∷ [] })
 
 -- a block that is in no part leaves none
 pub absent_is : (q : Queue) (c : Cid) → has c (wanted q) ≡ false → q ≡ moved None q c 0
@@ -147,45 +150,39 @@ absent_is q c out = λ i. record { waiting = list q.waiting (omega (arith, none,
 
 -- a block is named
 
-or_four : (a b m d : Bool) → (a || (b || (m || d))) ≡ true → m ≡ false → d ≡ false → (a || b) ≡ true
-or_four true b m d e f g = refl
-or_four false true m d e f g = refl
-or_four false false m d e f g = sym (ap (λ t. t || d) f ∙ g) ∙ e
-
 has_parts : (q : Queue) (c : Cid) → has c (wanted q) ≡ (has c q.waiting || (has c q.flight || (has c q.missing || has c (bad_cids q.bad))))
 has_parts q c =
     has-append c q.waiting (q.flight ++ (q.missing ++ bad_cids q.bad)) ∙ ap (λ b. has c q.waiting || b) (has-append c q.flight (q.missing ++ bad_cids q.bad) ∙ ap (λ b. has c q.flight || b) (has-append c q.missing (bad_cids q.bad)))
 
--- what is wanted already
-pub want_not : (q : Queue) (c : Cid) → has c (wanted q) ≡ true → q ≡ want [] q c
-want_not q c there = ap (λ (b : Bool). cond b q (to_waiting q c)) (sym there)
+-- what is missing or bad is heard of
+module _ (q : Queue) (c : Cid) (once : times c (wanted q) ≤ 1) (stuck : (has c q.missing || has c (bad_cids q.bad)) ≡ true) where
+  out_of : (from : Part) → has c (cids_of from q) ≡ true → same_part from Waiting ≡ false → same_part from Flight ≡ false
+      → (others q.waiting c ≡ q.waiting) × (others q.flight c ≡ q.flight) × (true ≡ not (has c q.waiting || has c q.flight))
+  out_of from within waiting flight = (stays q c once from within Waiting waiting, stays q c once from within Flight flight, came_stuck q c once from within waiting flight)
 
-hears : (q : Queue) (c : Cid) → (has c q.missing || has c (bad_cids q.bad)) ≡ true → to_waiting (out_of_stuck q c) c ≡ hear [] q c
-hears q c e = ap (λ (b : Bool). cond b (to_waiting (out_of_stuck q c) c) (want [] q c)) (sym e)
+  stuck_out : (others q.waiting c ≡ q.waiting) × (others q.flight c ≡ q.flight) × (true ≡ not (has c q.waiting || has c q.flight))
+  stuck_out = elim (or_cases (has c q.missing) (has c (bad_cids q.bad)) stuck) [ inl h ↦ out_of Missing h refl refl | inr h ↦ out_of Bad h refl refl ]
 
-pub hear_missing : (q : Queue) (c : Cid) → times c (wanted q) ≤ 1 → has c q.missing ≡ true → moved (Some Waiting) q c 0 ≡ hear [] q c
-hear_missing q c once within =
-    let waiting = stays q c once Missing within Waiting refl in
-    let flight = stays q c once Missing within Flight refl in
-    let now : moved (Some Waiting) q c 0 ≡ to_waiting (out_of_stuck q c) c = λ i. record { waiting = waiting i ++ c ∷ []; flight = flight i; missing = others q.missing c; bad = bad_others q.bad c } in
-    now ∙ hears q c (or_left (has c q.missing) (has c (bad_cids q.bad)) within)
+  pub hear_stuck : moved (Some Waiting) q c 0 ≡ hear [] q c
+  hear_stuck =
+      let now : moved (Some Waiting) q c 0 ≡ to_waiting (out_of_stuck q c) c = λ i. record { waiting = stuck_out.0 i ++ c ∷ []; flight = stuck_out.1 i; missing = others q.missing c; bad = bad_others q.bad c } in
+      now ∙ ap (λ (b : Bool). cond b (to_waiting (out_of_stuck q c) c) (want [] q c)) (sym stuck)
 
-pub hear_bad : (q : Queue) (c : Cid) → times c (wanted q) ≤ 1 → has c (bad_cids q.bad) ≡ true → moved (Some Waiting) q c 0 ≡ hear [] q c
-hear_bad q c once within =
-    let waiting = stays q c once Bad within Waiting refl in
-    let flight = stays q c once Bad within Flight refl in
-    let now : moved (Some Waiting) q c 0 ≡ to_waiting (out_of_stuck q c) c = λ i. record { waiting = waiting i ++ c ∷ []; flight = flight i; missing = others q.missing c; bad = bad_others q.bad c } in
-    now ∙ hears q c (or_right (has c q.missing) (has c (bad_cids q.bad)) within)
+  pub came_out : true ≡ not (has c q.waiting || has c q.flight)
+  came_out = stuck_out.2
 
 -- what waits or is in flight is heard of in vain
-pub hear_not : (q : Queue) (c : Cid) → has c (wanted q) ≡ true → has c q.missing ≡ false → has c (bad_cids q.bad) ≡ false → q ≡ hear [] q c
-hear_not q c there missing bad =
-    want_not q c there
-    ∙ sym (ap (λ (b : Bool). cond (b || has c (bad_cids q.bad)) (to_waiting (out_of_stuck q c) c) (want [] q c)) missing
-    ∙ ap (λ (b : Bool). cond b (to_waiting (out_of_stuck q c) c) (want [] q c)) bad)
+module _ (q : Queue) (c : Cid) (there : has c (wanted q) ≡ true) (free : (has c q.missing || has c (bad_cids q.bad)) ≡ false) where
+  pub hear_not : q ≡ hear [] q c
+  hear_not = ap (λ (b : Bool). cond b q (to_waiting q c)) (sym there) ∙ ap (λ (b : Bool). cond b (to_waiting (out_of_stuck q c) c) (want [] q c)) (sym free)
 
-pub came_not : (q : Queue) (c : Cid) → has c (wanted q) ≡ true → has c q.missing ≡ false → has c (bad_cids q.bad) ≡ false → false ≡ not (has c q.waiting || has c q.flight)
-came_not q c there missing bad = sym (ap not (or_four (has c q.waiting) (has c q.flight) (has c q.missing) (has c (bad_cids q.bad)) (sym (has_parts q c) ∙ there) missing bad))
+  pub came_not : false ≡ not (has c q.waiting || has c q.flight)
+  came_not = sym (ap not (first_two (has c q.waiting) (has c q.flight) (has c q.missing || has c (bad_cids q.bad)) (sym (has_parts q c) ∙ there) free))
+    where
+      first_two : (a b rest : Bool) → (a || (b || rest)) ≡ true → rest ≡ false → (a || b) ≡ true
+      first_two true b rest e f = refl
+      first_two false true rest e f = refl
+      first_two false false rest e f = sym f ∙ e
 
 -- a part is emptied into waiting
 

@@ -1,14 +1,15 @@
 // The moves of the wanted set, each as one function of its four lists.
 ghost use Rattle.std.specs.Prelude.{◌≡◌, ◌≤◌, ◌<◌, ◌+◌, ◌-◌, [], true, false, Some, None, IfSome, not, ◌||◌, length};
-ghost use Rattle.std.specs.Prelude.{is_some, OnOk};
+ghost use Rattle.std.specs.Prelude.{is_some, OnOk, cond};
 ghost use Rattle.indexmap.specs.IndexMap.{get, spare as spare_places};
 ghost use Rattle.mc_base.specs.declared.cid.Cid.{Cid};
 ghost use Rattle.mc_model.specs.Front.{same_cid};
 ghost use Rattle.mc_model.specs.Graph.{has, times};
-ghost use Rattle.mc_model.specs.Wanted.{wanted, hear, to_waiting};
+ghost use Rattle.mc_model.specs.Wanted.{bad_cids, wanted, hear, to_waiting};
+ghost use Rattle.mc_list.specs.Entries.{first_place};
 ghost use Rattle.mc_list.specs.Views.{IsUsed, spare as spare_entries};
 ghost use Rattle.mc_queue.specs.Parts.{same_part, first_of};
-ghost use Rattle.mc_queue.specs.Fits.{moved};
+ghost use Rattle.mc_queue.specs.Fits.{entries_of, moved};
 ghost use Rattle.mc_queue.specs.Shown.{cids_of, drained};
 ghost use Rattle.mc_queue.specs.declared.part.Part.TheVariants.{Waiting, Bad};
 
@@ -48,20 +49,28 @@ impl Queue {
         ensures { (cid : Cid) → get same_cid self.now.places cid ≡ Some place
             → result ≡ has cid (cids_of part (shown self.now)) }
     {
-        part.list() == self.lists.list(place)
+        self.lists.list(place) == part.list()
     }
 
-    /// Where a block in flight stands.
-    pub(crate) fn flying(&self, cid: &Cid) -> Option<Place>
+    /// Where a block of a part stands.
+    pub(crate) fn standing(&self, cid: &Cid, part: Part) -> Option<Place>
         ensures place { IfSome result (λ place. get same_cid self.now.places cid.now ≡ Some place) }
         ensures used { IfSome result (λ place. IsUsed self.now.lists place) }
-        ensures flight { is_some result ≡ has cid.now (shown self.now).flight }
+        ensures within { is_some result ≡ has cid.now (cids_of part (shown self.now)) }
     {
         let place = self.place_of(cid)?;
-        if self.is_within(place, Part::Flight) {
+        if self.is_within(place, part) {
             return Some(place);
         }
         None
+    }
+
+    /// Where the first block of a part stands.
+    pub(crate) fn front(&self, part: Part) -> Option<Place>
+        ensures first { result ≡ first_place (entries_of self.now.lists part) }
+        ensures used { IfSome result (λ place. IsUsed self.now.lists place) }
+    {
+        self.lists.first(part.list())
     }
 
     /// What stands at the place comes to the back of a part.
@@ -75,6 +84,19 @@ impl Queue {
     {
         self.lists.no_place_stands_twice();
         self.lists.shift(place, to.list());
+    }
+
+    /// A block comes from this part to the back of another, where it is in it.
+    pub(crate) fn shift_from(&mut self, cid: &Cid, from: Part, to: Part)
+        requires apart { same_part to Bad ≡ false }
+        ensures queue { shown self.new ≡ cond (has cid.now (cids_of from (shown self.old)))
+            (moved (Some to) (shown self.old) cid.now 0) (shown self.old) }
+        ensures once { has cid.now (cids_of from (shown self.old)) ≡ true → times cid.now (wanted (shown self.old)) ≤ 1 }
+        ensures room { self.new.room ≡ self.old.room }
+    {
+        if let Some(place) = self.standing(cid, from) {
+            self.shift(place, to);
+        }
     }
 
     /// A block that is not wanted comes to the back of waiting. It takes no memory.
@@ -117,6 +139,15 @@ impl Queue {
         }
     }
 
+    // Whether what stands at the place is missing or bad.
+    fn is_stuck(&self, place: Place) -> bool
+        requires used { IsUsed self.now.lists place }
+        ensures { (cid : Cid) → get same_cid self.now.places cid ≡ Some place
+            → result ≡ (has cid (shown self.now).missing || has cid (bad_cids (shown self.now).bad)) }
+    {
+        self.is_within(place, Part::Missing) || self.is_within(place, Part::Bad)
+    }
+
     /// What stands at the place comes to waiting out of missing or bad. False where it is in neither.
     pub(crate) fn hear_again(&mut self, place: Place) -> bool
         requires used { IsUsed self.old.lists place }
@@ -126,11 +157,7 @@ impl Queue {
             → result ≡ not (has cid (shown self.old).waiting || has cid (shown self.old).flight) }
         ensures room { self.new.room ≡ self.old.room }
     {
-        if self.is_within(place, Part::Missing) {
-            self.shift(place, Part::Waiting);
-            return true;
-        }
-        if self.is_within(place, Part::Bad) {
+        if self.is_stuck(place) {
             self.shift(place, Part::Waiting);
             return true;
         }
@@ -146,7 +173,7 @@ impl Queue {
         ensures end { result ≡ false → cids_of from (shown self.new) ≡ [] }
         ensures room { self.new.room ≡ self.old.room }
     {
-        let Some(place) = self.lists.first(from.list()) else {
+        let Some(place) = self.front(from) else {
             return false;
         };
         self.shift(place, Part::Waiting);

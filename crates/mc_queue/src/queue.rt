@@ -97,7 +97,7 @@ impl Queue {
         ensures queue { shown self.new ≡ start_first (shown self.old) (shown self.old).waiting }
         ensures spare { spare self.old ≤ spare self.new }
     {
-        let place = self.lists.first(Part::Waiting.list())?;
+        let place = self.front(Part::Waiting)?;
         let cid = self.lists.item(place).cid;
         self.shift(place, Part::Flight);
         Some(cid)
@@ -118,9 +118,7 @@ impl Queue {
             (to_missing (shown self.old) cid.now) (shown self.old) }
         ensures spare { spare self.old ≤ spare self.new }
     {
-        if let Some(place) = self.flying(cid) {
-            self.shift(place, Part::Missing);
-        }
+        self.shift_from(cid, Part::Flight, Part::Missing);
     }
 
     /// The first offer for a block in flight was damaged: it comes to the back of bad, with the number of the damage.
@@ -130,7 +128,7 @@ impl Queue {
             (to_bad (shown self.old) cid.now damage) (shown self.old) }
         ensures spare { spare self.old ≤ spare self.new }
     {
-        if let Some(place) = self.flying(cid) {
+        if let Some(place) = self.standing(cid, Part::Flight) {
             self.spoil(cid, place, damage);
         }
     }
@@ -142,9 +140,7 @@ impl Queue {
             (give_back (shown self.old) cid.now) (shown self.old) }
         ensures spare { spare self.old ≤ spare self.new }
     {
-        if let Some(place) = self.flying(cid) {
-            self.shift(place, Part::Waiting);
-        }
+        self.shift_from(cid, Part::Flight, Part::Waiting);
     }
 
     /// What is missing, and then what is bad, comes to the back of waiting.
@@ -168,7 +164,7 @@ impl Queue {
     pub fn in_flight(&self, cid: &Cid) -> bool
         ensures { result ≡ has cid.now (shown self.now).flight }
     {
-        self.flying(cid).is_some()
+        self.standing(cid, Part::Flight).is_some()
     }
 
     /// How many blocks are in each part.

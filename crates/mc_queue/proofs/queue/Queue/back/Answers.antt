@@ -1,8 +1,7 @@
-use Rattle.std.proofs.Common.{◌∙◌, ap, sym}
-use Rattle.std.specs.Prelude.{is_some}
+use Rattle.std.proofs.Common.{◌∙◌}
 use Rattle.mc_queue.specs.Views.{shown}
 use Rattle.mc_queue.proofs.MoveFacts.{back_is}
 use Rattle.mc_queue.proofs.queue.Queue.back.Goals as goal
 
-pub returns-in-Some-clause-queue : goal.returns-in-Some-clause-queue
-returns-in-Some-clause-queue c = back_is (shown c.args.self.now) (shown c.shift.new.self) c.args.cid.now (c.shift.ensures.once c.args.cid.now) (sym c.flying.ensures.flight ∙ ap is_some c.in-Some.is) (c.shift.ensures.queue c.args.cid.now c.in-Some.ensures.place)
+pub returns-clause-queue : goal.returns-clause-queue
+returns-clause-queue c = c.shift_from.ensures.queue ∙ back_is (shown c.args.self.now) c.args.cid.now c.shift_from.ensures.once
