@@ -6,7 +6,7 @@ ghost use Rattle.mc_model.specs.Draining.{all_given_back};
 ghost use Rattle.mc_model.specs.Events.{GiveBack, Requeue};
 ghost use Rattle.mc_model.specs.Graph.{has};
 ghost use Rattle.mc_model.specs.Wanted.{give_back, requeue, recall};
-ghost use Rattle.mc_queue.specs.Tickets.{first_of};
+ghost use Rattle.mc_queue.specs.Parts.{first_of};
 ghost use Rattle.mc_queue.specs.Views.{shown};
 ghost use Rattle.mc_core.specs.Exact.{DecidesAlone, RestSame, front_of, stop_front};
 ghost use Rattle.mc_plan.specs.Jobs.{NextEvents, NextShort, NextWants};

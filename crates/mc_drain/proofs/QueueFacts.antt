@@ -9,7 +9,7 @@ use Rattle.mc_fetch.specs.declared.job.Job.{Job}
 use Rattle.mc_model.specs.Graph.{has}
 use Rattle.mc_model.specs.Wanted.{Queue, others, start_first, to_waiting, want, wanted, without}
 use Rattle.mc_model.proofs.Counts.{cid_itself}
-use Rattle.mc_queue.specs.Tickets.{first_of}
+use Rattle.mc_queue.specs.Parts.{first_of}
 use Rattle.mc_core.specs.Jobs.{WantsAfter, is_known}
 use Rattle.mc_core.specs.Uptakes.{wants}
 use Rattle.mc_drain.specs.Words.{Begins}

@@ -15,7 +15,7 @@ use Rattle.mc_model.specs.Graph.{has}
 use Rattle.mc_model.specs.State.{Durable}
 use Rattle.mc_model.specs.Wanted.{Queue, start_first}
 use Rattle.mc_model.proofs.Counts.{cid_is, has-append}
-use Rattle.mc_queue.specs.Tickets.{first_of}
+use Rattle.mc_queue.specs.Parts.{first_of}
 use Rattle.mc_worker.specs.Lookups.{LooksUp}
 use Rattle.mc_core.specs.Events.{ReplicaState}
 use Rattle.mc_core.specs.Jobs.{found_in}

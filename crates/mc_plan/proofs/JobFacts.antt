@@ -22,7 +22,7 @@ use Rattle.mc_model.specs.Wanted.{Queue, IsOnce, start_first, give_back, to_miss
 use Rattle.mc_model.proofs.Counts.{cid_is, cid_itself, has-append}
 use Rattle.mc_model.proofs.Found.{good_digest}
 use Rattle.mc_keep.specs.declared.fuse.Fuse.{Fuse}
-use Rattle.mc_queue.specs.Tickets.{first_of}
+use Rattle.mc_queue.specs.Parts.{first_of}
 use Rattle.mc_fetch.specs.Offers.{HasDigest}
 use Rattle.mc_fetch.specs.declared.job.Job.{Job}
 use Rattle.mc_plan.specs.declared.error.CoreError.{CoreError}

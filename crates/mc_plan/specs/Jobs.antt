@@ -16,7 +16,7 @@ use Rattle.mc_fetch.specs.declared.job.Found.{Found}
 use Rattle.mc_fetch.specs.declared.job.Found.TheVariants.{Bytes, Missing as NotFound}
 use Rattle.mc_fetch.specs.declared.job.Delivered.{Delivered}
 use Rattle.mc_fetch.specs.declared.job.Delivered.TheVariants.{Processed, Missing, Bad, Known}
-use Rattle.mc_queue.specs.Tickets.{first_of}
+use Rattle.mc_queue.specs.Parts.{first_of}
 use Rattle.mc_plan.specs.declared.deliveries.Taken.{Taken}
 use Rattle.mc_plan.specs.declared.error.CoreError.{CoreError}
 use Rattle.mc_plan.specs.declared.uptakes.Uptake.{Uptake}

@@ -1,4 +1,3 @@
-pub mod LiveFacts
-pub mod StoreFacts
+pub mod EntryFacts
+pub mod FitsFacts
 pub mod MoveFacts
-pub mod ReserveFacts

@@ -1,4 +1,4 @@
-pub mod Tickets
+pub mod Parts
 pub mod Fits
 pub mod Shown
 pub mod Views

@@ -3,8 +3,8 @@ use Rattle.std.specs.Prelude.{Bool, not, ◌||◌, List, [], ◌++◌, if◌then
 use Rattle.mc_base.specs.declared.cid.Cid.{Cid}
 use Rattle.mc_model.specs.Graph.{has}
 use Rattle.mc_model.specs.Wanted.{Queue, bad_cids, wanted, hear, want}
-use Rattle.mc_queue.specs.declared.ticket.Part.{Part}
-use Rattle.mc_queue.specs.declared.ticket.Part.TheVariants.{Waiting, Flight, Missing, Bad}
+use Rattle.mc_queue.specs.declared.part.Part.{Part}
+use Rattle.mc_queue.specs.declared.part.Part.TheVariants.{Waiting, Flight, Missing, Bad}
 
 -- the blocks of a part
 abbrev pub cids_of : Part → Queue → List Cid

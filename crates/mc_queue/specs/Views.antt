@@ -6,8 +6,8 @@ use Rattle.mc_queue.specs.Fits.{shown_in}
 
 -- the wanted set
 abbrev pub shown : Parts → Queue
-shown queue = shown_in queue.store
+shown queue = shown_in queue.lists
 
 -- how many blocks may come without memory
 abbrev pub spare : Parts → ℕ
-spare queue = queue.store.room
+spare queue = queue.room

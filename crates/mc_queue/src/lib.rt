@@ -2,12 +2,9 @@
 //! docs/GLOSSARY.md explains the words of its contracts.
 #![tactic(auto)]
 
-mod marks;
 mod moves;
+mod part;
+mod places;
 mod queue;
-mod reserve;
-mod ring;
-mod store;
-mod ticket;
 
 pub use queue::{Counts, Queue};

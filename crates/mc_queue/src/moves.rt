@@ -1,137 +1,191 @@
 // The moves of the wanted set, each as one function of its four lists.
-ghost use Rattle.std.specs.Prelude.{◌≡◌, ◌≤◌, ◌<◌, ◌+◌, ◌-◌, [], true, false, Some, None, IfSome, IfNone, not, ◌||◌};
-ghost use Rattle.std.specs.Prelude.{cond, length, is_some};
-ghost use Rattle.indexmap.specs.IndexMap.{get};
+ghost use Rattle.std.specs.Prelude.{◌≡◌, ◌≤◌, ◌<◌, ◌+◌, ◌-◌, [], true, false, Some, None, IfSome, not, ◌||◌, length};
+ghost use Rattle.std.specs.Prelude.{is_some, OnOk, cond};
+ghost use Rattle.indexmap.specs.IndexMap.{get, spare as spare_places};
+ghost use Rattle.mc_base.specs.declared.cid.Cid.{Cid};
 ghost use Rattle.mc_model.specs.Front.{same_cid};
-ghost use Rattle.mc_model.specs.Graph.{has};
-ghost use Rattle.mc_model.specs.Wanted.{wanted, hear, want};
-ghost use Rattle.mc_queue.specs.Tickets.{same_part, is_in, first_of};
-ghost use Rattle.mc_queue.specs.Fits.{Fits, shown_in, moved};
+ghost use Rattle.mc_model.specs.Graph.{has, times};
+ghost use Rattle.mc_model.specs.Wanted.{bad_cids, wanted, hear, to_waiting};
+ghost use Rattle.mc_list.specs.Entries.{first_place};
+ghost use Rattle.mc_list.specs.Views.{IsUsed, spare as spare_entries};
+ghost use Rattle.mc_queue.specs.Parts.{same_part, first_of};
+ghost use Rattle.mc_queue.specs.Fits.{entries_of, moved};
 ghost use Rattle.mc_queue.specs.Shown.{cids_of, drained};
-ghost use Rattle.mc_queue.specs.declared.ticket.Part.TheVariants.{Waiting};
+ghost use Rattle.mc_queue.specs.declared.part.Part.TheVariants.{Waiting, Bad};
 
-use crate::marks::mark_of;
-use crate::store::{Store, enter, first_in, is_within, pass_first, place};
-use crate::ticket::Part;
+use crate::part::{Entry, Part};
+use crate::places;
+use crate::queue::Queue;
 use mc_base::Cid;
+use mc_list::Place;
+use std::alloc::AllocError;
 
-// A block comes from the part that it is in to another.
-fn move_from(store: &mut Store, cid: Cid, from: Part, to: Part, damage: u8)
-    requires fits { Fits store.old }
-    requires within { is_in from (get same_cid store.old.marks cid) ≡ true }
-    requires apart { same_part from to ≡ false }
-    ensures fits { Fits store.new }
-    ensures there { is_in to (get same_cid store.new.marks cid) ≡ true }
-    ensures shown { shown_in store.new ≡ moved (Some to) (shown_in store.old) cid damage }
-    ensures room { store.new.room ≡ store.old.room }
-{
-    let _from = from;
-    place(store, cid, to, damage);
-}
+impl Queue {
+    ghost use Rattle.mc_queue.specs.Views.{shown};
 
-/// A block comes from this part to another, where it is in it.
-pub(crate) fn shift(store: &mut Store, cid: Cid, from: Part, to: Part, damage: u8)
-    requires fits { Fits store.old }
-    requires apart { same_part from to ≡ false }
-    ensures fits { Fits store.new }
-    ensures shown { shown_in store.new ≡ cond (is_in from (get same_cid store.old.marks cid))
-        (moved (Some to) (shown_in store.old) cid damage) (shown_in store.old) }
-    ensures room { store.new.room ≡ store.old.room }
-{
-    if !is_within(store, from, &cid) {
-        return;
+    /// Room for so many more entries, and for their places.
+    pub(crate) fn reserve_both(&mut self, blocks: u64) -> Result<(), AllocError>
+        ensures entries { OnOk result (blocks ≤ spare_entries self.new.lists) }
+        ensures places { OnOk result (blocks ≤ spare_places self.new.places) }
+        ensures queue { shown self.new ≡ shown self.old }
+        ensures room { self.new.room ≡ self.old.room }
+    {
+        places::reserve(&mut self.places, blocks as usize)?;
+        self.lists.reserve(blocks)
     }
-    move_from(store, cid, from, to, damage);
-}
 
-/// The first block of a part comes to another.
-pub(crate) fn move_first(store: &mut Store, from: Part, to: Part) -> Option<Cid>
-    requires fits { Fits store.old }
-    requires apart { same_part from to ≡ false }
-    ensures fits { Fits store.new }
-    ensures first { result ≡ first_of (cids_of from (shown_in store.old)) }
-    ensures some { IfSome result (λ cid. shown_in store.new ≡ moved (Some to) (shown_in store.old) cid 0) }
-    ensures none { IfNone result (shown_in store.new ≡ shown_in store.old) }
-    ensures within { IfSome result (λ cid. is_in from (get same_cid store.old.marks cid) ≡ true) }
-    ensures room { store.new.room ≡ store.old.room }
-{
-    match first_in(store, from) {
-        Some(cid) => {
-            move_from(store, cid, from, to, 0);
-            pass_first(store, from, &cid);
-            Some(cid)
+    /// Where a wanted block stands.
+    pub(crate) fn place_of(&self, cid: &Cid) -> Option<Place>
+        ensures place { result ≡ get same_cid self.now.places cid.now }
+        ensures used { IfSome result (λ place. IsUsed self.now.lists place) }
+        ensures wanted { is_some result ≡ has cid.now (wanted (shown self.now)) }
+    {
+        places::find(&self.places, cid)
+    }
+
+    // Whether what stands at the place is in the part.
+    fn is_within(&self, place: Place, part: Part) -> bool
+        requires used { IsUsed self.now.lists place }
+        ensures { (cid : Cid) → get same_cid self.now.places cid ≡ Some place
+            → result ≡ has cid (cids_of part (shown self.now)) }
+    {
+        self.lists.list(place) == part.list()
+    }
+
+    /// Where a block of a part stands.
+    pub(crate) fn standing(&self, cid: &Cid, part: Part) -> Option<Place>
+        ensures place { IfSome result (λ place. get same_cid self.now.places cid.now ≡ Some place) }
+        ensures used { IfSome result (λ place. IsUsed self.now.lists place) }
+        ensures within { is_some result ≡ has cid.now (cids_of part (shown self.now)) }
+    {
+        let place = self.place_of(cid)?;
+        if self.is_within(place, part) {
+            return Some(place);
         }
-        None => None,
+        None
     }
-}
 
-// The first block of a part comes to waiting. False where there is none.
-fn drain_one(store: &mut Store, from: Part) -> bool
-    requires fits { Fits store.old }
-    requires apart { same_part from Waiting ≡ false }
-    ensures fits { Fits store.new }
-    ensures shown { drained from (shown_in store.new) ≡ drained from (shown_in store.old) }
-    ensures more { result ≡ true →
-        length (cids_of from (shown_in store.new)) < length (cids_of from (shown_in store.old)) }
-    ensures end { result ≡ false → cids_of from (shown_in store.new) ≡ [] }
-    ensures room { store.new.room ≡ store.old.room }
-{
-    match move_first(store, from, Part::Waiting) {
-        Some(_) => true,
-        None => false,
+    /// Where the first block of a part stands.
+    pub(crate) fn front(&self, part: Part) -> Option<Place>
+        ensures first { result ≡ first_place (entries_of self.now.lists part) }
+        ensures used { IfSome result (λ place. IsUsed self.now.lists place) }
+    {
+        self.lists.first(part.list())
     }
-}
 
-/// All of a part comes to the back of waiting, in its order.
-pub(crate) fn move_all(store: &mut Store, from: Part)
-    requires fits { Fits store.old }
-    requires apart { same_part from Waiting ≡ false }
-    ensures fits { Fits store.new }
-    ensures shown { shown_in store.new ≡ drained from (shown_in store.old) }
-    ensures room { store.new.room ≡ store.old.room }
-{
-    while drain_one(store, from) {}
-}
-
-// Whether the block is in a part.
-fn is_wanted(store: &Store, cid: &Cid) -> bool
-    ensures { result ≡ is_some (get same_cid store.now.marks cid.now) }
-{
-    mark_of(&store.marks, cid).is_some()
-}
-
-/// A block comes to waiting, unless it is wanted.
-pub(crate) fn want_new(store: &mut Store, cid: Cid) -> bool
-    requires fits { Fits store.old }
-    requires room { 0 < store.old.room }
-    ensures fits { Fits store.new }
-    ensures shown { shown_in store.new ≡ want [] (shown_in store.old) cid }
-    ensures came { result ≡ not (has cid (wanted (shown_in store.old))) }
-    ensures room { store.new.room + cond result 1 0 ≡ store.old.room }
-{
-    if is_wanted(store, &cid) {
-        return false;
+    /// What stands at the place comes to the back of a part.
+    pub(crate) fn shift(&mut self, place: Place, to: Part)
+        requires used { IsUsed self.old.lists place }
+        requires apart { same_part to Bad ≡ false }
+        ensures queue { (cid : Cid) → get same_cid self.old.places cid ≡ Some place
+            → shown self.new ≡ moved (Some to) (shown self.old) cid 0 }
+        ensures once { (cid : Cid) → times cid (wanted (shown self.old)) ≤ 1 }
+        ensures room { self.new.room ≡ self.old.room }
+    {
+        self.lists.no_place_stands_twice();
+        self.lists.shift(place, to.list());
     }
-    enter(store, cid);
-    true
-}
 
-/// A block comes to waiting, also out of missing or bad.
-pub(crate) fn hear_again(store: &mut Store, cid: Cid) -> bool
-    requires fits { Fits store.old }
-    requires room { 0 < store.old.room }
-    ensures fits { Fits store.new }
-    ensures shown { shown_in store.new ≡ hear [] (shown_in store.old) cid }
-    ensures came { result ≡ not (has cid (shown_in store.old).waiting || has cid (shown_in store.old).flight) }
-    ensures room { store.old.room ≤ store.new.room + cond result 1 0 }
-{
-    if is_within(store, Part::Missing, &cid) {
-        move_from(store, cid, Part::Missing, Part::Waiting, 0);
-        return true;
+    /// A block comes from this part to the back of another, where it is in it.
+    pub(crate) fn shift_from(&mut self, cid: &Cid, from: Part, to: Part)
+        requires apart { same_part to Bad ≡ false }
+        ensures queue { shown self.new ≡ cond (has cid.now (cids_of from (shown self.old)))
+            (moved (Some to) (shown self.old) cid.now 0) (shown self.old) }
+        ensures once { has cid.now (cids_of from (shown self.old)) ≡ true → times cid.now (wanted (shown self.old)) ≤ 1 }
+        ensures room { self.new.room ≡ self.old.room }
+    {
+        if let Some(place) = self.standing(cid, from) {
+            self.shift(place, to);
+        }
     }
-    if is_within(store, Part::Bad, &cid) {
-        move_from(store, cid, Part::Bad, Part::Waiting, 0);
-        return true;
+
+    /// A block that is not wanted comes to the back of waiting. It takes no memory.
+    pub(crate) fn enter(&mut self, cid: Cid)
+        requires absent { get same_cid self.old.places cid ≡ None }
+        requires room { 0 < self.old.room }
+        ensures queue { shown self.new ≡ to_waiting (shown self.old) cid }
+        ensures room { self.new.room ≡ self.old.room - 1 }
+    {
+        let place = self
+            .lists
+            .add(Part::Waiting.list(), Entry { cid, damage: 0 });
+        places::add(&mut self.places, cid, place);
+        self.room -= 1;
     }
-    want_new(store, cid)
+
+    /// What stands at the place of a block comes to the back of bad, with the number of the damage. It takes no memory.
+    pub(crate) fn spoil(&mut self, cid: &Cid, place: Place, damage: u8)
+        requires place { get same_cid self.old.places cid.now ≡ Some place }
+        requires used { IsUsed self.old.lists place }
+        ensures queue { shown self.new ≡ moved (Some Bad) (shown self.old) cid.now damage }
+        ensures once { times cid.now (wanted (shown self.old)) ≤ 1 }
+        ensures room { self.new.room ≡ self.old.room }
+    {
+        self.lists.no_place_stands_twice();
+        let _entry = self.lists.take(place);
+        let place = self
+            .lists
+            .add(Part::Bad.list(), Entry { cid: *cid, damage });
+        places::set(&mut self.places, cid, place);
+    }
+
+    /// A block leaves its part.
+    pub(crate) fn forget(&mut self, cid: &Cid)
+        ensures queue { shown self.new ≡ moved None (shown self.old) cid.now 0 }
+        ensures room { self.new.room ≡ self.old.room }
+    {
+        if let Some(place) = places::remove(&mut self.places, cid) {
+            let _entry = self.lists.take(place);
+        }
+    }
+
+    // Whether what stands at the place is missing or bad.
+    fn is_stuck(&self, place: Place) -> bool
+        requires used { IsUsed self.now.lists place }
+        ensures { (cid : Cid) → get same_cid self.now.places cid ≡ Some place
+            → result ≡ (has cid (shown self.now).missing || has cid (bad_cids (shown self.now).bad)) }
+    {
+        self.is_within(place, Part::Missing) || self.is_within(place, Part::Bad)
+    }
+
+    /// What stands at the place comes to waiting out of missing or bad. False where it is in neither.
+    pub(crate) fn hear_again(&mut self, place: Place) -> bool
+        requires used { IsUsed self.old.lists place }
+        ensures queue { (cid : Cid) → get same_cid self.old.places cid ≡ Some place
+            → shown self.new ≡ hear [] (shown self.old) cid }
+        ensures came { (cid : Cid) → get same_cid self.old.places cid ≡ Some place
+            → result ≡ not (has cid (shown self.old).waiting || has cid (shown self.old).flight) }
+        ensures room { self.new.room ≡ self.old.room }
+    {
+        if self.is_stuck(place) {
+            self.shift(place, Part::Waiting);
+            return true;
+        }
+        false
+    }
+
+    // The first block of a part comes to waiting. False where there is none.
+    fn drain_one(&mut self, from: Part) -> bool
+        requires apart { same_part from Waiting ≡ false }
+        ensures shown { drained from (shown self.new) ≡ drained from (shown self.old) }
+        ensures more { result ≡ true →
+            length (cids_of from (shown self.new)) < length (cids_of from (shown self.old)) }
+        ensures end { result ≡ false → cids_of from (shown self.new) ≡ [] }
+        ensures room { self.new.room ≡ self.old.room }
+    {
+        let Some(place) = self.front(from) else {
+            return false;
+        };
+        self.shift(place, Part::Waiting);
+        true
+    }
+
+    /// All of a part comes to the back of waiting, in its order.
+    pub(crate) fn move_all(&mut self, from: Part)
+        requires apart { same_part from Waiting ≡ false }
+        ensures shown { shown self.new ≡ drained from (shown self.old) }
+        ensures room { self.new.room ≡ self.old.room }
+    {
+        while self.drain_one(from) {}
+    }
 }

@@ -2,19 +2,19 @@
 ghost use Rattle.std.specs.Prelude.{◌≡◌, ◌≤◌, ◌<◌, ◌+◌, OnOk, [], ◌∷◌, cond, length};
 ghost use Rattle.mc_model.specs.Graph.{has};
 ghost use Rattle.mc_model.specs.Wanted.{no_queue, start_first, give_back, to_missing, to_bad, requeue, recall, without};
-ghost use Rattle.mc_queue.specs.Tickets.{first_of};
+ghost use Rattle.indexmap.specs.IndexMap.{get, spare as spare_places};
+ghost use Rattle.mc_model.specs.Front.{same_cid};
+ghost use Rattle.mc_list.specs.Views.{spare as spare_entries};
+ghost use Rattle.mc_queue.specs.Parts.{first_of};
 ghost use Rattle.mc_queue.specs.Shown.{named, comes};
 ghost use Rattle.mc_queue.specs.Fits.{Fits};
 
-use crate::moves::{hear_again, move_all, move_first, shift, want_new};
-use crate::reserve::reserve_blocks;
-use crate::ring::Ring;
-use crate::store::{Store, forget, is_within};
-use crate::ticket::Part;
+use crate::part::{Entry, Part};
+use crate::places;
 use indexmap::IndexMap;
 use mc_base::Cid;
+use mc_list::{Lists, Place};
 use std::alloc::{AllocError, Global};
-use std::collections::VecDeque;
 
 /// How many blocks are in each part.
 #[derive(Clone, Copy, Debug, PartialEq, Eq)]
@@ -31,22 +31,16 @@ pub struct Counts {
 
 /// The wanted set: the blocks that a replica has heard of and not processed, in four parts, each in the order in which
 /// they came to it. No block stands twice. Each call but `requeue` and `recall` costs the same on the average, whatever
-/// stands in the parts: places that blocks have left are passed over once, and a full part is tidied. Those two are
-/// linear in what they move.
+/// stands in the parts: a block moves by links alone, and a hash table says where it stands. Those two are linear in
+/// what they move.
 #[derive(Drop)]
 pub struct Queue {
-    pub(crate) store: Store,
-    ghost fits: { Fits store },
-}
-
-fn no_ring(alloc: Global) -> Ring
-    ensures items { result.tickets.items ≡ [] }
-    ensures count { result.count ≡ 0 }
-{
-    Ring {
-        tickets: VecDeque::new(alloc),
-        count: 0,
-    }
+    pub(crate) lists: Lists<Entry>,
+    pub(crate) places: IndexMap<Cid, Place>,
+    pub(crate) room: u64,
+    ghost fits: { Fits lists (get same_cid places) },
+    ghost entries_fit: { room ≤ spare_entries lists },
+    ghost places_fit: { room ≤ spare_places places },
 }
 
 impl Queue {
@@ -58,15 +52,9 @@ impl Queue {
         ensures spare { spare result ≡ 0 }
     {
         Queue {
-            store: Store {
-                marks: IndexMap::new(alloc),
-                waiting: no_ring(alloc),
-                flight: no_ring(alloc),
-                missing: no_ring(alloc),
-                bad: no_ring(alloc),
-                next: 0,
-                room: 0,
-            },
+            lists: Lists::new(alloc),
+            places: IndexMap::new(alloc),
+            room: 0,
         }
     }
 
@@ -77,7 +65,12 @@ impl Queue {
         ensures queue { shown self.new ≡ shown self.old }
         ensures spare { spare self.old ≤ spare self.new }
     {
-        reserve_blocks(&mut self.store, blocks)
+        if blocks <= self.room {
+            return Ok(());
+        }
+        self.reserve_both(blocks)?;
+        self.room = blocks;
+        Ok(())
     }
 
     /// A block is linked by a processed one, or with `again` a message names it: it comes to the back of waiting unless
@@ -88,10 +81,14 @@ impl Queue {
         ensures came { result ≡ comes again (shown self.old) cid }
         ensures spare { spare self.old ≤ spare self.new + cond result 1 0 }
     {
+        let Some(place) = self.place_of(&cid) else {
+            self.enter(cid);
+            return true;
+        };
         if again {
-            return hear_again(&mut self.store, cid);
+            return self.hear_again(place);
         }
-        want_new(&mut self.store, cid)
+        false
     }
 
     /// The first waiting block, which comes to the back of flight. `None` exactly where none waits.
@@ -100,7 +97,10 @@ impl Queue {
         ensures queue { shown self.new ≡ start_first (shown self.old) (shown self.old).waiting }
         ensures spare { spare self.old ≤ spare self.new }
     {
-        move_first(&mut self.store, Part::Waiting, Part::Flight)
+        let place = self.front(Part::Waiting)?;
+        let cid = self.lists.item(place).cid;
+        self.shift(place, Part::Flight);
+        Some(cid)
     }
 
     /// A block is processed: it leaves the part that it is in. Nothing changes where it is in none.
@@ -108,7 +108,7 @@ impl Queue {
         ensures queue { shown self.new ≡ without (shown self.old) (cid.now ∷ []) }
         ensures spare { spare self.old ≤ spare self.new }
     {
-        forget(&mut self.store, cid);
+        self.forget(cid);
     }
 
     /// There was no offer for a block in flight: it comes to the back of missing. Nothing changes where it is not in
@@ -118,7 +118,7 @@ impl Queue {
             (to_missing (shown self.old) cid.now) (shown self.old) }
         ensures spare { spare self.old ≤ spare self.new }
     {
-        shift(&mut self.store, *cid, Part::Flight, Part::Missing, 0);
+        self.shift_from(cid, Part::Flight, Part::Missing);
     }
 
     /// The first offer for a block in flight was damaged: it comes to the back of bad, with the number of the damage.
@@ -128,7 +128,9 @@ impl Queue {
             (to_bad (shown self.old) cid.now damage) (shown self.old) }
         ensures spare { spare self.old ≤ spare self.new }
     {
-        shift(&mut self.store, *cid, Part::Flight, Part::Bad, damage);
+        if let Some(place) = self.standing(cid, Part::Flight) {
+            self.spoil(cid, place, damage);
+        }
     }
 
     /// The job of a block in flight ended without it: it comes to the back of waiting. Nothing changes where it is not
@@ -138,7 +140,7 @@ impl Queue {
             (give_back (shown self.old) cid.now) (shown self.old) }
         ensures spare { spare self.old ≤ spare self.new }
     {
-        shift(&mut self.store, *cid, Part::Flight, Part::Waiting, 0);
+        self.shift_from(cid, Part::Flight, Part::Waiting);
     }
 
     /// What is missing, and then what is bad, comes to the back of waiting.
@@ -146,8 +148,8 @@ impl Queue {
         ensures queue { shown self.new ≡ requeue (shown self.old) }
         ensures spare { spare self.old ≤ spare self.new }
     {
-        move_all(&mut self.store, Part::Missing);
-        move_all(&mut self.store, Part::Bad);
+        self.move_all(Part::Missing);
+        self.move_all(Part::Bad);
     }
 
     /// All that is in flight comes to the back of waiting, in its order.
@@ -155,14 +157,14 @@ impl Queue {
         ensures queue { shown self.new ≡ recall (shown self.old) }
         ensures spare { spare self.old ≤ spare self.new }
     {
-        move_all(&mut self.store, Part::Flight);
+        self.move_all(Part::Flight);
     }
 
     /// Whether a job of the block was begun, and has not ended.
     pub fn in_flight(&self, cid: &Cid) -> bool
         ensures { result ≡ has cid.now (shown self.now).flight }
     {
-        is_within(&self.store, Part::Flight, cid)
+        self.standing(cid, Part::Flight).is_some()
     }
 
     /// How many blocks are in each part.
@@ -173,10 +175,10 @@ impl Queue {
         ensures bad { result.bad ≡ length (shown self.now).bad }
     {
         Counts {
-            waiting: self.store.waiting.count,
-            flight: self.store.flight.count,
-            missing: self.store.missing.count,
-            bad: self.store.bad.count,
+            waiting: self.lists.len(Part::Waiting.list()),
+            flight: self.lists.len(Part::Flight.list()),
+            missing: self.lists.len(Part::Missing.list()),
+            bad: self.lists.len(Part::Bad.list()),
         }
     }
 }

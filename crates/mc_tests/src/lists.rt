@@ -3,6 +3,7 @@ ghost use Rattle.std.specs.Prelude.{◌<◌};
 
 use mc_list::Lists;
 use std::alloc::Global;
+use std::rc::Rc;
 use std::test::Fail;
 
 // An item, and the number of the list that it is in. The rows stand in the order in which they came to their lists.
@@ -114,5 +115,23 @@ fn agree(alloc: Global, calls: u64) -> Result<bool, Fail> {
 #[test]
 fn many_calls_agree(rt: HostRuntime) -> Result<(), Fail> {
     assert!(rt; agree(rt.alloc(), 5_000)?);
+    Ok(())
+}
+
+// Entries in each list that share one value, and spare nodes. The lists are dropped at the end, after so many shares are counted.
+fn shares_in_lists(alloc: Global, shared: &Rc<u64>) -> Result<usize, Fail> {
+    let mut lists = Lists::new(alloc);
+    for number in 0..8 {
+        lists.reserve(3)?;
+        let _place = lists.add(number % 4, shared.clone()?);
+    }
+    Ok(Rc::strong_count(shared))
+}
+
+#[test]
+fn a_drop_leaves_no_item(rt: HostRuntime) -> Result<(), Fail> {
+    let shared = Rc::new(7, rt.alloc())?;
+    assert!(rt; shares_in_lists(rt.alloc(), &shared)? == 9);
+    assert!(rt; Rc::strong_count(&shared) == 1);
     Ok(())
 }

@@ -1,4 +1,7 @@
 // Tables of calls of the wanted set with its four lists after them, and many calls beside four plain lists.
+ghost use Rattle.std.specs.Prelude.{◌≤◌};
+ghost use Rattle.mc_queue.specs.Views.{spare};
+
 use mc_base::Cid;
 use mc_queue::Queue;
 use std::alloc::Global;
@@ -296,5 +299,50 @@ fn many_calls_agree(rt: HostRuntime) -> Result<(), Fail> {
         assert!(rt; agree(rt.alloc(), calls)?, "{calls}");
     }
     assert!(rt; agree(rt.alloc(), 10_000)?);
+    Ok(())
+}
+
+// The block of a number.
+fn block(number: u64) -> Cid {
+    let word = number.to_be_bytes();
+    let mut bytes = [0u8; 32];
+    for index in 0..8 {
+        bytes[index] = word[index];
+    }
+    Cid(bytes)
+}
+
+// So many blocks are wanted, for which there is room.
+fn want_so_many(queue: &mut Queue, count: u64)
+    requires { count ≤ spare queue.old }
+{
+    for number in 0..count {
+        let _came = queue.want(block(number), false);
+    }
+}
+
+// Whether so many blocks are wanted and taken in their order, after one call that makes room for them.
+fn takes_in_order(alloc: Global, count: u64) -> Result<bool, Fail> {
+    let mut queue = Queue::new(alloc);
+    queue.reserve(count)?;
+    want_so_many(&mut queue, count);
+    if queue.counts().waiting != count {
+        return Ok(false);
+    }
+    for number in 0..count {
+        let cid = block(number);
+        if queue.next() != Some(cid) || !queue.in_flight(&cid) {
+            return Ok(false);
+        }
+        queue.done(&cid);
+    }
+    Ok(queue.next() == None && queue.counts().flight == 0)
+}
+
+#[test]
+fn there_is_room_for_all(rt: HostRuntime) -> Result<(), Fail> {
+    for count in [0, 1, 2, 10, 1_000_000] {
+        assert!(rt; takes_in_order(rt.alloc(), count)?, "{count}");
+    }
     Ok(())
 }

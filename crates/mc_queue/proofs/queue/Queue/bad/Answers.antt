@@ -1,17 +1,8 @@
-use Rattle.std.proofs.Common.{◌∙◌, Some}
-use Rattle.indexmap.specs.IndexMap.{get}
-use Rattle.mc_model.specs.Front.{same_cid}
-use Rattle.mc_model.specs.Graph.{has}
-use Rattle.mc_model.specs.Wanted.{to_bad}
-use Rattle.mc_queue.specs.Tickets.{is_in}
-use Rattle.mc_queue.specs.Fits.{moved}
+use Rattle.std.proofs.Common.{◌∙◌, ap, sym}
+use Rattle.std.specs.Prelude.{is_some}
 use Rattle.mc_queue.specs.Views.{shown}
-use Rattle.mc_queue.specs.declared.ticket.Part.TheVariants.{Flight, Bad}
-use Rattle.mc_queue.proofs.MoveFacts.{stands, has_in, shift_is, bad_is}
+use Rattle.mc_queue.proofs.MoveFacts.{bad_is}
 use Rattle.mc_queue.proofs.queue.Queue.bad.Goals as goal
 
-pub returns-clause-queue : goal.returns-clause-queue
-returns-clause-queue c =
-    c.shift.ensures.shown
-    ∙ shift_is (shown c.args.self.now) (moved (Some Bad) (shown c.args.self.now) c.args.cid.now c.args.damage) (to_bad (shown c.args.self.now) c.args.cid.now c.args.damage) (is_in Flight (get same_cid c.args.self.now.store.marks c.args.cid.now)) (has c.args.cid.now (shown c.args.self.now).flight)
-    (has_in (shown c.args.self.now) c.args.cid.now (get same_cid c.args.self.now.store.marks c.args.cid.now) (stands c.args.self.now.store c.args.self.now.fits c.args.cid.now) Flight) (bad_is (shown c.args.self.now) c.args.cid.now c.args.damage (get same_cid c.args.self.now.store.marks c.args.cid.now) (stands c.args.self.now.store c.args.self.now.fits c.args.cid.now))
+pub returns-in-Some-clause-queue : goal.returns-in-Some-clause-queue
+returns-in-Some-clause-queue c = c.spoil.ensures.queue ∙ bad_is (shown c.args.self.now) c.args.cid.now (λ _. c.spoil.ensures.once) c.args.damage (sym c.standing.ensures.within ∙ ap is_some c.in-Some.is)
