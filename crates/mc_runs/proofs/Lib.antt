@@ -11,3 +11,6 @@ pub mod ReachFacts
 pub mod CalmFacts
 pub mod OneFacts
 pub mod OneEvents
+pub mod OneCuts
+pub mod LowHeights
+pub mod OneDeletes

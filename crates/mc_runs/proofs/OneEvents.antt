@@ -20,15 +20,18 @@ use Rattle.mc_model.specs.Offer.{Damage, offer}
 use Rattle.mc_model.specs.State.{Durable, OpenBatch, Running, durable_of, kept_of}
 use Rattle.mc_model.specs.Wanted.{hear_all}
 use Rattle.mc_core.specs.Batches.{BatchBecomes, OfBatch, OfRun}
+use Rattle.mc_core.specs.Deletes.{chain_events}
 use Rattle.mc_core.specs.Events.{Goes, ReplicaState, all_happen, burnt_by, commits, goes_on, state_of}
 use Rattle.mc_core.specs.Hears.{HearEvents, IsQueued}
 use Rattle.mc_core.specs.Jobs.{IsDelivered, first_waiting}
+use Rattle.mc_core.specs.Puts.{next_links}
 use Rattle.mc_core.specs.declared.Heard.{Heard}
 use Rattle.mc_core.specs.declared.Written.{Written}
+use Rattle.mc_model.specs.declared.delta.Delta.{Delta}
 use Rattle.mc_script.specs.declared.command.Command.{Command}
 use Rattle.mc_script.specs.declared.command.Command.TheVariants.{Put, Del, Begin, BatchPut, BatchDel, Commit, Get, Has as HasKey, Query, Heads as HeadsOf, Hear, Step as StepOf}
 use Rattle.mc_script.specs.declared.reply.Reply.{Reply}
-use Rattle.mc_script.specs.declared.reply.Reply.TheVariants.{Bad, Priority, Value, Has, Rows, Heads, Queued, Idle}
+use Rattle.mc_script.specs.declared.reply.Reply.TheVariants.{Bad, Deleted, Priority, Value, Has, Rows, Heads, Queued, Idle}
 use Rattle.mc_seats.specs.declared.error.ActError.{ActError}
 use Rattle.mc_seats.specs.Asks.{message_at}
 use Rattle.mc_seats.specs.Calling.{batch_priority}
@@ -37,6 +40,7 @@ use Rattle.mc_seats.specs.Effects.{events_by, happens_by}
 use Rattle.mc_seats.specs.Fetching.{IsFound, IsStepReply, StepEvents, StepsWith, found_among, offers_of}
 use Rattle.mc_seats.specs.Worlds.{Place, WorldState, peer_row, peers_of, picked, state_at}
 use Rattle.mc_runs.specs.OneText.{AreOpen, IsOpen, has_one_outcome}
+use Rattle.mc_runs.proofs.OneDeletes.{deltas_one}
 
 -- values under constructors
 
@@ -260,6 +264,12 @@ made_by d = false
 
 pub made_one : (w : WorldState) (s : ReplicaState) (command : Command) → AreOpen w → has_one_outcome command ≡ true → made_by (doing command) ≡ true → Made w s (doing command)
 made_one w s (Put r key bytes) all one made = λ events events2 reply reply2 h h2. (h.1.0 ∙ sym h2.1.0, h.2 ∙ ap (λ (x : Written). Priority x.priority) (h.1.1 ∙ sym h2.1.1) ∙ sym h2.2)
+made_one w s (Del r key) all one made = λ events events2 reply reply2 h h2.
+    let kept = kept_of s.state.durable in
+    let deltas : h.1.0 ≡ h2.1.0 = deltas_one kept key h.1.0 h2.1.0 h.1.1 h2.1.1 in (
+      h.1.2 ∙ ap (chain_events kept (next_links kept)) deltas ∙ sym h2.1.2,
+      h.2 ∙ ap Deleted (h.1.3 ∙ ap (λ (l : List Delta). length l) deltas ∙ sym h2.1.3) ∙ sym h2.2,
+    )
 made_one w s (Begin r) all one made = λ events events2 reply reply2 h h2. (h.1 ∙ sym h2.1, h.2 ∙ sym h2.2)
 made_one w s (BatchPut r key bytes) all one made = λ events events2 reply reply2 h h2. (of_run s.state.run _ _ (events ≡ events2) (λ b p q. p ∙ sym q) h.1 h2.1, h.2 ∙ sym h2.2)
 made_one w s (BatchDel r key) all one made = λ events events2 reply reply2 h h2. (of_run s.state.run _ _ (events ≡ events2) (λ b p q. p ∙ sym q) h.1 h2.1, h.2 ∙ sym h2.2)
@@ -274,5 +284,4 @@ made_one w s (HeadsOf r) all one made = λ events events2 reply reply2 h h2. (h.
 made_one w s (Hear r message) all one made = λ events events2 reply reply2 h h2.
     let both = heard_one s (message_at w.around.bag message) events events2 h.0 h2.0 h.1 h2.1 in (both.0, h.2 ∙ ap Queued both.1 ∙ sym h2.2)
 made_one w s (StepOf r) all one made = λ events events2 reply reply2 h h2. step_made (peers_of w r) s events events2 reply reply2 (all_picked (peer_row w.around.down r 0 w.places) w.places all) h h2
-made_one w s (Del r key) all one made = absurd (true≢false (sym one))
 made_one w s command all one made = absurd (true≢false (sym made))

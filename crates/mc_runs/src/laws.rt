@@ -188,7 +188,7 @@ pub fn clean_repairs_are_reached()
 
 /// The text of a run is one: two runs of the same lines from the same first world give equal replies and come to equal
 /// worlds, where each replica tells its content, no fuse is armed, and no keeper and no desk failed by itself. The
-/// commands whose workers or writers take turns are not among these lines, nor is a delete.
+/// commands whose workers or writers take turns are not among these lines, nor are those that arm a fuse.
 pub fn runs_are_one()
     ensures { (lines : List (List ℕ)) (answers answers2 : List (Option Answer)) (first last last2 : WorldState) →
         AreOpen first → AllByRecursion (λ line. IsOne (line_of line)) lines → own_free answers ≡ true →
