@@ -1,7 +1,7 @@
 -- The height of each head is below 2^64, since priorities are read from varints.
-use Rattle.std.proofs.Common.{◌≡◌, ℕ, zero, suc, ◌+◌, ◌*◌, ◌-◌, ◌/◌, ◌%◌, ◌^◌, ◌<◌, ◌≤◌, ◌==◌, Bool, true, false, not, ◌&&◌, List, [], ◌∷◌, ◌++◌, length, map, drop, take, Option, Some, None, Result, Ok, Err, refl, sym, ◌∙◌, ap, subst, arith, length-append}
+use Rattle.std.proofs.Common.{◌≡◌, ℕ, zero, suc, ◌+◌, ◌*◌, ◌-◌, ◌/◌, ◌%◌, ◌^◌, ◌<◌, ◌≤◌, ◌==◌, Bool, true, false, not, List, [], ◌∷◌, ◌++◌, length, map, drop, take, Option, Some, None, Result, Ok, Err, refl, ◌∙◌, ap, arith}
 use Rattle.std.specs.Prelude.{⊤, fold, filter, max, nat_le, if◌then◌else◌, unwrap_or}
-use Rattle.std.specs.List.{AllByRecursion, cons_option, filter_map}
+use Rattle.std.specs.List.{AllByRecursion, cons_option}
 use Rattle.std.specs.Result.{result_ok}
 use Rattle.std.specs.Str.{bytes_eq}
 use Rattle.std.specs.declared.cmp.Ordering.{Ordering}
@@ -13,10 +13,10 @@ use Rattle.mc_base.specs.WireRead.{Front, FieldZero, NoContent, NoKey, Placed, W
 use Rattle.mc_base.specs.declared.cid.Cid.{Cid}
 use Rattle.mc_wire.proofs.VarintFacts.{VarintAt, varint_read}
 use Rattle.mc_model.specs.Ascending.{ascending, insert_in_order}
-use Rattle.mc_model.specs.DeltaText.{content_varint as held_varint, DeltaFault, delta_fault, delta_in, delta_read, delta_unless, last_or, varint_in, varint_of, varints_in}
+use Rattle.mc_model.specs.DeltaText.{content_varint as held_varint, DeltaFault, delta_fault, delta_in, delta_read, delta_unless, last_or, varint_in, varints_in}
 use Rattle.mc_model.specs.Front.{Head, head_cmp, head_of, heads, is_linked}
-use Rattle.mc_model.specs.Kept.{Kept, block_in, block_under, blocks_in, bytes_at, processed}
-use Rattle.mc_model.specs.Made.{greatest_height, next_priority}
+use Rattle.mc_model.specs.Kept.{Kept, block_under, blocks_in, bytes_at, processed}
+use Rattle.mc_model.specs.Made.{next_priority}
 use Rattle.mc_model.specs.Offer.{Damage, block_max, block_of, block_of_node, block_with, data_of, delta_or_damage, empty_delta, links_from, offer}
 use Rattle.mc_model.specs.declared.block.Block.{Block}
 use Rattle.mc_model.specs.declared.block.Stored.{Stored}

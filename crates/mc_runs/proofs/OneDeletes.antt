@@ -1,10 +1,9 @@
 -- What a delete makes of a world's contents is one: its deltas, and the refusal that is due.
-use Rattle.std.proofs.Common.{◌≡◌, ◌≢◌, ℕ, ◌+◌, ◌^◌, ◌<◌, ◌≤◌, Bool, true, false, List, [], ◌∷◌, ◌++◌, length, Option, Some, None, refl, sym, ◌∙◌, ap, subst, inl, inr, arith}
-use Rattle.std.specs.Prelude.{◌⊎◌, min, nat_lt}
+use Rattle.std.proofs.Common.{◌≡◌, ℕ, ◌+◌, ◌^◌, ◌<◌, ◌≤◌, true, List, [], ◌∷◌, length, Option, Some, None, refl, sym, ◌∙◌, ap, subst, inl, inr, arith}
 use Rattle.std.specs.List.{list_all}
 use Rattle.std.proofs.lemmas.Bool.{and_parts, ltb-true}
 use Rattle.mc_base.specs.declared.cid.Cid.{Cid}
-use Rattle.mc_model.specs.Cuts.{IsCuts, IsPriorityFull, IsTooLarge, Pair, pairs, tombs_delta, tombs_size}
+use Rattle.mc_model.specs.Cuts.{IsCuts, IsPriorityFull, IsTooLarge, Pair, pairs, tombs_size}
 use Rattle.mc_model.specs.Kept.{Kept, processed}
 use Rattle.mc_model.specs.Made.{made_bytes, made_cid, next_priority}
 use Rattle.mc_model.specs.Offer.{block_max}

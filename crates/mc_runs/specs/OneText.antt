@@ -1,7 +1,6 @@
 -- Lines of which the definitions leave nothing open.
 use Rattle.std.specs.Prelude.{◌≡◌, ⊤, Bool, true, false, List, map, Option, None, Some, is_some}
 use Rattle.std.specs.List.{AllByRecursion}
-use Rattle.mc_script.specs.Line.{line_of}
 use Rattle.mc_script.specs.declared.command.Command.{Command}
 use Rattle.mc_script.specs.declared.command.Command.TheVariants.{Work, Repair, Storm, StopAt, StopAfter}
 use Rattle.mc_script.specs.declared.reply.Reply.{Reply}
