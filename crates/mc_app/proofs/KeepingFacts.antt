@@ -165,8 +165,7 @@ module _ {M K D : Type 0} (makes : M → KeeperPlan → ℕ → Result K KeepErr
   pub making_ends : (k : Members (Fused K) D) (start : ℕ → Option Kept) (quiet : Bool) (parts : List (Part (Fused K) D)) (count many : ℕ) (first made before last : M) → k.told ≡ told_in told → IsMaking k start quiet parts count → count < many
       → MadeFrom makes told plan 0 first (starts_from start 0 count) made → (error : KeepError) × makes made plan count (Err error) before → TakesParts takes before parts last → TakesSome makes takes told plan first (starts_from start 0 many) last
   making_ends k start quiet parts count many first made before last same making few so_far unmade taken =
-      let some : take count (starts_from start 0 many) ≡ starts_from start 0 count = take_starts start 0 many count (omega (arith, few)) in
-      (
+      let some : take count (starts_from start 0 many) ≡ starts_from start 0 count = take_starts start 0 many count (omega (arith, few)) in (
         count,
         made,
         before,

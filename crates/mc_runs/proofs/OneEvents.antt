@@ -165,26 +165,30 @@ same_cids (c ∷ cids) (d ∷ cids2) e =
 
 -- the peers of a world that tells are told
 
-all_picked : (marks : List Bool) (places : List Place) → AllByRecursion IsOpen places → AllByRecursion IsOpen (picked marks places)
-all_picked [] places all = tt
-all_picked (mark ∷ marks) [] all = tt
-all_picked (true ∷ marks) (p ∷ places) all = (all.0, all_picked marks places all.1)
-all_picked (false ∷ marks) (p ∷ places) all = all_picked marks places all.1
+pub all_picked : (P : Place → Type 0) (marks : List Bool) (places : List Place) → AllByRecursion P places → AllByRecursion P (picked marks places)
+all_picked P [] places all = tt
+all_picked P (mark ∷ marks) [] all = tt
+all_picked P (true ∷ marks) (p ∷ places) all = (all.0, all_picked P marks places all.1)
+all_picked P (false ∷ marks) (p ∷ places) all = all_picked P marks places all.1
+
+open_told : (places : List Place) → AllByRecursion IsOpen places → AllByRecursion (λ (p : Place). is_some p.content ≡ true) places
+open_told [] all = tt
+open_told (p ∷ places) all = (all.0.told, open_told places all.1)
 
 place_told : (planted : List Planted) (content : Option Kept) → is_some content ≡ true → (first : Cid → PeerOffers) × (option_map (offers_at planted) content ≡ Some first)
 place_told planted None told = absurd (true≢false (sym told))
 place_told planted (Some kept) told = (offers_at planted kept, refl)
 
-offers_told : (places : List Place) → AllByRecursion IsOpen places → (offers : List (Cid → PeerOffers)) × (offers_of places ≡ Some offers)
+pub offers_told : (places : List Place) → AllByRecursion (λ (p : Place). is_some p.content ≡ true) places → (offers : List (Cid → PeerOffers)) × (offers_of places ≡ Some offers)
 offers_told [] all = ([], refl)
 offers_told (p ∷ places) all =
-    let first = place_told p.planted p.content all.0.told in
+    let first = place_told p.planted p.content all.0 in
     let rest = offers_told places all.1 in
     (first.0 ∷ rest.0, λ i. onto_peers (first.1 i) (rest.1 i))
 
 found_one : (kept : Kept) (places : List Place) (cid : Cid) (found found2 : Option (List ℕ)) → AllByRecursion IsOpen places → IsFound kept places cid found → IsFound kept places cid found2 → found ≡ found2
 found_one kept places cid found found2 all is is2 =
-    let told = offers_told places all in
+    let told = offers_told places (open_told places all) in
     let one : found ≡ found_among kept told.0 cid = subst (λ (o : Option (List (Cid → PeerOffers))). IfSome o (λ offers. found ≡ found_among kept offers cid)) told.1 is in
     let two : found2 ≡ found_among kept told.0 cid = subst (λ (o : Option (List (Cid → PeerOffers))). IfSome o (λ offers. found2 ≡ found_among kept offers cid)) told.1 is2 in
     one ∙ sym two
@@ -283,5 +287,5 @@ made_one w s (Query r prefix skip take) all one made = λ events events2 reply r
 made_one w s (HeadsOf r) all one made = λ events events2 reply reply2 h h2. (h.1.0 ∙ sym h2.1.0, h.2 ∙ ap Heads (h.1.1 ∙ sym h2.1.1) ∙ sym h2.2)
 made_one w s (Hear r message) all one made = λ events events2 reply reply2 h h2.
     let both = heard_one s (message_at w.around.bag message) events events2 h.0 h2.0 h.1 h2.1 in (both.0, h.2 ∙ ap Queued both.1 ∙ sym h2.2)
-made_one w s (StepOf r) all one made = λ events events2 reply reply2 h h2. step_made (peers_of w r) s events events2 reply reply2 (all_picked (peer_row w.around.down r 0 w.places) w.places all) h h2
+made_one w s (StepOf r) all one made = λ events events2 reply reply2 h h2. step_made (peers_of w r) s events events2 reply reply2 (all_picked IsOpen (peer_row w.around.down r 0 w.places) w.places all) h h2
 made_one w s command all one made = absurd (true≢false (sym made))

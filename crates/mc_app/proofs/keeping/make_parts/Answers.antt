@@ -1,5 +1,6 @@
 use Rattle.std.proofs.Common.{arith, refl, rules, ◌∙◌}
-use Rattle.mc_app.proofs.KeepingFacts.{made_more, making_ends, making_more}
+use Rattle.mc_app.proofs.KeepingFacts.{fused_members, made_more, making_ends, making_more}
+use Rattle.mc_seats.proofs.MemberWords.{members}
 use Rattle.mc_app.proofs.keeping.make_parts.Goals as goal
 
 pub loop-index-preserved : goal.loop-index-preserved
