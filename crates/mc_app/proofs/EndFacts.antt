@@ -1,6 +1,6 @@
 -- How a run ends, and what its keepers tell then.
-use Rattle.std.proofs.Common.{true, ◌≡◌, ◌≤◌, ◌+◌, ◌-◌, ◌^◌, ℕ, List, [], ◌∷◌, length, Option, None, Some, refl, sym, ◌∙◌, ap, subst, arith, inl, inr, false}
-use Rattle.std.specs.Prelude.{map, min}
+use Rattle.std.proofs.Common.{true, ◌≡◌, ◌≤◌, ◌+◌, ◌-◌, ◌^◌, ℕ, List, [], ◌∷◌, length, Option, None, Some, Result, refl, sym, ◌∙◌, ap, subst, arith, inl, inr, false}
+use Rattle.std.specs.Prelude.{map, min, take}
 use Rattle.std.specs.List.{list_all, sum_by}
 use Rattle.std.proofs.Math.Seq.{take-length}
 use Rattle.std.proofs.lemmas.List.Sums.{sum_by-cons}
@@ -8,7 +8,9 @@ use Rattle.mc_base.specs.Causes.{Rose}
 use Rattle.mc_base.specs.Told.{Told}
 use Rattle.mc_base.specs.declared.counted.Counted as counted
 use Rattle.mc_keep.specs.Calls.{Members}
+use Rattle.mc_keep.specs.declared.error.KeepError.{KeepError}
 use Rattle.mc_keep.specs.declared.keeper.Keeper as keeper
+use Rattle.mc_keepers.specs.declared.keepers.KeeperPlan.{KeeperPlan}
 use Rattle.mc_model.specs.Events.{opened}
 use Rattle.mc_model.specs.Kept.{Kept}
 use Rattle.mc_model.specs.State.{Running, durable_of}
@@ -22,7 +24,7 @@ use Rattle.mc_seats.specs.declared.world.Part.{Part}
 use Rattle.mc_seats.specs.Keepers.{desks_in, keeper_in, keeper_of, own_in}
 use Rattle.mc_seats.specs.Openings.{AreLeft, AreRefused, counted_of, owns_of, parts_of, starts_of}
 use Rattle.mc_app.specs.Generating.{IsStoppedShort}
-use Rattle.mc_app.specs.Outcome.{EndsAt, Outcome, TakenFrom, TakesSome, unopened_status}
+use Rattle.mc_app.specs.Outcome.{EndsAt, HandsBack, MadeFrom, Outcome, TakenFrom, TakesSome, unopened_status}
 use Rattle.mc_app.specs.Keeping.{EndsParts, HaveAll, HaveSome, TakesParts}
 use Rattle.mc_app.proofs.KeepingFacts.{taken_told, told_in}
 use Rattle.mc_keep.specs.declared.fused.Fused.{Fused}
@@ -172,31 +174,53 @@ pub all_some : {K D : Type 0} (parts : List (Part K D)) → HaveAll parts → Ha
 all_some [] all = tt
 all_some (part ∷ parts) all = let many = all.0 in (omega (arith, many), all_some parts all.1)
 
-module _ {M K D : Type 0} (takes : M → K → List D → M → Type 0) (told : K → Option Kept) where
+module _ {M K D : Type 0} (makes : M → KeeperPlan → ℕ → Result K KeepError → M → Type 0) (takes : M → K → List D → M → Type 0) (told : K → Option Kept) (plan : KeeperPlan) where
   -- all keepers that were made were taken back as they were
-  pub all_taken : (starts : List (Option Kept)) (parts : List (Part (Fused K) D)) (before last : M) → TakesParts takes before parts last → HaveSome parts → starts_of (told_in told) parts ≡ starts → TakesSome takes told starts last
-  all_taken starts parts before last taken few same =
-      (length starts, before, subst (λ (l : List (Option Kept)). TakenFrom takes told (λ many. many ≤ desks_each) before l last) (same ∙ sym (take-length starts)) (taken_told takes told (λ many. many ≤ desks_each) before last parts taken few))
+  pub all_taken : (starts : List (Option Kept)) (parts : List (Part (Fused K) D)) (first made last : M) → MadeFrom makes told plan 0 first starts made → TakesParts takes made parts last → HaveSome parts → starts_of (told_in told) parts ≡ starts → TakesSome makes takes told plan first starts last
+  all_taken starts parts first made last from taken few same = (
+    length starts,
+    made,
+    made,
+    subst (λ (l : List (Option Kept)). MadeFrom makes told plan 0 first l made) (sym (take-length starts)) from,
+    inl refl,
+    subst (λ (l : List (Option Kept)). TakenFrom takes told (λ many. many ≤ desks_each) made l last) (same ∙ sym (take-length starts)) (taken_told takes told (λ many. many ≤ desks_each) made last parts taken few),
+  )
+
+  -- whatever those tell that were taken back
+  pub all_handed : (starts : List (Option Kept)) (parts : List (Part (Fused K) D)) (first made last : M) → MadeFrom makes told plan 0 first starts made → TakesParts takes made parts last → HaveSome parts → HandsBack makes takes told plan first starts last
+  all_handed starts parts first made last from taken few = (
+    length starts,
+    made,
+    made,
+    starts_of (told_in told) parts,
+    subst (λ (l : List (Option Kept)). MadeFrom makes told plan 0 first l made) (sym (take-length starts)) from,
+    inl refl,
+    taken_told takes told (λ many. many ≤ desks_each) made last parts taken few,
+  )
+
+  pub some_handed : (starts : List (Option Kept)) (first last : M) → TakesSome makes takes told plan first starts last → HandsBack makes takes told plan first starts last
+  some_handed starts first last some = (some.0, some.1, some.2, take some.0 starts, some.3, some.4, some.5)
 
   -- the keepers of the last world are given back
-  pub ends_taken : (end : Status) (given starts : List (Option Kept)) (parts : List (Part (Fused K) D)) (before last : M) (w : WorldState) → TakesParts takes before parts last → HaveSome parts → given ≡ starts → EndsParts (told_in told) end given parts w → EndsAt takes told end starts last w
-  ends_taken end given starts parts before last w taken few same (inl (ends, full)) =
-      inl (before, subst (λ (l : List (Option Kept)). TakenFrom takes told (λ many. many ≡ desks_each) before l last) (sym ends) (taken_told takes told (λ many. many ≡ desks_each) before last parts taken full))
-  ends_taken end given starts parts before last w taken few same (inr (is, begins, back)) =
-      inr (is, subst (λ (l : List (Option Kept)). IsFirst l w) same begins, all_taken starts parts before last taken few (back ∙ same))
+  pub ends_taken : (end : Status) (given starts : List (Option Kept)) (parts : List (Part (Fused K) D)) (first made last : M) (w : WorldState) → MadeFrom makes told plan 0 first starts made → TakesParts takes made parts last → HaveSome parts → given ≡ starts → EndsParts (told_in told) end given parts w
+      → EndsAt makes takes told plan first end starts last w
+  ends_taken end given starts parts first made last w from taken few same (inl (ends, full)) =
+      inl (made, from, subst (λ (l : List (Option Kept)). TakenFrom takes told (λ many. many ≡ desks_each) made l last) (sym ends) (taken_told takes told (λ many. many ≡ desks_each) made last parts taken full))
+  ends_taken end given starts parts first made last w from taken few same (inr (is, begins, back)) =
+      inr (is, subst (λ (l : List (Option Kept)). IsFirst l w) same begins, all_taken starts parts first made last from taken few (back ∙ same))
 
   -- not all keepers were made
-  pub unmade_outcome : (cause : OpenCause) (end : Status) (starts : List (Option Kept)) (last : M) (calm : Type 0) (lost lost_now : ℕ) (first old : Option (List ℕ)) → end ≡ unopened_status cause → TakesSome takes told starts last → min lost (2 ^ 64 - 1) ≤ lost_now
-      → Told first first (λ script left. Outcome end script left (IsFirst starts) (MayAnswer calm lost lost_now) (EndsAt takes told end starts last) old old)
-  unmade_outcome cause end starts last calm lost lost_now first old is taken later = subst (λ (s : Status). Told first first (λ script left. Outcome s script left (IsFirst starts) (MayAnswer calm lost lost_now) (EndsAt takes told s starts last) old old)) (sym is) (by_cause cause)
+  pub unmade_outcome : (cause : OpenCause) (end : Status) (starts : List (Option Kept)) (before last : M) (calm : Type 0) (lost lost_now : ℕ) (first old : Option (List ℕ)) → end ≡ unopened_status cause → TakesSome makes takes told plan before starts last → min lost (2 ^ 64 - 1) ≤ lost_now
+      → Told first first (λ script left. Outcome end script left (IsFirst starts) (MayAnswer calm lost lost_now) (EndsAt makes takes told plan before end starts last) old old)
+  unmade_outcome cause end starts before last calm lost lost_now first old is taken later = subst (λ (s : Status). Told first first (λ script left. Outcome s script left (IsFirst starts) (MayAnswer calm lost lost_now) (EndsAt makes takes told plan before s starts last) old old)) (sym is) (by_cause cause)
     where
-      by_cause : (cause : OpenCause) → Told first first (λ script left. Outcome (unopened_status cause) script left (IsFirst starts) (MayAnswer calm lost lost_now) (EndsAt takes told (unopened_status cause) starts last) old old)
+      by_cause : (cause : OpenCause) → Told first first (λ script left. Outcome (unopened_status cause) script left (IsFirst starts) (MayAnswer calm lost lost_now) (EndsAt makes takes told plan before (unopened_status cause) starts last) old old)
       by_cause causes.KeeperFault = untouched first old
-      by_cause causes.Memory = gives_up_first (IsFirst starts) (MayAnswer calm lost lost_now) (EndsAt takes told status.Memory starts last) (first_world starts) first old (is_first starts) (nothing_said calm lost lost_now later) (inr (refl, is_first starts, taken))
+      by_cause causes.Memory = gives_up_first (IsFirst starts) (MayAnswer calm lost lost_now) (EndsAt makes takes told plan before status.Memory starts last) (first_world starts) first old (is_first starts) (nothing_said calm lost lost_now later) (inr (refl, is_first starts, taken))
 
-  pub unmade_short : (end : Status) (script : List ℕ) (starts : List (Option Kept)) (last : M) (calm : Type 0) (lost lost_now : ℕ) → TakesSome takes told starts last → min lost (2 ^ 64 - 1) ≤ lost_now → end ≡ status.Memory
-      → IsStoppedShort script (IsFirst starts) (MayAnswer calm lost lost_now) (EndsAt takes told end starts last)
-  unmade_short end script starts last calm lost lost_now taken later is = record {
+  pub unmade_short : (end : Status) (script : List ℕ) (starts : List (Option Kept)) (before last : M) (calm : Type 0) (lost lost_now : ℕ) → TakesSome makes takes told plan before starts last → min lost (2 ^ 64 - 1) ≤ lost_now → end ≡ status.Memory
+      → IsStoppedShort script (IsFirst starts) (MayAnswer calm lost lost_now) (EndsAt makes takes told plan before end starts last)
+  unmade_short end script starts before last calm lost lost_now taken later is = record {
     progress = nothing_yet script (IsFirst starts) (first_world starts) (MayAnswer calm lost lost_now) (is_first starts) (nothing_said calm lost lost_now later);
     last = inl (inr (is, is_first starts, taken));
   }

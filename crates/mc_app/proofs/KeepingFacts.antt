@@ -1,5 +1,5 @@
 -- The keepers of a run, made and given back one after another.
-use Rattle.std.proofs.Common.{◌≡◌, ◌≤◌, ◌+◌, ◌-◌, ◌^◌, ℕ, zero, suc, Bool, true, List, [], ◌∷◌, ◌++◌, length, take, Option, refl, sym, ap, subst, ◌∙◌, arith, append_assoc}
+use Rattle.std.proofs.Common.{◌≡◌, ◌≤◌, ◌<◌, ◌+◌, ◌-◌, ◌^◌, ℕ, zero, suc, Bool, true, List, [], ◌∷◌, ◌++◌, length, take, Option, Result, Ok, Err, refl, sym, ap, subst, ◌∙◌, inl, inr, arith, append_assoc}
 use Rattle.std.specs.Prelude.{min}
 use Rattle.std.specs.List.{sum_by}
 use Rattle.std.proofs.lemmas.List.{append-nil}
@@ -7,14 +7,16 @@ use Rattle.std.proofs.lemmas.List.Folds.{list_all-append}
 use Rattle.std.proofs.lemmas.List.Sums.{sum_by-append, sum_by-cons}
 use Rattle.mc_keep.specs.Calls.{Members}
 use Rattle.mc_keep.specs.Fused.{faults_in, quiet_in, schedule_in}
+use Rattle.mc_keep.specs.declared.error.KeepError.{KeepError}
 use Rattle.mc_keep.specs.declared.fuse.Fuse.{Fuse}
 use Rattle.mc_keep.specs.declared.fused.Fused.{Fused}
+use Rattle.mc_keepers.specs.declared.keepers.KeeperPlan.{KeeperPlan}
 use Rattle.mc_model.specs.Kept.{Kept}
 use Rattle.mc_seats.specs.declared.world.Part.{Part}
 use Rattle.mc_seats.specs.Keepers.{is_calm_keeper}
 use Rattle.mc_seats.specs.Openings.{AreFresh, IsFresh, are_calm, owns_of, starts_of}
 use Rattle.mc_app.specs.Keeping.{HaveDesks, HaveSome, TakesParts}
-use Rattle.mc_app.specs.Outcome.{TakenFrom, TakesSome, starts_from}
+use Rattle.mc_app.specs.Outcome.{MadeFrom, TakenFrom, TakesSome, starts_from}
 use Rattle.mc_seats.specs.Desked.{desks_each}
 use Rattle.mc_seats.proofs.OpeningFacts.{both_true}
 
@@ -72,6 +74,25 @@ module _ {M K D : Type 0} (takes : M → K → List D → M → Type 0) where
   pub taken_told : (told : K → Option Kept) (Many : ℕ → Type 0) (first last : M) (parts : List (Part (Fused K) D)) → TakesParts takes first parts last → HaveDesks Many parts → TakenFrom takes told Many first (starts_of (told_in told) parts) last
   taken_told told Many first last [] taken have = taken
   taken_told told Many first last (part ∷ parts) taken have = (part.keeper.keeper, part.desks, taken.0, taken.1, refl, have.0, taken_told told Many taken.0 last parts taken.2 have.1)
+
+-- keepers that are made one after the other
+module _ {M K : Type 0} (makes : M → KeeperPlan → ℕ → Result K KeepError → M → Type 0) (told : K → Option Kept) (plan : KeeperPlan) where
+  made_next : (start : ℕ → Option Kept) (number count : ℕ) (first mid last : M) (keeper : K) → MadeFrom makes told plan number first (starts_from start number count) mid → makes mid plan (number + count) (Ok keeper) last → told keeper ≡ start (number + count)
+      → MadeFrom makes told plan number first (starts_from start number (suc count)) last
+  made_next start number zero first mid last keeper made next is =
+      let here : number + 0 ≡ number = omega arith in
+      (keeper, last, subst (λ (m : M). makes m plan number (Ok keeper) last) made (subst (λ (n : ℕ). makes mid plan n (Ok keeper) last) here next), is ∙ ap start here, refl)
+  made_next start number (suc count) first mid last keeper made next is =
+      let there : number + suc count ≡ number + 1 + count = omega arith in
+      (made.0, made.1, made.2, made.3, made_next start (number + 1) count made.1 mid last keeper made.4 (subst (λ (n : ℕ). makes mid plan n (Ok keeper) last) there next) (is ∙ ap start there))
+
+  pub made_more : (start start_now : ℕ → Option Kept) (count : ℕ) (first mid last : M) (keeper : K) → MadeFrom makes told plan 0 first (starts_from start 0 count) mid → ((index : ℕ) → start_now index ≡ start index) → makes mid plan count (Ok keeper) last → told keeper ≡ start_now count
+      → MadeFrom makes told plan 0 first (starts_from start 0 (count + 1)) last
+  made_more start start_now count first mid last keeper made same next is =
+      let here : count ≡ 0 + count = omega arith in
+      let next_count : suc count ≡ count + 1 = omega arith in
+      subst (λ (n : ℕ). MadeFrom makes told plan 0 first (starts_from start 0 n) last) next_count
+      (made_next start 0 count first mid last keeper made (subst (λ (n : ℕ). makes mid plan n (Ok keeper) last) here next) (is ∙ same count ∙ ap start here))
 
 -- the members of a fused keeper, by those of the one inside
 abbrev pub fused_members : {K D : Type 0} → Members K D → Members (Fused K) D
@@ -135,17 +156,26 @@ fresh_few : {K D : Type 0} (told : K → Option Kept) (fuse : K → Option Fuse)
 fresh_few told fuse [] fresh = tt
 fresh_few told fuse (part ∷ parts) fresh = let none = ap length fresh.0.no_desks in (omega (arith, none), fresh_few told fuse parts fresh.1)
 
-module _ {M K D : Type 0} (takes : M → K → List D → M → Type 0) (told : K → Option Kept) where
-  pub making_ends : (k : Members (Fused K) D) (start : ℕ → Option Kept) (quiet : Bool) (parts : List (Part (Fused K) D)) (count many : ℕ) (before last : M) → k.told ≡ told_in told → IsMaking k start quiet parts count → count ≤ many
-      → TakesParts takes before parts last → TakesSome takes told (starts_from start 0 many) last
-  making_ends k start quiet parts count many before last same making few taken = (
-    count,
-    before,
-    subst (λ (l : List (Option Kept)). TakenFrom takes told (λ many. many ≤ desks_each) before l last)
-        (ap (λ (f : Fused K → Option Kept). starts_of f parts) (sym same) ∙ making.starts ∙ sym (take_starts start 0 many count few))
-        (taken_told takes told (λ many. many ≤ desks_each) before last parts taken (fresh_few k.told k.fuse parts making.fresh)),
-  )
+starts_many : (start : ℕ → Option Kept) (number count : ℕ) → length (starts_from start number count) ≡ count
+starts_many start number zero = refl
+starts_many start number (suc count) = let rest = starts_many start (number + 1) count in omega (arith, rest)
+
+module _ {M K D : Type 0} (makes : M → KeeperPlan → ℕ → Result K KeepError → M → Type 0) (takes : M → K → List D → M → Type 0) (told : K → Option Kept) (plan : KeeperPlan) where
+  -- the keeper behind so many was not made, and these are taken back
+  pub making_ends : (k : Members (Fused K) D) (start : ℕ → Option Kept) (quiet : Bool) (parts : List (Part (Fused K) D)) (count many : ℕ) (first made before last : M) → k.told ≡ told_in told → IsMaking k start quiet parts count → count < many
+      → MadeFrom makes told plan 0 first (starts_from start 0 count) made → (error : KeepError) × makes made plan count (Err error) before → TakesParts takes before parts last → TakesSome makes takes told plan first (starts_from start 0 many) last
+  making_ends k start quiet parts count many first made before last same making few so_far unmade taken =
+      let some : take count (starts_from start 0 many) ≡ starts_from start 0 count = take_starts start 0 many count (omega (arith, few)) in (
+        count,
+        made,
+        before,
+        subst (λ (l : List (Option Kept)). MadeFrom makes told plan 0 first l made) (sym some) so_far,
+        inr (subst (λ (n : ℕ). count < n) (sym (starts_many start 0 many)) few, unmade.0, unmade.1),
+        subst (λ (l : List (Option Kept)). TakenFrom takes told (λ many. many ≤ desks_each) before l last)
+            (ap (λ (f : Fused K → Option Kept). starts_of f parts) (sym same) ∙ making.starts ∙ sym some)
+            (taken_told takes told (λ many. many ≤ desks_each) before last parts taken (fresh_few k.told k.fuse parts making.fresh)),
+      )
 
   -- no keeper was made
-  pub making_none : (starts : List (Option Kept)) (last : M) → TakesSome takes told starts last
-  making_none starts last = (0, last, refl)
+  pub making_none : (starts : List (Option Kept)) (last : M) → TakesSome makes takes told plan last starts last
+  making_none starts last = (0, last, last, refl, inl refl, refl)

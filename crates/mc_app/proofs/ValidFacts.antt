@@ -5,7 +5,7 @@ use Rattle.std.specs.List.{AllByRecursion, onto_first}
 use Rattle.std.specs.Io.BufRead.{take_through}
 use Rattle.mc_base.specs.Causes.{Rose}
 use Rattle.mc_base.specs.Told.{Told}
-use Rattle.mc_keep.specs.declared.keepers.KeeperPlan.{KeeperPlan}
+use Rattle.mc_keepers.specs.declared.keepers.KeeperPlan.{KeeperPlan}
 use Rattle.mc_model.specs.Kept.{Kept}
 use Rattle.mc_app.specs.declared.command_line.Request.{Request}
 use Rattle.mc_app.specs.declared.command_line.Request.TheVariants.{Gen as GenFrom, Run as RunOver}

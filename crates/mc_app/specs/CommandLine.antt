@@ -3,8 +3,8 @@ use Rattle.std.specs.Prelude.{ℕ, ◌≤◌, List, [], ◌∷◌, Option, None,
 use Rattle.std.specs.Prelude.{nat_le, if◌then◌else◌, codes}
 use Rattle.std.specs.Option.{is_some}
 use Rattle.std.specs.Str.{bytes_eq}
-use Rattle.mc_keep.specs.declared.keepers.KeeperPlan.{KeeperPlan}
-use Rattle.mc_keep.specs.declared.keepers.KeeperPlan.TheVariants.{Memory, Sqlite}
+use Rattle.mc_keepers.specs.declared.keepers.KeeperPlan.{KeeperPlan}
+use Rattle.mc_keepers.specs.declared.keepers.KeeperPlan.TheVariants.{Memory, Sqlite}
 use Rattle.mc_script.specs.Words.{◌>>=◌, number_of}
 use Rattle.mc_app.specs.declared.command_line.Subcommand.{Subcommand}
 use Rattle.mc_app.specs.declared.command_line.Subcommand.TheVariants.{Run, Gen}

@@ -21,7 +21,7 @@ ghost use Rattle.mc_app.specs.declared.command_line.WordsError.TheVariants.{Memo
 ghost use Rattle.mc_app.specs.GivenText.{text_given};
 
 use mc_base::Text;
-use mc_keep::KeeperPlan;
+use mc_keepers::KeeperPlan;
 use mc_script::read_number;
 use std::alloc::{AllocError, Global};
 use thiserror::Error;

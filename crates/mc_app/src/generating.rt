@@ -4,13 +4,13 @@ ghost use Rattle.std.specs.Io.KnownBytes.{Keeps};
 ghost use Rattle.mc_base.specs.Causes.{Counts, Rose};
 ghost use Rattle.mc_gen.specs.Script.{script_text};
 ghost use Rattle.mc_gen.specs.Summary.{Sums, summary_text};
-ghost use Rattle.mc_keep.specs.declared.keepers.KeeperPlan.TheVariants.{Memory as InMemory};
+ghost use Rattle.mc_keepers.specs.declared.keepers.KeeperPlan.TheVariants.{Memory as InMemory};
 ghost use Rattle.mc_app.specs.Generating.{EndsSummary, Generates};
 ghost use Rattle.mc_seats.specs.Keepers.{armed_in, counted_in, is_calm};
 ghost use Rattle.mc_app.specs.Keeping.{EndsParts, HaveAll, HaveSome};
 ghost use Rattle.mc_app.specs.LineWords.{MayEnd};
 ghost use Rattle.mc_seats.specs.Openings.{AreFresh, are_calm, counted_of, owns_of, starts_of};
-ghost use Rattle.mc_app.specs.Outcome.{CountsKeepers, EndsAt, TakesSome, contents_of, starts_from};
+ghost use Rattle.mc_app.specs.Outcome.{CountsKeepers, EndsAt, HandsBack, TakesSome, contents_of, starts_from};
 ghost use Rattle.mc_runs.specs.Runs.{MayAnswer};
 ghost use Rattle.mc_seats.specs.Words.{state, tally};
 ghost use Rattle.mc_seats.specs.Starts.{IsFirst};
@@ -23,7 +23,8 @@ use crate::summing::{Summed, sum_script};
 use crate::write::write_text;
 use mc_base::{Bytes, List, Sink};
 use mc_gen::{Summary, script};
-use mc_keep::{Fused, Keeper, KeeperPlan, Keepers};
+use mc_keep::{Fused, Keeper};
+use mc_keepers::{KeeperPlan, Keepers};
 use mc_worker::Gate;
 use mc_world::{NoWorld, Part, World};
 use std::alloc::Global;
@@ -51,12 +52,14 @@ where
     requires { count ≤ 100000 }
     ensures no_usage { result ≢ Status.Usage }
     ensures no_read { result ≢ Status.ReadFault }
-    ensures untouched_keepers { result ≡ Status.KeeperFault → TakesSome K.takes K.K.told
+    ensures untouched_keepers { result ≡ Status.KeeperFault → TakesSome K.makes K.takes K.K.told InMemory keepers.old
+        (starts_from (K.starts keepers.old InMemory) 0 3) keepers.new }
+    ensures handed_back { HandsBack K.makes K.takes K.K.told InMemory keepers.old
         (starts_from (K.starts keepers.old InMemory) 0 3) keepers.new }
     ensures generated { Generates (script_text start count)
         (IsFirst (starts_from (K.starts keepers.old InMemory) 0 3))
         (MayAnswer (K.quiet keepers.old InMemory ≡ true) (K.lost keepers.old) (K.lost keepers.new))
-        (EndsAt K.takes K.K.told result
+        (EndsAt K.makes K.takes K.K.told InMemory keepers.old result
         (starts_from (K.starts keepers.old InMemory) 0 3) keepers.new)
         result count (O.written out.old) (O.written out.new) }
     ensures write_cause { Counts (O.faults out.old) (O.faults out.new) (result ≡ Status.WriteFault) }

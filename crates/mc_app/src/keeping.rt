@@ -1,18 +1,20 @@
 // The keepers of a run: how they are made, and given back.
 ghost use Rattle.std.specs.Prelude.{◌≡◌, ◌≤◌, ◌<◌, ◌+◌, ◌-◌, ◌^◌, ◌∷◌, min, ℕ, true, vec_len, vec_capacity, IfOk};
-ghost use Rattle.std.specs.Prelude.{IsErrOf, OnErr};
+ghost use Rattle.std.specs.Prelude.{IsErrOf, OnErr, Ok, Err};
 ghost use Rattle.mc_base.specs.Causes.{Rose};
 ghost use Rattle.mc_keep.specs.Causes.{CountGoes};
 ghost use Rattle.mc_keep.specs.Plan.{is_fault};
-ghost use Rattle.mc_keep.specs.declared.keepers.KeeperPlan.{KeeperPlan as MadeBy};
+ghost use Rattle.mc_keep.specs.declared.error.KeepError.{KeepError as MakeError};
+ghost use Rattle.mc_keepers.specs.declared.keepers.KeeperPlan.{KeeperPlan as MadeBy};
 ghost use Rattle.mc_seats.specs.Keepers.{is_calm_keeper};
 ghost use Rattle.mc_seats.specs.Openings.{AreFresh, IsFresh, are_calm, counted_of, owns_of, starts_of};
-ghost use Rattle.mc_app.specs.Outcome.{TakesSome, starts_from};
+ghost use Rattle.mc_app.specs.Outcome.{MadeFrom, TakesSome, starts_from};
 ghost use Rattle.mc_app.specs.Keeping.{TakesParts};
 
 use mc_base::List;
 use mc_core::OpenCause;
-use mc_keep::{Fused, KeepError, Keeper, KeeperPlan, Keepers};
+use mc_keep::{Fused, KeepError, Keeper};
+use mc_keepers::{KeeperPlan, Keepers};
 use mc_world::Part;
 use std::alloc::Global;
 
@@ -32,7 +34,9 @@ pub(crate) fn make_parts<K: Keepers>(
     ensures calm { K.quiet keepers.old plan.now ≡ true →
         IfOk result (λ parts. are_calm ⟦<Fused<K::K> as Keeper>⟧ parts ≡ true) }
     ensures lost_same { IfOk result (λ _. K.lost keepers.new ≡ K.lost keepers.old) }
-    ensures taken { OnErr result (TakesSome K.takes K.K.told
+    ensures made { IfOk result (λ _. MadeFrom K.makes K.K.told plan.now 0 keepers.old
+        (starts_from (K.starts keepers.old plan.now) 0 count) keepers.new) }
+    ensures taken { OnErr result (TakesSome K.makes K.takes K.K.told plan.now keepers.old
         (starts_from (K.starts keepers.old plan.now) 0 count) keepers.new) }
     ensures lost { OnErr result (min (K.lost keepers.old) (2 ^ 64 - 1) ≤ K.lost keepers.new) }
     ensures fault { IsErrOf result OpenCause.KeeperFault → Rose (K.faults keepers.old) (K.faults keepers.new) }
@@ -67,6 +71,10 @@ fn make_part<K: Keepers>(
     ensures counted { IfOk result (λ part. ⟦<Fused<K::K> as Keeper>⟧.own part.keeper ≡ 0) }
     ensures calm { K.quiet keepers.old plan.now ≡ true →
         IfOk result (λ part. is_calm_keeper ⟦<Fused<K::K> as Keeper>⟧ part.keeper ≡ true) }
+    ensures made { IfOk result (λ part.
+        K.makes keepers.old plan.now index (Ok part.keeper.keeper) keepers.new) }
+    ensures unmade { OnErr result ((error : MakeError) ×
+        K.makes keepers.old plan.now index (Err error) keepers.new) }
     ensures starts_same { (plan : MadeBy) (index : ℕ) →
         K.starts keepers.new plan index ≡ K.starts keepers.old plan index }
     ensures quiet_same { (plan : MadeBy) → K.quiet keepers.new plan ≡ K.quiet keepers.old plan }

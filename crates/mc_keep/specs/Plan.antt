@@ -1,6 +1,6 @@
--- Planned faults: which calls of a keeper, of its desks and of who makes keepers fail, where that is known.
-use Rattle.std.specs.Prelude.{◌≡◌, ⊤, ℕ, ◌<◌, ◌≤◌, Bool, true, false, ◌||◌, List, [], ◌∷◌, drop, slice_get, Option}
-use Rattle.std.specs.Prelude.{Some, None, unwrap_or, Result, Ok, Err, IfOk, if◌then◌else◌}
+-- Planned faults: which calls of a keeper and of its desks fail, where that is known.
+use Rattle.std.specs.Prelude.{◌≡◌, ⊤, ℕ, ◌<◌, ◌≤◌, Bool, true, false, ◌||◌, List, [], ◌∷◌, drop, Option}
+use Rattle.std.specs.Prelude.{Some, None, Result, Ok, Err, IfOk, if◌then◌else◌}
 use Rattle.std.specs.Result.{is_ok}
 pub use Rattle.mc_base.specs.Plan.{next_number, is_planned}
 use Rattle.mc_model.specs.Kept.{Kept}
@@ -21,17 +21,6 @@ pub record Schedule : Type 0 where
 pub record DeskSchedule : Type 0 where
   pub reads : List ℕ
   pub reads_made : ℕ
-
--- the numbers of the makes that fail, counted from 1, how many there were, and what is planned for each keeper, by its
--- index
-pub record MakeSchedule : Type 0 where
-  pub makes : List ℕ
-  pub makes_made : ℕ
-  pub keepers : List Schedule
-
--- nothing fails
-abbrev pub no_schedule : Schedule
-no_schedule = record { reads = []; before = []; after = []; reads_made = 0; commits_made = 0; desks = [] }
 
 -- whether a call failed
 abbrev pub is_fault : {T : Type 0} → Result T KeepError → Bool
@@ -125,16 +114,3 @@ CommitsAsPlanned (Some old) new failed told told_after whole =
     × (is_planned old.before (next_number old.commits_made) ≡ true → told_after ≡ told)
     × (is_planned old.before (next_number old.commits_made) ≡ false →
     is_planned old.after (next_number old.commits_made) ≡ true → told_after ≡ whole)
-
--- what is planned for the keeper with this index: nothing where there is no plan
-abbrev pub keeper_plan : List Schedule → ℕ → Schedule
-keeper_plan plans index = unwrap_or (slice_get plans index) no_schedule
-
--- the same of a call that makes the keeper with this index
-abbrev pub MakesAsPlanned : {K : Type 0} → (K → Option Schedule) → Option MakeSchedule → Option MakeSchedule → ℕ →
-    Result K KeepError → Type 0
-MakesAsPlanned schedule None new index result = ⊤
-MakesAsPlanned schedule (Some old) new index result =
-    (new ≡ Some (record old { makes_made = next_number old.makes_made }))
-    × (is_fault result ≡ is_planned old.makes (next_number old.makes_made))
-    × IfOk result (λ keeper. schedule keeper ≡ Some (keeper_plan old.keepers index))

@@ -7,7 +7,6 @@ mod error;
 mod fuse;
 mod fused;
 mod keeper;
-mod keepers;
 mod laws;
 mod rows;
 
@@ -16,7 +15,6 @@ pub use error::KeepError;
 pub use fuse::Fuse;
 pub use fused::Fused;
 pub use keeper::Keeper;
-pub use keepers::{KeeperPlan, Keepers};
 pub use laws::{changes_fit, commits_are_events, fuses_fire_once, ties_are_equal};
 pub use mc_model::Stored;
 pub use rows::{ElementRow, HeadRow, RankedValue, Summary, TombRow, ValueRow};

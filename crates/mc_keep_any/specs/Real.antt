@@ -2,9 +2,11 @@
 use Rattle.std.specs.Prelude.{refl, Bool, true, false, Option, Some, None, IfSome}
 use Rattle.mc_model.specs.Kept.{Kept, nothing_kept}
 use Rattle.mc_model.specs.State.{HasSoundMark}
-use Rattle.mc_keep.specs.Plan.{MakeSchedule}
-use Rattle.mc_keep.specs.declared.keepers.KeeperPlan.{KeeperPlan}
-use Rattle.mc_keep.specs.declared.keepers.KeeperPlan.TheVariants.{Memory, Sqlite}
+use Rattle.mc_keepers.specs.Making.{MakeSchedule}
+use Rattle.mc_keepers.specs.declared.keepers.KeeperPlan.{KeeperPlan}
+use Rattle.mc_keepers.specs.declared.keepers.KeeperPlan.TheVariants.{Memory, Sqlite}
+use Rattle.mc_keep_any.specs.declared.any.AnyKeeper.{AnyKeeper}
+use Rattle.mc_keep_any.specs.declared.any.AnyKeeper.TheVariants.{Memory as InMemory, File as InFile}
 
 -- a keeper in memory begins with nothing; what a file holds is not told
 abbrev pub starts_of : KeeperPlan → Option Kept
@@ -14,6 +16,13 @@ starts_of (Sqlite dir) = None
 abbrev pub is_memory : KeeperPlan → Bool
 is_memory Memory = true
 is_memory (Sqlite dir) = false
+
+-- whether a keeper is one of the kind that a plan names: in memory, or in a file
+abbrev pub is_by : {A B : Type 0} → KeeperPlan → AnyKeeper A B → Bool
+is_by Memory (InMemory keeper) = true
+is_by Memory (InFile keeper) = false
+is_by (Sqlite dir) (InMemory keeper) = false
+is_by (Sqlite dir) (InFile keeper) = true
 
 -- no faults are planned
 abbrev pub never_told : Option MakeSchedule

@@ -1,17 +1,18 @@
 // Who makes the keepers of the program, and takes them back.
-ghost use Rattle.std.specs.Prelude.{◌≡◌, ◌+◌, ◌-◌, ◌^◌, ℕ, min};
+ghost use Rattle.std.specs.Prelude.{◌≡◌, ◌+◌, ◌-◌, ◌^◌, ℕ, true, min, IfOk};
 ghost use Rattle.std.specs.List.{sum_by};
 ghost use Rattle.mc_keep.specs.Causes.{CountGoes};
 ghost use Rattle.mc_keep.specs.Plan.{is_fault};
-ghost use Rattle.mc_keep.specs.declared.keepers.KeeperPlan.{KeeperPlan};
-ghost use Rattle.mc_keep_any.specs.Real.{starts_of, starts_marked, is_memory, never_told};
+ghost use Rattle.mc_keepers.specs.declared.keepers.KeeperPlan.{KeeperPlan};
+ghost use Rattle.mc_keep_any.specs.Real.{starts_of, starts_marked, is_by, is_memory, never_told};
 
 use crate::any::AnyKeeper;
 use crate::desk::AnyDesk;
 use mc_base::{Counted, List};
-use mc_keep::{KeepError, Keeper, KeeperPlan, Keepers};
+use mc_keep::{KeepError, Keeper};
 use mc_keep_mem::{FaultPlan, MemDesk, MemKeeper};
 use mc_keep_sql::{FileKeeper, SqlDesk, add_faults};
+use mc_keepers::{KeeperPlan, Keepers};
 use std::alloc::Global;
 use std::rt::HostRuntime;
 
@@ -66,6 +67,9 @@ impl Keepers for RealKeepers {
     ghost schedule = { λ keepers. never_told };
 
     ghost lost = { λ keepers. keepers.lost };
+
+    ghost makes = { λ old plan index result new. (new ≡ record old { faults = new.faults })
+        × IfOk result (λ keeper. is_by plan keeper ≡ true) };
 
     ghost takes = { λ old keeper desks new. new ≡ record old {
       lost = min (old.lost + ⟦<AnyKeeper<MemKeeper, FileKeeper> as Counted>⟧.faults keeper

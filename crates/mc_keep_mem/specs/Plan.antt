@@ -1,7 +1,8 @@
 -- Plans by which nothing fails.
 use Rattle.std.specs.Prelude.{ℕ, map, Bool, true, false, ◌&&◌, List, [], ◌∷◌}
 use Rattle.std.specs.List.{list_all}
-use Rattle.mc_keep.specs.Plan.{Schedule, DeskSchedule, MakeSchedule}
+use Rattle.mc_keep.specs.Plan.{Schedule, DeskSchedule}
+use Rattle.mc_keepers.specs.Making.{MakeSchedule}
 use Rattle.mc_keep_mem.specs.declared.plan.FaultPlan.{FaultPlan}
 use Rattle.mc_keep_mem.specs.declared.plan.MemDesk.{MemDesk}
 

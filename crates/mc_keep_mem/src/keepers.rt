@@ -1,17 +1,21 @@
 // Who makes the keepers in memory, and takes them back.
-ghost use Rattle.std.specs.Prelude.{◌≡◌, refl, ℕ, ◌+◌, ◌-◌, ◌^◌, true, Some, min, fold, map, IfOk};
+ghost use Rattle.std.specs.Prelude.{◌≡◌, refl, ℕ, ◌+◌, ◌-◌, ◌^◌, true, Some, min, fold, map, IfOk, if◌then◌else◌};
 ghost use Rattle.std.specs.List.{list_all, sum_by};
 ghost use Rattle.mc_model.specs.Kept.{nothing_kept};
-ghost use Rattle.mc_keep.specs.declared.keepers.KeeperPlan.{KeeperPlan};
-ghost use Rattle.mc_keep.specs.Plan.{keeper_plan};
+ghost use Rattle.mc_keepers.specs.declared.keepers.KeeperPlan.{KeeperPlan};
+ghost use Rattle.mc_keep.specs.Plan.{is_fault, next_number};
+ghost use Rattle.mc_keepers.specs.Making.{keeper_plan};
 ghost use Rattle.mc_keep_mem.specs.declared.plan.MemDesk.{MemDesk};
+ghost use Rattle.mc_tables.specs.Fits.{kept_in};
 ghost use Rattle.mc_keep_mem.specs.Desks.{counted_with};
+ghost use Rattle.mc_keep_mem.specs.Faults.{schedule_of};
 ghost use Rattle.mc_keep_mem.specs.Plan.{plans_nothing, planned, makes_of};
 
 use crate::keeper::MemKeeper;
 use crate::plan::{FaultPlan, MemDesk, is_due, next_of};
 use mc_base::{Counted, Failed, List};
-use mc_keep::{KeepError, Keeper, KeeperPlan, Keepers};
+use mc_keep::{KeepError, Keeper};
+use mc_keepers::{KeeperPlan, Keepers};
 use std::alloc::{AllocError, Global};
 use std::hash::{BuildHasher, BuildHasherDefault, FoldHasher};
 
@@ -89,6 +93,12 @@ impl<S: BuildHasher + Copy + Drop> Keepers for MemKeepers<S> {
     ghost schedule = { λ keepers. Some (makes_of keepers.failing keepers.made keepers.plans) };
 
     ghost lost = { λ keepers. keepers.lost };
+
+    ghost makes = { λ old plan index result new. (new ≡ record old {
+      made = next_number old.made;
+      faults = if is_fault result then min (old.faults + 1) (2 ^ 64 - 1) else old.faults;
+    }) × IfOk result (λ keeper. (kept_in keeper.store.tables ≡ nothing_kept) × (keeper.faults.faults ≡ 0)
+        × (schedule_of keeper.faults ≡ keeper_plan (map planned old.plans) index)) };
 
     ghost takes = { λ old keeper desks new. new ≡ record old {
       lost = min (old.lost + keeper.faults.faults + sum_by (λ (desk : MemDesk). desk.faults) desks) (2 ^ 64 - 1);

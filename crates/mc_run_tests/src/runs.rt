@@ -5,8 +5,9 @@ ghost use Rattle.std.specs.Io.{ReadsAtMost};
 
 use mc_app::{Status, run};
 use mc_base::{Bytes, Counted, Failed, List, MemorySink, MemorySource, RepeatingSource, Source};
-use mc_keep::{Keeper, Keepers};
+use mc_keep::Keeper;
 use mc_keep_mem::MemKeepers;
+use mc_keepers::Keepers;
 use mc_worker::Gate;
 use std::alloc::Global;
 use std::mem::forget;

@@ -11,3 +11,8 @@ pub mod ReachFacts
 pub mod CalmFacts
 pub mod OneFacts
 pub mod OneEvents
+pub mod OneCuts
+pub mod OneClosure
+pub mod OneEnds
+pub mod LowHeights
+pub mod OneDeletes

@@ -1,5 +1,5 @@
 -- What a command that has one outcome makes: its events and its reply are those of its world alone.
-use Rattle.std.proofs.Common.{◌≡◌, ◌≢◌, ℕ, Bool, true, false, true≢false, List, [], ◌∷◌, length, map, Option, Some, None, Result, Ok, Err, refl, sym, ◌∙◌, ap, subst, inl, inr, arith}
+use Rattle.std.proofs.Common.{◌≡◌, ℕ, Bool, true, false, true≢false, List, [], ◌∷◌, length, map, Option, Some, None, Result, Ok, Err, refl, sym, ◌∙◌, ap, subst, inl, inr, arith}
 use Rattle.std.specs.Prelude.{◌⊎◌, IfSome, is_ok, is_some, unwrap_or}
 use Rattle.std.specs.List.{AllByRecursion}
 use Rattle.std.specs.Option.{option_map}
@@ -20,15 +20,18 @@ use Rattle.mc_model.specs.Offer.{Damage, offer}
 use Rattle.mc_model.specs.State.{Durable, OpenBatch, Running, durable_of, kept_of}
 use Rattle.mc_model.specs.Wanted.{hear_all}
 use Rattle.mc_core.specs.Batches.{BatchBecomes, OfBatch, OfRun}
+use Rattle.mc_core.specs.Deletes.{chain_events}
 use Rattle.mc_core.specs.Events.{Goes, ReplicaState, all_happen, burnt_by, commits, goes_on, state_of}
 use Rattle.mc_core.specs.Hears.{HearEvents, IsQueued}
 use Rattle.mc_core.specs.Jobs.{IsDelivered, first_waiting}
+use Rattle.mc_core.specs.Puts.{next_links}
 use Rattle.mc_core.specs.declared.Heard.{Heard}
 use Rattle.mc_core.specs.declared.Written.{Written}
+use Rattle.mc_model.specs.declared.delta.Delta.{Delta}
 use Rattle.mc_script.specs.declared.command.Command.{Command}
 use Rattle.mc_script.specs.declared.command.Command.TheVariants.{Put, Del, Begin, BatchPut, BatchDel, Commit, Hear, Step as StepOf}
 use Rattle.mc_script.specs.declared.reply.Reply.{Reply}
-use Rattle.mc_script.specs.declared.reply.Reply.TheVariants.{Bad, Priority, Queued, Idle}
+use Rattle.mc_script.specs.declared.reply.Reply.TheVariants.{Bad, Deleted, Priority, Queued, Idle}
 use Rattle.mc_seats.specs.declared.error.ActError.{ActError}
 use Rattle.mc_seats.specs.Asks.{message_at}
 use Rattle.mc_seats.specs.Calling.{Finds, Makes, Outcome, batch_priority, outcome_of}
@@ -37,6 +40,7 @@ use Rattle.mc_seats.specs.Effects.{events_by, happens_by}
 use Rattle.mc_seats.specs.Fetching.{IsFound, IsStepReply, StepEvents, StepsWith, found_among, offers_of}
 use Rattle.mc_seats.specs.Worlds.{Place, WorldState, peer_row, peers_of, picked, state_at}
 use Rattle.mc_runs.specs.OneText.{AreOpen, IsOpen, has_one_outcome}
+use Rattle.mc_runs.proofs.OneDeletes.{deltas_one}
 
 -- values under constructors
 
@@ -161,26 +165,30 @@ same_cids (c ∷ cids) (d ∷ cids2) e =
 
 -- the peers of a world that tells are told
 
-all_picked : (marks : List Bool) (places : List Place) → AllByRecursion IsOpen places → AllByRecursion IsOpen (picked marks places)
-all_picked [] places all = tt
-all_picked (mark ∷ marks) [] all = tt
-all_picked (true ∷ marks) (p ∷ places) all = (all.0, all_picked marks places all.1)
-all_picked (false ∷ marks) (p ∷ places) all = all_picked marks places all.1
+pub all_picked : (P : Place → Type 0) (marks : List Bool) (places : List Place) → AllByRecursion P places → AllByRecursion P (picked marks places)
+all_picked P [] places all = tt
+all_picked P (mark ∷ marks) [] all = tt
+all_picked P (true ∷ marks) (p ∷ places) all = (all.0, all_picked P marks places all.1)
+all_picked P (false ∷ marks) (p ∷ places) all = all_picked P marks places all.1
+
+open_told : (places : List Place) → AllByRecursion IsOpen places → AllByRecursion (λ (p : Place). is_some p.content ≡ true) places
+open_told [] all = tt
+open_told (p ∷ places) all = (all.0.told, open_told places all.1)
 
 place_told : (planted : List Planted) (content : Option Kept) → is_some content ≡ true → (first : Cid → PeerOffers) × (option_map (offers_at planted) content ≡ Some first)
 place_told planted None told = absurd (true≢false (sym told))
 place_told planted (Some kept) told = (offers_at planted kept, refl)
 
-offers_told : (places : List Place) → AllByRecursion IsOpen places → (offers : List (Cid → PeerOffers)) × (offers_of places ≡ Some offers)
+pub offers_told : (places : List Place) → AllByRecursion (λ (p : Place). is_some p.content ≡ true) places → (offers : List (Cid → PeerOffers)) × (offers_of places ≡ Some offers)
 offers_told [] all = ([], refl)
 offers_told (p ∷ places) all =
-    let first = place_told p.planted p.content all.0.told in
+    let first = place_told p.planted p.content all.0 in
     let rest = offers_told places all.1 in
     (first.0 ∷ rest.0, λ i. onto_peers (first.1 i) (rest.1 i))
 
 found_one : (kept : Kept) (places : List Place) (cid : Cid) (found found2 : Option (List ℕ)) → AllByRecursion IsOpen places → IsFound kept places cid found → IsFound kept places cid found2 → found ≡ found2
 found_one kept places cid found found2 all is is2 =
-    let told = offers_told places all in
+    let told = offers_told places (open_told places all) in
     let one : found ≡ found_among kept told.0 cid = subst (λ (o : Option (List (Cid → PeerOffers))). IfSome o (λ offers. found ≡ found_among kept offers cid)) told.1 is in
     let two : found2 ≡ found_among kept told.0 cid = subst (λ (o : Option (List (Cid → PeerOffers))). IfSome o (λ offers. found2 ≡ found_among kept offers cid)) told.1 is2 in
     one ∙ sym two
@@ -272,14 +280,20 @@ outcome_one (Finds find says) s events events2 reply reply2 found h h2 = (h.1.0 
 outcome_one (Makes M) s events events2 reply reply2 found h h2 = absurd (true≢false (sym found))
 
 -- a command that only reads, of those that make events
-found_one : (w : WorldState) (s : ReplicaState) (d : Doing) → made_by d ≡ true → found_by d ≡ made_by d → Made w s d
-found_one w s (At r (Calls call)) made found = λ events events2 reply reply2 h h2. outcome_one call.outcome s events events2 reply reply2 found h h2
-found_one w s (At r (Hears message)) made found = absurd (true≢false (sym found))
-found_one w s (At r Steps) made found = absurd (true≢false (sym found))
-found_one w s d made found = absurd (true≢false (sym made))
+reading_one : (w : WorldState) (s : ReplicaState) (d : Doing) → made_by d ≡ true → found_by d ≡ made_by d → Made w s d
+reading_one w s (At r (Calls call)) made found = λ events events2 reply reply2 h h2. outcome_one call.outcome s events events2 reply reply2 found h h2
+reading_one w s (At r (Hears message)) made found = absurd (true≢false (sym found))
+reading_one w s (At r Steps) made found = absurd (true≢false (sym found))
+reading_one w s d made found = absurd (true≢false (sym made))
 
 pub made_one : (w : WorldState) (s : ReplicaState) (command : Command) → AreOpen w → has_one_outcome command ≡ true → made_by (doing command) ≡ true → Made w s (doing command)
 made_one w s (Put r key bytes) all one made = λ events events2 reply reply2 h h2. (h.1.0 ∙ sym h2.1.0, h.2 ∙ ap (λ (x : Written). Priority x.priority) (h.1.1 ∙ sym h2.1.1) ∙ sym h2.2)
+made_one w s (Del r key) all one made = λ events events2 reply reply2 h h2.
+    let kept = kept_of s.state.durable in
+    let deltas : h.1.0 ≡ h2.1.0 = deltas_one kept key h.1.0 h2.1.0 h.1.1 h2.1.1 in (
+      h.1.2 ∙ ap (chain_events kept (next_links kept)) deltas ∙ sym h2.1.2,
+      h.2 ∙ ap Deleted (h.1.3 ∙ ap (λ (l : List Delta). length l) deltas ∙ sym h2.1.3) ∙ sym h2.2,
+    )
 made_one w s (Begin r) all one made = λ events events2 reply reply2 h h2. (h.1 ∙ sym h2.1, h.2 ∙ sym h2.2)
 made_one w s (BatchPut r key bytes) all one made = λ events events2 reply reply2 h h2. (of_run s.state.run _ _ (events ≡ events2) (λ b p q. p ∙ sym q) h.1 h2.1, h.2 ∙ sym h2.2)
 made_one w s (BatchDel r key) all one made = λ events events2 reply reply2 h h2. (of_run s.state.run _ _ (events ≡ events2) (λ b p q. p ∙ sym q) h.1 h2.1, h.2 ∙ sym h2.2)
@@ -289,6 +303,5 @@ made_one w s (Commit r) all one made = λ events events2 reply reply2 h h2.
     (both.0, h.2 ∙ ap (λ (x : Option Written). Priority (batch_priority x)) both.1 ∙ sym h2.2)
 made_one w s (Hear r message) all one made = λ events events2 reply reply2 h h2.
     let both = heard_one s (message_at w.around.bag message) events events2 h.0 h2.0 h.1 h2.1 in (both.0, h.2 ∙ ap Queued both.1 ∙ sym h2.2)
-made_one w s (StepOf r) all one made = λ events events2 reply reply2 h h2. step_made (peers_of w r) s events events2 reply reply2 (all_picked (peer_row w.around.down r 0 w.places) w.places all) h h2
-made_one w s (Del r key) all one made = absurd (true≢false (sym one))
-made_one w s command all one made = found_one w s (doing command) made refl
+made_one w s (StepOf r) all one made = λ events events2 reply reply2 h h2. step_made (peers_of w r) s events events2 reply reply2 (all_picked IsOpen (peer_row w.around.down r 0 w.places) w.places all) h h2
+made_one w s command all one made = reading_one w s (doing command) made refl

@@ -1,5 +1,5 @@
 -- A command that has one outcome: two steps of it from one world are one, and so are two runs.
-use Rattle.std.proofs.Common.{◌≡◌, ◌≢◌, ◌+◌, ℕ, zero, suc, Bool, true, false, true≢false, List, [], ◌∷◌, ◌++◌, length, set, Option, Some, None, Ok, refl, sym, ◌∙◌, ap, subst, inl, inr, nat_lt}
+use Rattle.std.proofs.Common.{◌≡◌, ℕ, zero, suc, Bool, true, false, true≢false, List, [], ◌∷◌, ◌++◌, length, set, Option, Some, None, Ok, refl, sym, ◌∙◌, ap, subst, inl, inr, nat_lt}
 use Rattle.std.specs.Prelude.{◌⊎◌, ◌↔◌, IfSome, is_some, slice_get}
 use Rattle.std.specs.List.{AllByRecursion}
 use Rattle.std.proofs.lemmas.Bool.{ltb-true}
@@ -30,6 +30,7 @@ use Rattle.mc_runs.specs.OneText.{AreOpen, IsOne, IsOpen, has_one_outcome, repli
 use Rattle.mc_runs.specs.Runs.{Answer, LineStep, Runs, own_free, owns_none}
 use Rattle.mc_runs.proofs.CalmFacts.{entry_none}
 use Rattle.mc_runs.proofs.WrittenFacts.{of_place, stands_within}
+use Rattle.mc_runs.proofs.OneDeletes.{delete_due_one}
 use Rattle.mc_runs.proofs.OneEvents.{BackLaw, IsOnePlace, both_happen, made_by, made_one, no_some, ok_is, some_is, told_state}
 
 -- what it makes of its place
@@ -190,7 +191,6 @@ done_one back w (SameOf r other) reply reply2 w2 w3 all there one a b =
     of_place w other (λ q. IfSome (state_at p.0) (λ s. IfSome (state_at q) (λ t. (yes ≡ true) ↔ SameProcessed s t))) q.0 q.1 (of_place w r (λ p. AtPlace w other (λ q. IfSome (state_at p) (λ s. IfSome (state_at q) (λ t. (yes ≡ true) ↔ SameProcessed s t)))) p.0 p.1 says) in
     let yes = same_says p.0 q.0 a.says.0 b.says.0 (open_at w.places r p.0 all p.1) (open_at w.places other q.0 all q.1) (of a.says.0 a.says.2) (of b.says.0 b.says.2) in
     record { same = world_is w2 w3 (a.moved ∙ sym b.moved) (a.around ∙ sym b.around); says = a.says.1 ∙ ap Same yes ∙ sym b.says.1; still = subst (AllByRecursion IsOpen) (sym a.moved) all }
-done_one back w (Del r key) reply reply2 w2 w3 all there one a b = absurd (true≢false (sym one))
 done_one back w (Work r workers budget) reply reply2 w2 w3 all there one a b = absurd (true≢false (sym one))
 done_one back w (Repair r workers) reply reply2 w2 w3 all there one a b = absurd (true≢false (sym one))
 done_one back w (Storm r writers writes) reply reply2 w2 w3 all there one a b = absurd (true≢false (sym one))
@@ -205,7 +205,7 @@ Due w s d = (due due2 : Option CoreError) → due_by w s d due → due_by w s d 
 
 due_one : (w : WorldState) (s : ReplicaState) (command : Command) → has_one_outcome command ≡ true → Due w s (doing command)
 due_one w s (Put r key bytes) one = λ due due2 h h2. h ∙ sym h2
-due_one w s (Del r key) one = absurd (true≢false (sym one))
+due_one w s (Del r key) one = λ due due2 h h2. delete_due_one s key due due2 h h2
 due_one w s command one = λ due due2 h h2. h ∙ sym h2
 
 is_reply_one : (error : CoreError) (reply reply2 : Reply) → IsReply error reply → IsReply error reply2 → reply ≡ reply2

@@ -1,5 +1,5 @@
 -- The blocks of a storm that was answered are processed, and stay so.
-use Rattle.std.proofs.Common.{◌≡◌, ◌≤◌, ◌+◌, ℕ, Bool, true, false, true≢false, List, [], ◌∷◌, ◌++◌, length, Option, Some, None, Result, Ok, Err, refl, sym, ◌∙◌, ap, subst, inl, inr, arith, length-append, cond, append_assoc}
+use Rattle.std.proofs.Common.{◌≡◌, ◌≤◌, ◌+◌, ℕ, Bool, true, false, true≢false, List, [], ◌∷◌, ◌++◌, length, Option, Some, None, Result, Ok, refl, sym, ◌∙◌, ap, subst, inl, inr, arith, length-append, cond, append_assoc}
 use Rattle.std.specs.Prelude.{◌&&◌, not, is_some, slice_get, unwrap_or}
 use Rattle.std.proofs.lemmas.List.{append-nil}
 use Rattle.mc_base.specs.Told.{Told}
@@ -16,7 +16,7 @@ use Rattle.mc_core.specs.declared.CoreError.{CoreError}
 use Rattle.mc_core.specs.declared.CoreError.TheVariants as core
 use Rattle.mc_core.proofs.GrowthFacts.{GrowLaw}
 use Rattle.mc_storm.specs.Interleavings.{IsInterleaving, StormCall, Write, one_if, puts_made}
-use Rattle.mc_storm.specs.Storms.{ActsBy, CallsRun, PutActs, StormEnds, StormLeads, storm_key, storm_value}
+use Rattle.mc_storm.specs.Storms.{ActsBy, CallsRun, PutActs, StormLeads, storm_key, storm_value}
 use Rattle.mc_script.specs.declared.command.Command.TheVariants.{Storm}
 use Rattle.mc_script.specs.declared.reply.Reply.{Reply}
 use Rattle.mc_script.specs.declared.reply.Reply.TheVariants.{Stormed}

@@ -1,3 +1,4 @@
 pub mod Runs
 pub mod Promises
 pub mod OneText
+pub mod OneEnd

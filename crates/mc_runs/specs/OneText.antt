@@ -1,17 +1,15 @@
 -- Lines of which the definitions leave nothing open.
 use Rattle.std.specs.Prelude.{◌≡◌, ⊤, Bool, true, false, List, map, Option, None, Some, is_some}
 use Rattle.std.specs.List.{AllByRecursion}
-use Rattle.mc_script.specs.Line.{line_of}
 use Rattle.mc_script.specs.declared.command.Command.{Command}
-use Rattle.mc_script.specs.declared.command.Command.TheVariants.{Del, Work, Repair, Storm, StopAt, StopAfter}
+use Rattle.mc_script.specs.declared.command.Command.TheVariants.{Work, Repair, Storm, StopAt, StopAfter}
 use Rattle.mc_script.specs.declared.reply.Reply.{Reply}
 use Rattle.mc_runs.specs.Runs.{Answer}
 use Rattle.mc_seats.specs.Worlds.{Place, WorldState}
 
 -- whether a command has one outcome in each world whose contents are told, and where no keeper and no desk fails: all
--- but those of workers and of writers, a delete, and those that arm a fuse
+-- but those of workers and of writers, and those that arm a fuse
 abbrev pub has_one_outcome : Command → Bool
-has_one_outcome (Del r key) = false
 has_one_outcome (Work r workers budget) = false
 has_one_outcome (Repair r workers) = false
 has_one_outcome (Storm r writers writes) = false

@@ -7,7 +7,7 @@ ghost use Rattle.mc_model.specs.State.{blocks_of};
 ghost use Rattle.mc_core.specs.Events.{ReplicaState};
 ghost use Rattle.mc_core.specs.Puts.{next_links, delta_of_put};
 ghost use Rattle.mc_script.specs.declared.command.Command.{Command as Asked};
-ghost use Rattle.mc_script.specs.declared.command.Command.TheVariants.{Put, Del, Commit, Repair, Storm};
+ghost use Rattle.mc_script.specs.declared.command.Command.TheVariants.{Put, Del, Commit, Repair, Storm, Work};
 ghost use Rattle.mc_script.specs.declared.reply.Reply.{Reply as Said};
 ghost use Rattle.mc_script.specs.declared.reply.Reply.TheVariants.{Priority, Deleted, Stopped, Stormed, Clean};
 ghost use Rattle.mc_script.specs.declared.reply.Reply.TheVariants.{FaultKeeper, FaultPeer};
@@ -21,6 +21,7 @@ ghost use Rattle.mc_runs.specs.Promises.{DoneElsewhere, asks_running, fired_at, 
 ghost use Rattle.mc_runs.specs.Promises.{some_stopped, tells_at};
 ghost use Rattle.std.specs.List.{AllByRecursion};
 ghost use Rattle.mc_script.specs.Line.{line_of};
+ghost use Rattle.mc_runs.specs.OneEnd.{AreSameAt, AreTold, is_end};
 ghost use Rattle.mc_runs.specs.OneText.{AreOpen, IsOne, replies_in};
 ghost use Rattle.mc_runs.specs.Runs.{Answer, IsWithin, Runs, own_free, owns_in};
 ghost use Rattle.mc_seats.specs.Step.{Step, with_link};
@@ -188,7 +189,7 @@ pub fn clean_repairs_are_reached()
 
 /// The text of a run is one: two runs of the same lines from the same first world give equal replies and come to equal
 /// worlds, where each replica tells its content, no fuse is armed, and no keeper and no desk failed by itself. The
-/// commands whose workers or writers take turns are not among these lines, nor is a delete.
+/// commands whose workers or writers take turns are not among these lines, nor are those that arm a fuse.
 pub fn runs_are_one()
     ensures { (lines : List (List ℕ)) (answers answers2 : List (Option Answer)) (first last last2 : WorldState) →
         AreOpen first → AllByRecursion (λ line. IsOne (line_of line)) lines → own_free answers ≡ true →
@@ -197,3 +198,18 @@ pub fn runs_are_one()
 {
     kept_is_durable();
 }
+
+/// What a work comes to does not depend on its workers, nor on their turns: two works of one replica of one world, whose
+/// contents are told, that have come to their ends, by whatever budgets, are answered equally, have processed the same
+/// blocks, as many, and leave the same ones missing and bad. So do two repairs, but that no clause says that their
+/// answers are equal.
+pub fn works_are_one()
+    ensures works { (w : WorldState) (r workers workers2 : ℕ) (budget budget2 : Option ℕ) (entry entry2 : Entry)
+        (reply reply2 : Said) (w2 w3 : WorldState) → AreTold w → is_end reply ≡ true → is_end reply2 ≡ true →
+        Step w (Work r workers budget) entry reply w2 → Step w (Work r workers2 budget2) entry2 reply2 w3 →
+        (reply ≡ reply2) × AreSameAt r w2 w3 }
+    ensures repairs { (w : WorldState) (r workers workers2 : ℕ) (entry entry2 : Entry) (reply reply2 : Said)
+        (w2 w3 : WorldState) → AreTold w → is_end reply ≡ true → is_end reply2 ≡ true →
+        Step w (Repair r workers) entry reply w2 → Step w (Repair r workers2) entry2 reply2 w3 →
+        AreSameAt r w2 w3 }
+{}

@@ -1,8 +1,9 @@
 // Keepers in memory that are made as planned.
 use crate::memory::{numbers, read_plan};
 use mc_base::{Counted, List};
-use mc_keep::{Keeper, KeeperPlan, Keepers};
+use mc_keep::Keeper;
 use mc_keep_mem::{FaultPlan, MemKeepers};
+use mc_keepers::{KeeperPlan, Keepers};
 use std::alloc::{AllocError, Global};
 use std::test::Fail;
 

@@ -1,16 +1,22 @@
-use Rattle.std.proofs.Common.{arith, ◌∙◌}
-use Rattle.mc_app.proofs.KeepingFacts.{making_more}
+use Rattle.std.proofs.Common.{arith, refl, rules, ◌∙◌}
+use Rattle.mc_app.proofs.KeepingFacts.{fused_members, made_more, making_ends, making_more}
+use Rattle.mc_seats.proofs.MemberWords.{members}
 use Rattle.mc_app.proofs.keeping.make_parts.Goals as goal
 
 pub loop-index-preserved : goal.loop-index-preserved
 loop-index-preserved g c = let inv = c.loop-index.invariant in record {
   making = rw c.push_reserved.ensures.items (making_more _ _ _ _ _ _ _ _ inv.making (λ index. inv.starts_same c.args.plan.now index) (inv.quiet_same c.args.plan.now) c.in-Ok-make_part.ensures.told c.in-Ok-make_part.ensures.fresh c.in-Ok-make_part.ensures.counted c.in-Ok-make_part.ensures.calm);
+  made = made_more g.K.Keepers.makes g.K.K.Keeper.told c.args.plan.now _ _ _ _ _ _ _ inv.made (λ index. inv.starts_same c.args.plan.now index) c.in-Ok-make_part.ensures.made c.in-Ok-make_part.ensures.told;
   starts_same = λ plan index. c.make_part.ensures.starts_same plan index ∙ inv.starts_same plan index;
   quiet_same = λ plan. c.make_part.ensures.quiet_same plan ∙ inv.quiet_same plan;
   lost_same = c.make_part.ensures.lost ∙ inv.lost_same;
   later = omega (arith, inv.later, c.make_part.ensures.later);
   room = omega (arith, inv.room, c.push_reserved.ensures.len, c.push_reserved.ensures.capacity);
 }
+
+pub returns-in-Err-clause-taken : goal.returns-in-Err-clause-taken
+returns-in-Err-clause-taken g c = let inv = c.loop-index.invariant in
+    making_ends g.K.Keepers.makes g.K.Keepers.takes g.K.K.Keeper.told c.args.plan.now (fused_members (members g.K.K.Keeper g.K.K.Counted)) _ _ _ _ _ _ _ _ _ refl inv.making (search rules) inv.made c.in-Err.ensures.unmade (rw c.from_vec.ensures at c.give_back.ensures.taken)
 
 pub returns-clause-fresh : goal.returns-clause-fresh
 returns-clause-fresh g c = rw c.from_vec-2.ensures c.loop-index.invariant.making.fresh

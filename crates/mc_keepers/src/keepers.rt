@@ -1,13 +1,15 @@
 // Who makes the keepers of a run, and takes them back.
-ghost use Rattle.std.specs.Prelude.{◌≡◌, ◌+◌, ◌-◌, ◌^◌, ℕ, Bool, true, List, None, Option, min, IfOk, IfSome};
+ghost use Rattle.std.specs.Prelude.{◌≡◌, ◌+◌, ◌-◌, ◌^◌, ℕ, Bool, true, List, None, Option, Result, min, IfOk, IfSome};
 ghost use Rattle.std.specs.List.{sum_by};
 ghost use Rattle.mc_model.specs.Kept.{Kept};
 ghost use Rattle.mc_model.specs.State.{HasSoundMark};
 ghost use Rattle.mc_keep.specs.Causes.{CountGoes};
-ghost use Rattle.mc_keep.specs.Plan.{MakeSchedule, MakesAsPlanned, is_fault};
+ghost use Rattle.mc_keep.specs.Plan.{is_fault};
+ghost use Rattle.mc_keep.specs.declared.error.KeepError.{KeepError as MakeError};
+ghost use Rattle.mc_keepers.specs.Making.{MakeSchedule, MakesAsPlanned};
 
-use crate::{KeepError, Keeper};
 use mc_base::{Counted, List, Text};
+use mc_keep::{KeepError, Keeper};
 use std::alloc::Global;
 
 /// What kind of keeper a run uses.
@@ -24,7 +26,7 @@ pub enum KeeperPlan {
 
 /// Makes keepers, and takes them back. Its count of faults is that of `make` alone.
 pub trait Keepers: Counted {
-    ghost use Rattle.mc_keep.specs.declared.keepers.KeeperPlan.{KeeperPlan};
+    ghost use Rattle.mc_keepers.specs.declared.keepers.KeeperPlan.{KeeperPlan};
 
     /// The keepers that it makes.
     type K: Keeper;
@@ -41,11 +43,15 @@ pub trait Keepers: Counted {
     /// The sum of the counts of all keepers and desks that were taken back, at most `u64::MAX`.
     ghost lost: { Self → ℕ };
 
+    /// That a call of `make` by this plan and for this index came to this, and what was before and after it.
+    ghost makes: { Self → KeeperPlan → ℕ → Result Self.K MakeError → Self → Type 0 };
+
     /// That this keeper and these desks were taken back, and what was before and after it.
     ghost takes: { Self → Self.K → List Self.K.Desk → Self → Type 0 };
 
     /// Makes the keeper of the replica with this index, with the count 0 and no fuse.
     fn make(&mut self, alloc: Global, plan: &KeeperPlan, index: u64) -> Result<Self::K, KeepError>
+        ensures made { makes self.old plan.now index result self.new }
         ensures told { IfOk result (λ keeper. Self.K.told keeper ≡ starts self.old plan.now index) }
         ensures fresh { IfOk result (λ keeper.
             (Self.K.faults keeper ≡ 0) × (Self.K.own keeper ≡ 0) × (Self.K.fuse keeper ≡ None)) }

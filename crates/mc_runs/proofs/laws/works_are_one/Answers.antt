@@ -1,0 +1,8 @@
+use Rattle.mc_runs.proofs.OneEnds.{repairs_one, works_one}
+use Rattle.mc_runs.proofs.laws.works_are_one.Goals as goal
+
+pub returns-clause-works : goal.returns-clause-works
+returns-clause-works c = works_one
+
+pub returns-clause-repairs : goal.returns-clause-repairs
+returns-clause-repairs c = repairs_one
