@@ -36,7 +36,7 @@ use Rattle.mc_seats.specs.declared.links.Link.{Link}
 use Rattle.mc_seats.specs.declared.seat.Seat.{Seat}
 use Rattle.mc_seats.specs.declared.world.World.{World}
 use Rattle.mc_seats.specs.Asks.{is_named}
-use Rattle.mc_seats.specs.Fetching.{IsFound, found_among, offers_of}
+use Rattle.mc_seats.specs.Fetching.{Decides, IsFound, IsFoundIn, all_tell, front_offers}
 use Rattle.mc_seats.specs.Keepers.{AllLater, IsPaid, WorldGoes, armed_at, armed_in, desk_count, desks_in, is_calm, is_calm_desk, is_calm_keeper, keeper_of, own_in}
 use Rattle.mc_seats.specs.Effects.{AsksAt, DoneAt, RefusedAt}
 use Rattle.mc_seats.specs.Record.{RoseAt, RoseIn}
@@ -53,26 +53,18 @@ use Rattle.mc_acts.proofs.LiftFacts.{later_same, later_set}
 -- what is found is the first with the digest
 
 module _ (w : WorldState) (r : ℕ) (cid : Cid) where
-  told_any : (peers : List Place) (kept : Kept) (found : Option (List ℕ)) → ((offers : List (Cid → PeerOffers)) → found ≡ found_among kept offers cid) → IsFound kept peers cid found
-  told_any peers kept found is = over (offers_of peers)
-    where
-      over : (offers : Option (List (Cid → PeerOffers))) → IfSome offers (λ offers. found ≡ found_among kept offers cid)
-      over None = tt
-      over (Some offers) = is offers
-
   -- own bytes with the digest
   pub own_found : (bytes : List ℕ) → HasDigest cid bytes → IsFoundFor w r (Some bytes) cid (Some bytes)
-  own_found bytes digest kept own = told_any (peers_of w r) kept (Some bytes) (λ offers.
-      sym (ap (λ (stored : Option (List ℕ)). found_bytes (offers_from stored (map (λ (peer : Cid → PeerOffers). peer cid) offers)) cid) (sym own)
-      ∙ ap (λ t. cond t (Some bytes) (find (λ bytes. bytes_eq (digest_of bytes) cid.0) (flat_map peer_list (map (λ (peer : Cid → PeerOffers). peer cid) offers)))) ((bytes_eq-Decides (digest_of bytes) cid.0).1 digest)))
+  own_found bytes digest kept own =
+      let peers = map (λ (offers : Cid → PeerOffers). offers cid) (front_offers (peers_of w r)) in
+      let first : found_bytes (offers_from (Some bytes) peers) cid ≡ Some bytes =
+      ap (λ t. cond t (Some bytes) (find (λ bytes. bytes_eq (digest_of bytes) cid.0) (flat_map peer_list peers))) ((bytes_eq-Decides (digest_of bytes) cid.0).1 digest) in
+      subst (λ (stored : Option (List ℕ)). IsFoundIn stored (peers_of w r) cid (Some bytes)) own
+      (subst (λ (x : Option (List ℕ)). Decides x (all_tell (peers_of w r)) (Some bytes)) (sym first) refl)
 
   -- or what the peers offer
   pub peers_found : (own found : Option (List ℕ)) → own ≡ None → IsOfferedBy (peers_of w r) cid found → IsFoundFor w r own cid found
-  peers_found own found none offered kept is = over (offers_of (peers_of w r)) offered
-    where
-      over : (offers : Option (List (Cid → PeerOffers))) → IfSome offers (λ offers. found ≡ found_bytes (offers_from None (map (λ (peer : Cid → PeerOffers). peer cid) offers)) cid) → IfSome offers (λ offers. found ≡ found_among kept offers cid)
-      over None is_offered = tt
-      over (Some offers) is_offered = is_offered ∙ ap (λ (stored : Option (List ℕ)). found_bytes (offers_from stored (map (λ (peer : Cid → PeerOffers). peer cid) offers)) cid) (sym none ∙ is)
+  peers_found own found none offered kept is = subst (λ (stored : Option (List ℕ)). IsFoundIn stored (peers_of w r) cid found) (sym none ∙ is) offered
 
 -- the marks and the peers are the same, whatever stands in the place of r
 

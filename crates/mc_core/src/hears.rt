@@ -50,7 +50,7 @@ impl<K: Keeper> Replica<K> {
         ensures seen { IfErr result DecidesAlone }
         ensures rest { RestSame self.old self.new }
         ensures tells { StillTells K.Keeper self.old self.new }
-        ensures wants { HearWants result (shown self.old.queue) (shown self.new.queue) }
+        ensures wants { HearWants message.now result (shown self.old.queue) (shown self.new.queue) }
         ensures queued { IfOk result (λ heard.
             IsQueued (shown self.old.queue) (shown self.new.queue) heard.queued) }
     {

@@ -1,6 +1,7 @@
 // Why a drain ended.
-ghost use Rattle.std.specs.Prelude.{◌≡◌};
+ghost use Rattle.std.specs.Prelude.{◌≡◌, None};
 ghost use Rattle.mc_keep.specs.Causes.{is_fault_kind};
+ghost use Rattle.mc_core.specs.Exact.{DecidesAlone, seen_of};
 ghost use Rattle.mc_core.specs.Refusals.{kind_of};
 ghost use Rattle.mc_drain.specs.Words.{end_by, is_keeper};
 
@@ -22,22 +23,17 @@ pub enum DrainEnd {
     Memory,
 }
 
-// Whether an error of a replica says that its keeper failed.
+// Whether an error of a running replica's call on its jobs and its walk says that its keeper failed: these are refused
+// for no block, and for nothing that the replica decides before it asks its keeper.
 pub(crate) fn is_fault(error: CoreError) -> bool
+    requires alone { DecidesAlone error }
+    requires front { seen_of error ≡ None }
     ensures { result ≡ is_fault_kind (kind_of error) }
 {
     match error {
         CoreError::KeeperFault => true,
-        CoreError::Stopped
-        | CoreError::BadKey { .. }
-        | CoreError::ValueTooLong
-        | CoreError::BlockTooLarge { .. }
-        | CoreError::PriorityFull
-        | CoreError::Clash { .. }
-        | CoreError::BadCast { .. }
-        | CoreError::NoBatch
-        | CoreError::BatchOpen
-        | CoreError::Memory => false,
+        CoreError::Memory => false,
+        _ => unreachable!(),
     }
 }
 

@@ -1,5 +1,6 @@
 pub mod ItemFacts
 pub mod FrameFacts
+mod StuckFacts
 pub mod WorkFacts
 pub mod TieFacts
 pub mod WorkTies

@@ -10,7 +10,7 @@ use Rattle.mc_base.specs.declared.counted.Counted as counted
 use Rattle.mc_model.specs.Events.{Event, GoesOn}
 use Rattle.mc_model.specs.Kept.{Kept, IsKept, processed}
 use Rattle.mc_model.specs.Live.{value}
-use Rattle.mc_model.specs.State.{blocks_of, kept_of}
+use Rattle.mc_model.specs.State.{Running, blocks_of, kept_of}
 use Rattle.mc_keep.specs.declared.fuse.Fuse.{Fuse}
 use Rattle.mc_keep.specs.declared.keeper.Keeper as keeper
 use Rattle.mc_keep.specs.Causes.{Kind, Refusal, Fault, Shortage}
@@ -38,11 +38,12 @@ use Rattle.mc_node.specs.declared.entry.Entry.{Entry}
 use Rattle.mc_node.specs.declared.note.Note.{Note}
 use Rattle.mc_node.specs.declared.note.Note.TheVariants.{Root, Made, Heard, Walked, Cleared, Halted}
 use Rattle.mc_node.specs.Entries.{AddsEntry, is_open, items_at, shown_at}
-use Rattle.mc_node.specs.Items.{is_sealed, is_sealing, is_unsealed}
+use Rattle.mc_node.specs.Items.{is_sealed, is_sealing, is_unsealed, last}
 use Rattle.mc_node.specs.Moves.{DeleteAdds, Does, NoMore, PutAdds, SeenOver, note_of, seen_by}
 use Rattle.mc_node.specs.declared.node.Seen.{Seen}
 use Rattle.mc_node.specs.Ties.{IsTied}
 use Rattle.mc_node.specs.Works.{Bounds}
+use Rattle.mc_node.proofs.SeatFacts.{begins_on}
 use Rattle.mc_node.proofs.WorkFacts.{Step, read_step}
 use Rattle.mc_node.proofs.CallFacts.{BackLaw, BreakLaw, GoLaw, LeavesAlone, MayNote, acts_of, adds_items, does_end, leaves_alone, leaves_same, seen_acts, seen_front, seen_note, some_none, stays_goes}
 
@@ -136,10 +137,22 @@ seen_ok n (Err error) P is = tt
 
 module _ {K D : Type 0} {g : keeper.Ghosts K D} {h : counted.Ghosts K} {i : counted.Ghosts D} (told : K → Option Kept) (fuse : K → Option Fuse) (own faults : K → ℕ) (quiet : K → Bool) (schedule : K → Option Schedule) where
   -- a message that was not heard leaves what is wanted
-  pub hear_leaves : (old new : Replica K D g h i) (result : Result HeardBlocks CoreError) → note_of (Some Heard) None result ≡ None → StillTellsAt told fuse old new → HearWants result (shown_queue old.queue) (shown_queue new.queue) → RestSame old new
+  pub hear_leaves : (text : List ℕ) (old new : Replica K D g h i) (result : Result HeardBlocks CoreError) → note_of (Some Heard) None result ≡ None → StillTellsAt told fuse old new → HearWants text result (shown_queue old.queue) (shown_queue new.queue) → RestSame old new
       → LeavesAlone (shown_at told fuse own faults quiet schedule old) (shown_at told fuse own faults quiet schedule new)
-  hear_leaves old new (Ok heard) none tells wants rest = absurd (some_none Heard none)
-  hear_leaves old new (Err error) none tells wants rest = leaves_alone told fuse own faults quiet schedule old new tells wants rest
+  hear_leaves text old new (Ok heard) none tells wants rest = absurd (some_none Heard none)
+  hear_leaves text old new (Err error) none tells wants rest = leaves_alone told fuse own faults quiet schedule old new tells wants rest
+
+  -- what is heard is heard between what the logs show last
+  pub hear_takes : (text : List ℕ) (limit limit2 : Bounds) (old new : Replica K D g h i) (first log log' : List (Entry K D g h i)) (result : Result HeardBlocks CoreError)
+      → IsTied limit (shown_at told fuse own faults quiet schedule old) (items_at told fuse own faults quiet schedule log) → IsTied limit2 (shown_at told fuse own faults quiet schedule new) (items_at told fuse own faults quiet schedule log')
+      → log ≡ first → is_open first ≡ true → Begins first log' → HearWants text result (shown_queue old.queue) (shown_queue new.queue)
+      → HearWants text result (last (items_at told fuse own faults quiet schedule first)).run.queue (last (items_at told fuse own faults quiet schedule log')).run.queue
+  hear_takes text limit limit2 old new first log log' result tied after is unsealed begins wants =
+      let begun = tied.moment.run (open_unsealed told fuse own faults quiet schedule first log is unsealed) in
+      let ended = after.moment.run (open_unsealed told fuse own faults quiet schedule log' log' refl (begins_on is_unsealed first log' unsealed begins)) in
+      subst (λ (l : List (Entry K D g h i)). HearWants text result (last (items_at told fuse own faults quiet schedule l)).run.queue (last (items_at told fuse own faults quiet schedule log')).run.queue) is
+      (subst (λ (run : Running). HearWants text result run.queue (last (items_at told fuse own faults quiet schedule log')).run.queue) begun
+      (subst (λ (run : Running). HearWants text result (shown_queue old.queue) run.queue) ended wants))
 
   -- a read that has begun, to its end
   pub read_ends : {A : Type 0} (go : GoLaw) (break : BreakLaw) (back : BackLaw) (Refused : ReplicaState → Option CoreError → Type 0) (P : Kept → A → Type 0) (n : ℕ) (limit : Bounds) (old new : Replica K D g h i) (first log log' : List (Entry K D g h i)) (entry : Option Note)

@@ -11,7 +11,7 @@ use Rattle.mc_fetch.specs.declared.job.Found.{Found}
 use Rattle.mc_fetch.specs.declared.job.Found.TheVariants.{Bytes, Missing}
 use Rattle.mc_keep.specs.Causes.{Kind, Refusal, Fault, Shortage, is_fault_kind}
 use Rattle.mc_keep.specs.declared.fuse.Fuse.{Fuse}
-use Rattle.mc_model.specs.Draining.{IsFoundFor, delivery}
+use Rattle.mc_model.specs.Draining.{IsFoundFor, delivery, offers_of, queue_in}
 use Rattle.mc_model.specs.Events.{Event}
 use Rattle.mc_model.specs.Kept.{Kept}
 use Rattle.mc_model.proofs.Prefix.{goes_on_then}
@@ -22,13 +22,14 @@ use Rattle.mc_core.specs.Reads.{OnlyReads}
 use Rattle.mc_core.specs.Refusals.{ByKind, is_fault, kind_of}
 use Rattle.mc_core.specs.declared.CoreError.{CoreError}
 use Rattle.mc_core.proofs.GrowthFacts.{same_goes}
-use Rattle.mc_drain.specs.Leads.{Always, FuseGoes, Leads, LeadsBy, Never, all_processes, commits_between, count}
+use Rattle.mc_drain.specs.Leads.{Always, FuseGoes, Leads, LeadsBy, all_processes, commits_between, count}
 use Rattle.mc_drain.specs.Words.{FoundFor}
 use Rattle.mc_drain.proofs.CallFacts.{delivery_processes}
 use Rattle.mc_drain.proofs.EventFacts.{broken_at}
 use Rattle.mc_drain.proofs.FuseFacts.{burns_none, burns_then, fuse_stays, longer}
 use Rattle.mc_node.specs.Ties.{IsWithin}
 use Rattle.mc_node.specs.Works.{Bounds, HasLed, IsBurnt, IsFired, IsKnown, IsUnder, WorkersLead, bound_of}
+use Rattle.mc_node.proofs.StuckFacts.{parts_from, stuck_from}
 
 some_is : {A : Type 0} (a b : A) → Some a ≡ Some b → a ≡ b
 some_is a b e = ap (λ o. unwrap_or o a) e
@@ -72,6 +73,7 @@ led_of limit failed s new w = record {
   fired = is_fired failed (commits_between failed s new) s.fuse new.fuse w.fuse;
   burnt = is_burnt failed (commits_between failed s new) s.fuse new.fuse w.fuse;
   goes = w.goes;
+  parts = λ e map kept known old start h p. stuck_from (offers_of map) (queue_in new.state.run) (w.parts e map kept known old start h (parts_from (offers_of map) (queue_in s.state.run) p));
   breaks = w.breaks;
 }
 
@@ -86,13 +88,13 @@ lead_of limit failed s new h = record {
   few = h.few;
   fuse = fuse_of failed (commits_between failed s new) s.fuse new.fuse h.no_fuse h.fired h.burnt;
   goes = h.goes;
-  parts = λ e known kept n. absurd n;
+  parts = λ e map kept known old start drained p. parts_from (offers_of map) (queue_in new.state.run) (h.parts e map kept known old start drained (stuck_from (offers_of map) (queue_in s.state.run) p));
   breaks = h.breaks;
 }
 
 -- what one call more of a worker leads to
 pub record Step (limit : Bounds) (failed : Bool) (s new : ReplicaState) : Type 0 where
-  pub leads : LeadsBy failed (count new) (IsKnown limit) Never s new
+  pub leads : Leads failed (count new) (IsKnown limit) s new
   pub few : count s ≤ bound_of limit.most (count s) → count new ≤ bound_of limit.most (count new)
 
 pub step_then : (limit : Bounds) (failed : Bool) (s mid new : ReplicaState) → WorkersLead limit false s mid → Step limit failed mid new → WorkersLead limit failed s new
@@ -101,7 +103,7 @@ step_then limit failed s mid new a b = record {
   few = b.few a.few;
   fuse = burns_then failed s mid new (longer s mid a.grows) (longer mid new b.leads.grows) a.fuse b.leads.fuse;
   goes = λ e known kept k old start h. b.leads.goes e known kept k old start (a.goes refl known kept k old start h);
-  parts = λ e known kept n. absurd n;
+  parts = λ e known kept k old start h p. b.leads.parts e known kept k old start (a.goes refl known kept k old start h) (a.parts refl known kept k old start h p);
   breaks = λ e known kept k old start h. b.leads.breaks e known kept k old start (a.goes refl known kept k old start h);
 }
 
@@ -125,7 +127,7 @@ none_leads limit s few = record {
   few = few;
   fuse = burns_none false s s refl;
   goes = λ e known kept k old start h. h;
-  parts = λ e known kept n. absurd n;
+  parts = λ e known kept k old start h p. p;
   breaks = λ e. absurd (false≢true e);
 }
 
@@ -137,7 +139,7 @@ still_step limit failed s new a = record {
     few = omega arith;
     fuse = a.fuse;
     goes = λ e known kept k. a.goes e known kept tt;
-    parts = λ e known kept n. absurd n;
+    parts = λ e known kept k. a.parts e known kept tt;
     breaks = λ e known kept k. a.breaks e known kept tt;
   };
   few = bound_still limit.most (count s) (count new) a.few;
@@ -150,6 +152,13 @@ fits_known limit known c found is fits = go found (subst (λ (m : Option Map). F
     go (Bytes bytes) f = f.1
     go Missing f = tt
 
+found_known : (limit : Bounds) (known : Map) (c : Cid) (found : Found) → limit.found ≡ Some known → FoundFits limit.found c found → known c ≡ found_in found
+found_known limit known c found is fits = go found (subst (λ (m : Option Map). FoundFits m c found) is fits)
+  where
+    go : (found : Found) → FoundFits (Some known) c found → known c ≡ found_in found
+    go (Bytes bytes) f = f.1
+    go Missing f = f
+
 -- a delivery
 pub deliver_step : (limit : Bounds) (cap : ℕ) (failed : Bool) (c : Cid) (found : Found) (s new : ReplicaState) → IsUnder limit.most cap → FoundFits limit.found c found → count s < cap
     → LeadsBy failed (count s + all_processes (delivery s.state.durable.graph c (found_in found))) (λ known kept. IsFoundFor known c (found_in found)) (FoundFor c (found_in found)) s new → Step limit failed s new
@@ -159,7 +168,7 @@ deliver_step limit cap failed c found s new under fits less a = record {
     few = omega arith;
     fuse = a.fuse;
     goes = λ e known kept k. a.goes e known kept (fits_known limit known c found k.0 fits);
-    parts = λ e known kept n. absurd n;
+    parts = λ e known kept k. a.parts e known kept (found_known limit known c found k.0 fits);
     breaks = λ e known kept k. a.breaks e known kept (fits_known limit known c found k.0 fits);
   };
   few = λ in_bound. let d = delivery_processes s.state.durable.graph c (found_in found) in let f = a.few in bound_more limit.most cap (count s) (count new) under less (omega (arith, d, f));

@@ -18,13 +18,13 @@ use Rattle.mc_core.specs.Reads.{OnlyReads, read_refusal}
 use Rattle.mc_core.specs.Counted.{capped}
 use Rattle.mc_core.specs.Events.{ReplicaState}
 use Rattle.mc_core.specs.Exact.{front_of, put_front, stop_front}
-use Rattle.mc_core.specs.Hears.{HearEvents, cast_refusal, hear_refusal, unless_short}
+use Rattle.mc_core.specs.Hears.{HearEvents, HearWants, cast_refusal, hear_refusal, unless_short}
 use Rattle.mc_core.specs.Refusals.{ByKind, Is, is_fault, key_refusal, kind_of}
 use Rattle.mc_node.specs.declared.node.Seen.{Seen}
 use Rattle.mc_node.specs.declared.note.Note.{Note}
 use Rattle.mc_node.specs.declared.note.Note.TheVariants.{Halted, Made}
 use Rattle.mc_node.specs.declared.note.Note.TheVariants as note
-use Rattle.mc_node.specs.Items.{Item, Shown, has_halted, root, state_in}
+use Rattle.mc_node.specs.Items.{Item, Shown, has_halted, last, root, state_in}
 use Rattle.mc_node.specs.Ties.{Goes, IsGrowing, IsMoment}
 
 -- the log after an entry of this kind about what is shown now
@@ -123,10 +123,11 @@ DeleteDoes key result =
     Does (Some Made) (Some Made) (λ s. DeleteRefusal s key) (λ s. DeleteEvents s key) (λ s. DeleteShort s key)
     (DeleteAdds key result) (key_refusal key) result
 
-abbrev pub HearDoes : List ℕ → Result Heard CoreError → List Item → List Item → Type 0
-HearDoes message result =
-    Does (Some note.Heard) None (λ s. Is (hear_refusal s message)) (λ s. HearEvents s message) Stays NoMore
-    (cast_refusal message) result
+-- a hearing, and over every keeper it takes some of the blocks that the message names
+pub record HearDoes (message : List ℕ) (result : Result Heard CoreError) (old new : List Item) : Type 0 where
+  pub does : Does (Some note.Heard) None (λ s. Is (hear_refusal s message)) (λ s. HearEvents s message) Stays NoMore
+      (cast_refusal message) result old new
+  pub wants : HearWants message result (last old).run.queue (last new).run.queue
 
 -- a read over what is kept
 abbrev pub ReadDoes : {A : Type 0} → (Kept → A → Type 0) → Result (Seen A) CoreError → List Item → List Item → Type 0

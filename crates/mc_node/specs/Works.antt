@@ -1,15 +1,21 @@
 -- What the calls of workers on a sealed node lead to.
-use Rattle.std.specs.Prelude.{◌≡◌, ◌≤◌, ◌+◌, ◌||◌, ℕ, Bool, true, false, List, take, length, Option, Some, None}
+use Rattle.std.specs.Prelude.{◌≡◌, ◌≤◌, ◌+◌, ◌&&◌, ◌||◌, ℕ, nat_eq, Bool, true, false, List, take, length, Option, Some}
+use Rattle.std.specs.Prelude.{None}
+use Rattle.std.specs.List.{list_any}
 use Rattle.mc_base.specs.Causes.{Rose}
 use Rattle.mc_base.specs.declared.cid.Cid.{Cid}
 use Rattle.mc_keep.specs.Causes.{has_fired}
 use Rattle.mc_keep.specs.Plan.{AreMade, Schedule, is_planned, is_planned_commit}
 use Rattle.mc_keep.specs.declared.fuse.Fuse.{Fuse}
 use Rattle.mc_fetch.specs.Fits.{Map}
-use Rattle.mc_model.specs.Draining.{HasDrained}
+use Rattle.mc_model.specs.Draining.{HasDrained, offers_of, queue_in}
+use Rattle.mc_model.specs.Found.{Damaged, Nothing, Offers}
+use Rattle.mc_model.specs.Front.{same_cid}
+use Rattle.mc_model.specs.Graph.{has}
 use Rattle.mc_model.specs.State.{Durable}
+use Rattle.mc_model.specs.Wanted.{Queue}
 use Rattle.mc_core.specs.Events.{ReplicaState}
-use Rattle.mc_drain.specs.Leads.{HasBrokenOff, LeadsBy, Never, commits_between, count}
+use Rattle.mc_drain.specs.Leads.{HasBrokenOff, Leads, commits_between, count}
 use Rattle.mc_node.specs.Items.{Shown}
 
 -- what a node is limited to: whether it may walk, how much it may process, which bytes are found, and what is stored
@@ -35,9 +41,9 @@ IsKnown limit map kept = (limit.found ≡ Some map) × (kept ≡ limit.kept)
 
 -- What workers lead to within these bounds, of whose calls the last alone may have failed: no block is lost, no more is
 -- processed than the bounds say, the fuse burns by the commits at most, and where it is known what is found, a drain
--- goes on or has broken off.
+-- goes on or has broken off, and missing and bad go on holding what their names say.
 abbrev pub WorkersLead : Bounds → Bool → ReplicaState → ReplicaState → Type 0
-WorkersLead limit failed s new = LeadsBy failed (bound_of limit.most (count new)) (IsKnown limit) Never s new
+WorkersLead limit failed s new = Leads failed (bound_of limit.most (count new)) (IsKnown limit) s new
 
 -- a fuse that was not reached, where so many commits were made
 pub record IsBurnt (most : ℕ) (old new : Fuse) : Type 0 where
@@ -50,7 +56,16 @@ pub record IsFired (failed : Bool) (most : ℕ) (old : Fuse) : Type 0 where
   pub broke : failed ≡ true
   pub reached : old.commit ≤ most
 
--- the same in a form that has one proof at most
+-- whether a block is bad with this number
+abbrev pub is_bad_as : Cid → ℕ → List (Cid × ℕ) → Bool
+is_bad_as c number bad = list_any (λ (b : Cid × ℕ). same_cid c b.0 && nat_eq number b.1) bad
+
+-- missing and bad hold what their names say, in a form that has one proof at most
+pub record StuckFit (found : Offers) (q : Queue) : Type 0 where
+  pub missing : (c : Cid) → has c q.missing ≡ true → found c ≡ Nothing
+  pub bad : (c : Cid) (number : ℕ) → is_bad_as c number q.bad ≡ true → found c ≡ Damaged number
+
+-- the same of what workers lead to
 pub record HasLed (limit : Bounds) (failed : Bool) (s new : ReplicaState) : Type 0 where
   pub order : take (length s.state.durable.order) new.state.durable.order ≡ s.state.durable.order
   pub graph : take (length s.state.durable.graph) new.state.durable.graph ≡ s.state.durable.graph
@@ -62,6 +77,9 @@ pub record HasLed (limit : Bounds) (failed : Bool) (s new : ReplicaState) : Type
   pub goes : failed ≡ false → (map : Map) (kept : List Cid) → IsKnown limit map kept →
       (old : Durable) (start : List Cid)
       → HasDrained map kept old start s.state → HasDrained map kept old start new.state
+  pub parts : failed ≡ false → (map : Map) (kept : List Cid) → IsKnown limit map kept →
+      (old : Durable) (start : List Cid) → HasDrained map kept old start s.state
+      → StuckFit (offers_of map) (queue_in s.state.run) → StuckFit (offers_of map) (queue_in new.state.run)
   pub breaks : failed ≡ true → (map : Map) (kept : List Cid) → IsKnown limit map kept →
       (old : Durable) (start : List Cid)
       → HasDrained map kept old start s.state → HasBrokenOff map old start new.state.durable

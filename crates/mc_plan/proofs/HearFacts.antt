@@ -1,6 +1,8 @@
 -- Messages that are heard.
-use Rattle.std.proofs.Common.{◌≡◌, ℕ, ◌+◌, ◌≤◌, Bool, true, false, not, cond, ◌||◌, List, [], ◌∷◌, ◌++◌, length, map, filter, Option, Some, None, Result, Ok, Err, refl, sym, ◌∙◌, ap, subst, arith}
-use Rattle.std.specs.Prelude.{IfSome, IfOk, IfErr, OnOk, OnErr}
+use Rattle.std.proofs.Common.{◌≡◌, ℕ, suc, ◌+◌, ◌≤◌, ◌<◌, Bool, true, false, not, cond, ◌||◌, List, [], ◌∷◌, ◌++◌, get_or, length, map, filter, take, Option, Some, None, Result, Ok, Err, refl, sym, ◌∙◌, ap, subst, inl, inr, arith}
+use Rattle.std.specs.Prelude.{◌⊎◌, IfSome, IfOk, IfErr, OnOk, OnErr}
+use Rattle.std.proofs.Math.Seq.{take-suc}
+use Rattle.std.proofs.lemmas.List.Elements.{filter-append}
 use Rattle.mc_base.specs.Told.{Told}
 use Rattle.mc_base.specs.declared.cid.Cid.{Cid}
 use Rattle.mc_wire.specs.Named.{fault_named}
@@ -27,7 +29,7 @@ use Rattle.mc_plan.specs.declared.error.CoreError.TheVariants.{BadCast}
 use Rattle.mc_plan.specs.declared.hears.Heard.{Heard}
 use Rattle.mc_plan.specs.Counted.{AreSound, run_of}
 use Rattle.mc_plan.specs.Events.{ReplicaState, state_of}
-use Rattle.mc_plan.specs.Hears.{HearEvents, IsQueued, IsRefusalOf, NamesNew, cast_refusal, fault_as, hear_refusal}
+use Rattle.mc_plan.specs.Hears.{AreSome, HearEvents, IsQueued, IsRefusalOf, NamesNew, cast_refusal, fault_as, hear_refusal}
 use Rattle.mc_plan.specs.Refusals.{Is}
 use Rattle.mc_plan.proofs.CallFacts.{at, Calls}
 use Rattle.mc_plan.proofs.SoundFacts.{silent_sound, sound_state, state_sound}
@@ -110,6 +112,42 @@ all_wait_more order q (c ∷ cids) = omega (arith, waits_more order q c, all_wai
 
 pub waits_on : (q left : Queue) (cids : List Cid) → left ≡ hear_all [] q cids → length q.waiting ≤ length left.waiting
 waits_on q left cids is = subst (λ (r : Queue). length q.waiting ≤ length r.waiting) (sym is) (all_wait_more [] q cids)
+
+-- ---- which blocks of a message are heard
+
+-- one more, which is left out, or is the last of them
+left_out : (cids some : List Cid) (c : Cid) → AreSome cids some → AreSome (cids ++ c ∷ []) some
+left_out [] some c is = inl is
+left_out (d ∷ cids) some c (inl is) = inl (left_out cids some c is)
+left_out (d ∷ cids) some c (inr is) = inr (is.0, is.1, left_out cids is.0 c is.2)
+
+comes_last : (cids some : List Cid) (c : Cid) → AreSome cids some → AreSome (cids ++ c ∷ []) (some ++ c ∷ [])
+comes_last [] some c is = inr ([], ap (λ (l : List Cid). l ++ c ∷ []) is, refl)
+comes_last (d ∷ cids) some c (inl is) = inl (comes_last cids some c is)
+comes_last (d ∷ cids) some c (inr is) = inr (is.0 ++ c ∷ [], ap (λ (l : List Cid). l ++ c ∷ []) is.1, comes_last cids is.0 c is.2)
+
+module _ (cids old new : List Cid) (i : ℕ) (d : Cid) (within : i < length cids) where
+  taken : take i cids ++ get_or cids i d ∷ [] ≡ take (i + 1) cids
+  taken = sym (take-suc cids i d within) ∙ ap (λ (n : ℕ). take n cids) (let next : suc i ≡ i + 1 = omega arith in next)
+
+  pub some_more : AreSome (take i cids) old → (new ≡ old) ⊎ (new ≡ old ++ get_or cids i d ∷ []) → AreSome (take (i + 1) cids) new
+  some_more some more = subst (λ (l : List Cid). AreSome l new) taken (by_case more)
+    where
+      by_case : (new ≡ old) ⊎ (new ≡ old ++ get_or cids i d ∷ []) → AreSome (take i cids ++ get_or cids i d ∷ []) new
+      by_case (inl is) = subst (AreSome (take i cids ++ get_or cids i d ∷ [])) (sym is) (left_out (take i cids) old (get_or cids i d) some)
+      by_case (inr is) = subst (AreSome (take i cids ++ get_or cids i d ∷ [])) (sym is) (comes_last (take i cids) old (get_or cids i d) some)
+
+  -- and what is not processed, where that is told
+  pub new_more : (told told_now : Option Kept) → told_now ≡ told → IfSome told (λ kept. old ≡ filter (λ c. not (has c kept.order)) (take i cids))
+      → IfSome told_now (λ kept. new ≡ old ++ filter (λ c. not (has c kept.order)) (get_or cids i d ∷ [])) → IfSome told (λ kept. new ≡ filter (λ c. not (has c kept.order)) (take (i + 1) cids))
+  new_more told told_now same so_far more = over told so_far (subst (λ t. IfSome t (λ kept. new ≡ old ++ filter (λ c. not (has c kept.order)) (get_or cids i d ∷ []))) same more)
+    where
+      over : (told : Option Kept) → IfSome told (λ kept. old ≡ filter (λ c. not (has c kept.order)) (take i cids)) → IfSome told (λ kept. new ≡ old ++ filter (λ c. not (has c kept.order)) (get_or cids i d ∷ []))
+          → IfSome told (λ kept. new ≡ filter (λ c. not (has c kept.order)) (take (i + 1) cids))
+      over None so_far more = tt
+      over (Some kept) so_far more =
+          more ∙ ap (λ (l : List Cid). l ++ filter (λ c. not (has c kept.order)) (get_or cids i d ∷ [])) so_far
+          ∙ sym (filter-append (λ c. not (has c kept.order)) (take i cids) (get_or cids i d ∷ [])) ∙ ap (filter (λ c. not (has c kept.order))) taken
 
 -- ---- a call that hears
 

@@ -1,5 +1,5 @@
 -- What a replica hears of a message, and what it broadcasts.
-use Rattle.std.specs.Prelude.{◌≡◌, ⊤, ℕ, ◌+◌, not, List, [], ◌∷◌, length, filter, Option, Some, None, Result, Ok, Err}
+use Rattle.std.specs.Prelude.{◌≡◌, ◌⊎◌, ⊤, ℕ, ◌+◌, not, List, [], ◌∷◌, length, filter, Option, Some, None, Result, Ok, Err}
 use Rattle.std.specs.Option.{option_map}
 use Rattle.mc_base.specs.WireRead as read
 use Rattle.mc_base.specs.WireRead.{WireFault, fronts_from}
@@ -82,7 +82,19 @@ pub record NamesNew (text : List ℕ) (order new : List Cid) : Type 0 where
   pub named : IsCast text (digests_of cids)
   pub new_ones : new ≡ filter (λ c. not (has c order)) cids
 
--- what is wanted after a message, over every keeper: some blocks were heard, or it is the same as before
-abbrev pub HearWants : {T : Type 0} → Result T CoreError → Queue → Queue → Type 0
-HearWants (Ok heard) q left = (new : List Cid) × (left ≡ hear_all [] q new)
-HearWants (Err error) q left = left ≡ q
+-- some of a list, in its order: each one is among them, or left out
+abbrev pub AreSome : List Cid → List Cid → Type 0
+AreSome [] some = some ≡ []
+AreSome (c ∷ cids) some = AreSome cids some ⊎ ((rest : List Cid) × (some ≡ c ∷ rest) × AreSome cids rest)
+
+-- these are some of the blocks that the message names, in its order
+pub record NamesSome (text : List ℕ) (some : List Cid) : Type 0 where
+  pub cids : List Cid
+  pub named : IsCast text (digests_of cids)
+  pub are_some : AreSome cids some
+
+-- what is wanted after a message, over every keeper: some of the blocks that it names were heard, or it is the same as
+-- before
+abbrev pub HearWants : {T : Type 0} → List ℕ → Result T CoreError → Queue → Queue → Type 0
+HearWants text (Ok heard) q left = (new : List Cid) × NamesSome text new × (left ≡ hear_all [] q new)
+HearWants text (Err error) q left = left ≡ q

@@ -8,7 +8,7 @@ ghost use Rattle.mc_cast.specs.Steps.{digests_of};
 ghost use Rattle.mc_model.specs.Wanted.{hear_all};
 ghost use Rattle.mc_queue.specs.Views.{shown, spare};
 ghost use Rattle.mc_plan.specs.Exact.{front_of};
-ghost use Rattle.mc_plan.specs.Hears.{IsQueued, IsRefusalOf, NamesNew};
+ghost use Rattle.mc_plan.specs.Hears.{IsQueued, IsRefusalOf, NamesNew, NamesSome};
 ghost use Rattle.mc_plan.specs.Hears.{cast_refusal, unless_short, written_cast};
 ghost use Rattle.mc_plan.specs.Refusals.{Is, IsDue, is_fault};
 
@@ -55,6 +55,7 @@ pub fn read_new<K: Keeper>(
     message: &[u8],
 ) -> Result<List<Cid>, CoreError>
     ensures new { IfTold (K.told keeper.old) result (λ kept new. NamesNew message.now kept.order new) }
+    ensures some { IfOk result (NamesSome message.now) }
     ensures allowed { OnOk result (cast_refusal message.now ≡ None) }
     ensures front { front_of result ≡ unless_short result (cast_refusal message.now) }
     ensures refused { IfErr result (IsDue (Is (cast_refusal message.now))) }

@@ -1,11 +1,12 @@
 // What a replica wants.
-ghost use Rattle.std.specs.Prelude.{◌≡◌, ◌≤◌, ◌++◌, ◌∷◌, [], length, filter, not, OnOk};
+ghost use Rattle.std.specs.Prelude.{◌≡◌, ◌≤◌, ◌⊎◌, ◌++◌, ◌∷◌, [], length, filter, not, IfOk, OnOk};
 ghost use Rattle.std.specs.Result.{is_err};
 ghost use Rattle.mc_keep.specs.Calls.{Reads};
 ghost use Rattle.mc_keep.specs.Causes.{IfTold};
 ghost use Rattle.mc_keep.specs.Plan.{is_fault};
 ghost use Rattle.mc_model.specs.Graph.{has};
 ghost use Rattle.mc_queue.specs.Views.{shown, spare};
+ghost use Rattle.mc_plan.specs.Hears.{AreSome};
 ghost use Rattle.mc_plan.specs.Uptakes.{open_links, wants};
 
 use crate::made::is_processed;
@@ -74,15 +75,31 @@ pub(crate) fn unprocessed<K: Keeper>(
 ) -> Result<List<Cid>, KeepError>
     ensures left { IfTold (K.told keeper.old) result (λ kept left.
         left ≡ filter (λ c. not (has c kept.order)) cids.now) }
+    ensures some { IfOk result (AreSome cids.now) }
     ensures reads { Reads K.Keeper (is_fault result) keeper.old keeper.new }
 {
     let mut left = List::new(alloc);
     for cid in cids {
-        if is_unprocessed(keeper, cid)? {
-            add(&mut left, *cid)?;
-        }
+        add_unprocessed(keeper, &mut left, cid)?;
     }
     Ok(left)
+}
+
+// The block comes behind these, where it is not processed.
+fn add_unprocessed<K: Keeper>(
+    keeper: &mut K,
+    left: &mut List<Cid>,
+    cid: &Cid,
+) -> Result<(), KeepError>
+    ensures left { IfTold (K.told keeper.old) result (λ kept done.
+        left.new ≡ left.old ++ filter (λ c. not (has c kept.order)) (cid.now ∷ [])) }
+    ensures some { OnOk result ((left.new ≡ left.old) ⊎ (left.new ≡ left.old ++ cid.now ∷ [])) }
+    ensures reads { Reads K.Keeper (is_fault result) keeper.old keeper.new }
+{
+    if is_unprocessed(keeper, cid)? {
+        add(left, *cid)?;
+    }
+    Ok(())
 }
 
 fn is_unprocessed<K: Keeper>(keeper: &mut K, cid: &Cid) -> Result<bool, Failed>

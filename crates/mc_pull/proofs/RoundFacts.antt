@@ -9,7 +9,7 @@ use Rattle.mc_model.specs.Draining.{bytes_in}
 use Rattle.mc_model.specs.Graph.{has}
 use Rattle.mc_core.specs.Events.{ReplicaState}
 use Rattle.mc_drain.specs.Finds.{found_from}
-use Rattle.mc_drain.specs.Leads.{LeadsBy, Never, count, up_to}
+use Rattle.mc_drain.specs.Leads.{Leads, count, up_to}
 use Rattle.mc_drain.specs.Rounds.{FindsFrom}
 use Rattle.mc_drain.proofs.GoOnFacts.{leads_itself}
 use Rattle.mc_drain.proofs.WorkFacts.{BeginsLaw, begun}
@@ -27,7 +27,7 @@ unled limit stopped a b same up within = subst (λ (o : Option ReplicaState). To
   where
     still : (a : Option ReplicaState) → IsWithin limit.most a → Told a a (λ s new. WorkersLead limit false s new)
     still None within = tt
-    still (Some s) within = leads_itself (bound_of limit.most (count s)) (IsKnown limit) Never s (at_least limit.most s within)
+    still (Some s) within = leads_itself (bound_of limit.most (count s)) (IsKnown limit) (IsKnown limit) s (at_least limit.most s within)
 
 is_same : (s x : ReplicaState) → Some s ≡ Some x → s ≡ x
 is_same s x e = ap (λ (o : Option ReplicaState). unwrap_or o s) e
@@ -74,7 +74,7 @@ all_fit begins told limit offers a fetches same = λ k d less.
 
 -- what a round leads to, where the keeper tells
 pub round_told : (limit : ℕ) (offers : Option Map) (failed : Bool) (a b : Option ReplicaState) → Told a b (λ s new. WorkersLead (bounds_of limit offers a) failed s new)
-    → Told a b (λ s new. LeadsBy failed (up_to limit s) (FindsFrom offers s.state.durable.graph) Never s new)
+    → Told a b (λ s new. Leads failed (up_to limit s) (FindsFrom offers s.state.durable.graph) s new)
 round_told limit offers failed None b leads = tt
 round_told limit offers failed (Some s) None leads = absurd leads
 round_told limit offers failed (Some s) (Some new) leads = leads

@@ -34,13 +34,13 @@ worked_from : (failed : Bool) (before budget limit : ℕ) (offers : Option Map) 
 worked_from failed before budget limit offers s mid is at led = record { counted = at; leads = subst (λ (n : ℕ). Led failed n offers s mid) is led }
 
 -- what was missing and bad was requeued before the round
-pub requeued_led : (failed : Bool) (limit : ℕ) (offers : Option Map) (a r m : Option ReplicaState) → Told a r (λ s new. Leads false (count s) Always s new) → Told a r (λ s new. new.state.durable ≡ s.state.durable) → Told r m (λ s new. Led failed limit offers s new)
+pub requeued_led : (failed : Bool) (limit : ℕ) (offers : Option Map) (a r m : Option ReplicaState) → Told a r (λ s new. Leads false (count s) Always s new) → Told a r (λ s new. new.state.durable ≡ s.state.durable) → Told r m (λ s new. Leads failed (up_to limit s) (FindsFrom offers s.state.durable.graph) s new)
     → Told a m (λ s new. Led failed limit offers s new)
 requeued_led failed limit offers None r m first same led = tt
 requeued_led failed limit offers (Some s) None m first same led = absurd first
 requeued_led failed limit offers (Some s) (Some mid) None first same led = absurd led
 requeued_led failed limit offers (Some s) (Some mid) (Some new) first same led =
-    leads_go_on failed (count s) (up_to limit mid) (up_to limit s) (FindsFrom offers s.state.durable.graph) (FindsFrom offers mid.state.durable.graph) Never s mid new begun led (let e = ap (λ (d : Durable). length d.order) same in omega (arith, e))
+    leads_go_on failed (count s) (up_to limit mid) (up_to limit s) (FindsFrom offers s.state.durable.graph) (FindsFrom offers mid.state.durable.graph) (FindsFrom offers mid.state.durable.graph) s mid new begun led (let e = ap (λ (d : Durable). length d.order) same in omega (arith, e))
     (λ map kept old start p h. subst (λ (d : Durable). FindsFrom offers d.graph map kept) (sym same) p)
   where
     begun : LeadsBy false (count s) (FindsFrom offers s.state.durable.graph) Never s mid

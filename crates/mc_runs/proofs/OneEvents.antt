@@ -1,5 +1,5 @@
 -- What a command that has one outcome makes: its events and its reply are those of its world alone.
-use Rattle.std.proofs.Common.{◌≡◌, ℕ, Bool, true, false, true≢false, List, [], ◌∷◌, length, map, Option, Some, None, Result, Ok, Err, refl, sym, ◌∙◌, ap, subst, inl, inr, arith}
+use Rattle.std.proofs.Common.{◌≡◌, ℕ, Bool, true, false, ◌&&◌, true≢false, List, [], ◌∷◌, length, map, Option, Some, None, Result, Ok, Err, refl, sym, ◌∙◌, ap, subst, inl, inr, arith}
 use Rattle.std.specs.Prelude.{◌⊎◌, IfSome, is_ok, is_some, unwrap_or}
 use Rattle.std.specs.List.{AllByRecursion}
 use Rattle.std.specs.Option.{option_map}
@@ -15,7 +15,7 @@ use Rattle.mc_model.specs.Batch.{is_empty_batch}
 use Rattle.mc_model.specs.Draining.{delivery, queue_in}
 use Rattle.mc_model.specs.Events.{Event, Hear as HearOf, Want}
 use Rattle.mc_model.specs.Found.{PeerOffers, damage_number}
-use Rattle.mc_model.specs.Kept.{Kept}
+use Rattle.mc_model.specs.Kept.{Kept, bytes_at}
 use Rattle.mc_model.specs.Offer.{Damage, offer}
 use Rattle.mc_model.specs.State.{Durable, OpenBatch, Running, durable_of, kept_of}
 use Rattle.mc_model.specs.Wanted.{hear_all}
@@ -37,7 +37,7 @@ use Rattle.mc_seats.specs.Asks.{message_at}
 use Rattle.mc_seats.specs.Calling.{Finds, Makes, Outcome, batch_priority, outcome_of}
 use Rattle.mc_seats.specs.Doing.{At, Calls, Doing, Hears, Steps, doing}
 use Rattle.mc_seats.specs.Effects.{events_by, happens_by}
-use Rattle.mc_seats.specs.Fetching.{IsFound, IsStepReply, StepEvents, StepsWith, found_among, offers_of}
+use Rattle.mc_seats.specs.Fetching.{Decides, IsFound, IsStepReply, StepEvents, StepsWith, all_tell, first_in_front, offers_of}
 use Rattle.mc_seats.specs.Worlds.{Place, WorldState, peer_row, peers_of, picked, state_at}
 use Rattle.mc_runs.specs.OneText.{AreOpen, IsOpen, has_one_outcome}
 use Rattle.mc_runs.proofs.OneDeletes.{deltas_one}
@@ -171,9 +171,9 @@ all_picked P (mark ∷ marks) [] all = tt
 all_picked P (true ∷ marks) (p ∷ places) all = (all.0, all_picked P marks places all.1)
 all_picked P (false ∷ marks) (p ∷ places) all = all_picked P marks places all.1
 
-open_told : (places : List Place) → AllByRecursion IsOpen places → AllByRecursion (λ (p : Place). is_some p.content ≡ true) places
-open_told [] all = tt
-open_told (p ∷ places) all = (all.0.told, open_told places all.1)
+all_told : (places : List Place) → AllByRecursion IsOpen places → all_tell places ≡ true
+all_told [] all = refl
+all_told (p ∷ places) all = ap (λ b. b && all_tell places) all.0.told ∙ all_told places all.1
 
 place_told : (planted : List Planted) (content : Option Kept) → is_some content ≡ true → (first : Cid → PeerOffers) × (option_map (offers_at planted) content ≡ Some first)
 place_told planted None told = absurd (true≢false (sym told))
@@ -186,12 +186,15 @@ offers_told (p ∷ places) all =
     let rest = offers_told places all.1 in
     (first.0 ∷ rest.0, λ i. onto_peers (first.1 i) (rest.1 i))
 
+decides_one : (front found found2 : Option (List ℕ)) → Decides front true found → Decides front true found2 → found ≡ found2
+decides_one None found found2 is is2 = is ∙ sym is2
+decides_one (Some bytes) found found2 is is2 = is ∙ sym is2
+
 found_one : (kept : Kept) (places : List Place) (cid : Cid) (found found2 : Option (List ℕ)) → AllByRecursion IsOpen places → IsFound kept places cid found → IsFound kept places cid found2 → found ≡ found2
 found_one kept places cid found found2 all is is2 =
-    let told = offers_told places (open_told places all) in
-    let one : found ≡ found_among kept told.0 cid = subst (λ (o : Option (List (Cid → PeerOffers))). IfSome o (λ offers. found ≡ found_among kept offers cid)) told.1 is in
-    let two : found2 ≡ found_among kept told.0 cid = subst (λ (o : Option (List (Cid → PeerOffers))). IfSome o (λ offers. found2 ≡ found_among kept offers cid)) told.1 is2 in
-    one ∙ sym two
+    let front = first_in_front (bytes_at kept.graph cid) places cid in
+    let told = all_told places all in
+    decides_one front found found2 (subst (λ b. Decides front b found) told is) (subst (λ b. Decides front b found2) told is2)
 
 -- what is answered for a job
 

@@ -35,7 +35,7 @@ use Rattle.mc_runs.proofs.OneEvents.{BackLaw, IsOnePlace, both_happen, made_by, 
 
 -- what it makes of its place
 
-split_done : (w : WorldState) (d : Doing) (p q : Place) (reply : Reply) → made_by d ≡ true → done_by w d p q reply → exact_by d p q reply × happens_by w d p q reply
+split_done : (w : WorldState) (d : Doing) (p q : Place) (reply : Reply) → made_by d ≡ true → done_by w d p q reply → exact_by w d p q reply × happens_by w d p q reply
 split_done w (At r (Calls call)) p q reply made h = h
 split_done w (At r (Hears message)) p q reply made h = h
 split_done w (At r Steps) p q reply made h = h
@@ -46,17 +46,17 @@ calls_planted Nothing call p q reply h = ap (λ (x : Place). x.planted) h.0
 calls_planted (Batches B) call p q reply h = h.0.planted_same
 calls_planted (Blocks B) call p q reply h = h.0.planted_same
 
-exact_planted : (d : Doing) (p q : Place) (reply : Reply) → exact_by d p q reply → q.planted ≡ p.planted
-exact_planted (At r (Calls call)) p q reply h = calls_planted call.reach call p q reply h
-exact_planted (At r (Hears message)) p q reply h = h.0.planted_same
-exact_planted (At r Steps) p q reply h = h.0.planted_same
-exact_planted d p q reply h = absurd h
+exact_planted : (w : WorldState) (d : Doing) (p q : Place) (reply : Reply) → exact_by w d p q reply → q.planted ≡ p.planted
+exact_planted w (At r (Calls call)) p q reply h = calls_planted call.reach call p q reply h
+exact_planted w (At r (Hears message)) p q reply h = h.0.planted_same
+exact_planted w (At r Steps) p q reply h = h.0.planted_same
+exact_planted w d p q reply h = absurd h
 
 made_place : (back : BackLaw) (w : WorldState) (command : Command) (p q q2 : Place) (reply reply2 : Reply) → AreOpen w → has_one_outcome command ≡ true → made_by (doing command) ≡ true → IsOpen p → DoneAt w command p q reply → DoneAt w command p q2 reply2 → IsOnePlace q q2 reply reply2
 made_place back w command p q q2 reply reply2 all one made open_p h h2 =
     let a = split_done w (doing command) p q reply made h in
     let b = split_done w (doing command) p q2 reply2 made h2 in
-    both_happen back w (doing command) p q q2 reply reply2 open_p (λ s. made_one w s command all one made) (exact_planted (doing command) p q reply a.0) (exact_planted (doing command) p q2 reply2 b.0) a.1 b.1
+    both_happen back w (doing command) p q q2 reply reply2 open_p (λ s. made_one w s command all one made) (exact_planted w (doing command) p q reply a.0) (exact_planted w (doing command) p q2 reply2 b.0) a.1 b.1
 
 -- what is made of a place without a call
 

@@ -12,7 +12,7 @@ use Rattle.mc_drain.specs.declared.working.Worked.TheVariants as worked
 use Rattle.mc_script.specs.declared.command.Command.{Command}
 use Rattle.mc_script.specs.declared.reply.Reply.{Reply}
 use Rattle.mc_script.specs.declared.reply.Reply.TheVariants.{Idle, Processed, Missing, Bad}
-use Rattle.mc_seats.specs.Asks.{among_by, focus_by, has_message, is_there}
+use Rattle.mc_seats.specs.Asks.{among_by, focus_by, has_message, is_there, message_at}
 use Rattle.mc_seats.specs.Calling.{Batches, Blocks, Calling, Nothing, Reach}
 use Rattle.mc_seats.specs.Doing.{Act, At, Calls, Casts, Compares, Doing, Hears, Links, Repairs, Sends, Steps, Storms, Tends, Works, doing}
 use Rattle.mc_seats.specs.Effects.{CallsAt, HearsSome, IsIdle, IsReply, done_by, open_reply, refused_by, stop_reply}
@@ -24,10 +24,10 @@ use Rattle.mc_runs.proofs.TendFacts.{IsTended, SaysPlainly, is_plain, says_plain
 use Rattle.mc_seats.proofs.SeatFacts.{first}
 use Rattle.mc_runs.proofs.WrittenFacts.{at_there}
 
-hears_plainly : (old new : Option Running) (reply : Reply) → HearsSome old new reply → is_plain reply ≡ true
-hears_plainly None new reply h = absurd h
-hears_plainly (Some old) None reply h = absurd h
-hears_plainly (Some old) (Some new) reply h = ap is_plain h.2
+hears_plainly : (text : List ℕ) (old new : Option Running) (reply : Reply) → HearsSome text old new reply → is_plain reply ≡ true
+hears_plainly text None new reply h = absurd h
+hears_plainly text (Some old) None reply h = absurd h
+hears_plainly text (Some old) (Some new) reply h = ap is_plain h.says
 
 idles_plainly : (run : Option Running) (reply : Reply) → IsIdle run reply → is_plain reply ≡ true
 idles_plainly run Idle h = refl
@@ -56,7 +56,7 @@ plainly : (w : WorldState) (d : Doing) (reply : Reply) (w2 : WorldState) → Say
 plainly w (At r (Calls call)) reply w2 plain is moved says around = reach_plainly call.reach call moved.old moved.new reply plain moved.holds.0
 plainly w (At r (Tends tending)) reply w2 plain is moved says around = is.plain moved.old moved.new reply moved.holds
 plainly w (At r Casts) reply w2 plain is moved says around = ap is_plain around.numbered
-plainly w (At r (Hears message)) reply w2 plain is moved says around = hears_plainly moved.old.run moved.new.run reply moved.holds.0.2
+plainly w (At r (Hears message)) reply w2 plain is moved says around = hears_plainly (message_at w.around.bag message) moved.old.run moved.new.run reply moved.holds.0.2
 plainly w (At r Steps) reply w2 plain is moved says around = idles_plainly moved.old.run reply moved.holds.0.1
 plainly w (At r (Works budget)) reply w2 plain is moved says around = ap is_plain moved.holds.says ∙ works_plainly moved.holds.value
 plainly w (At r Repairs) reply w2 plain is moved says around = ap is_plain moved.holds.says ∙ repairs_plainly moved.holds.value

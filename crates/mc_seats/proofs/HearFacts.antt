@@ -18,7 +18,7 @@ use Rattle.mc_core.specs.Calls.{Call, Stays}
 use Rattle.mc_core.specs.Counted.{run_of}
 use Rattle.mc_core.specs.Events.{ReplicaState}
 use Rattle.mc_core.specs.Exact.{DecidesAlone, RestSame, seen_of, stop_front}
-use Rattle.mc_core.specs.Hears.{HearEvents, HearWants, IsQueued, cast_refusal, hear_refusal, unless_short, written_cast}
+use Rattle.mc_core.specs.Hears.{HearEvents, HearWants, IsQueued, NamesSome, cast_refusal, hear_refusal, unless_short, written_cast}
 use Rattle.mc_core.specs.Reads.{OnlyReads, read_refusal}
 use Rattle.mc_core.specs.Refusals.{ByKind, Is, kind_of}
 use Rattle.mc_core.specs.Replica.{running_of}
@@ -65,7 +65,7 @@ module _ {K D : Type 0} {g : keeper.Ghosts K D} {h : counted.Ghosts K} {i : coun
       (subst (λ (text : List ℕ). Acts k (HearDue text) (λ s. HearEvents s text) Stays (no_heard error) old new) (sym here) call)
 
   pub hear_err : (error : CoreError) (result : Result Reply ActError) → result ≡ answer_of error → Continues k (is_fault_kind (kind_of error)) old new → DecidesAlone error → RestSame old new → StillTells k old new
-      → HearWants {T = Heard} (Err error) (running_of old).queue (running_of new).queue → seen_of error ≡ stop_front old.stopped (unless_short {T = Heard} (Err error) (cast_refusal text))
+      → HearWants {T = Heard} text (Err error) (running_of old).queue (running_of new).queue → seen_of error ≡ stop_front old.stopped (unless_short {T = Heard} (Err error) (cast_refusal text))
       → Acts k (HearDue text) (λ s. HearEvents s text) Stays (no_heard error) old new
       → SeatActsIn k Where (Hear r message) result x (up new x.planted)
   hear_err error result answered keeps alone rest tells wants front call = of_seat k Where (Hear r message) result x old new held
@@ -81,15 +81,15 @@ module _ {K D : Type 0} {g : keeper.Ghosts K D} {h : counted.Ghosts K} {i : coun
       (state_at (place k (up old []))) (state_at (place k (up new []))) (Rose (k.own old.keeper) (k.own new.keeper))
       (subst (λ (text : List ℕ). Acts k (HearDue text) (λ s. HearEvents s text) Stays (Ok heard) old new) (sym here) call)
 
-  hear_exact : (heard : Heard) → RestSame old new → StillTells k old new → HearWants (Ok heard) (running_of old).queue (running_of new).queue → IsQueued (running_of old).queue (running_of new).queue heard.queued
-      → Exact (Hear r message) (placed (k.told old.keeper) (k.fuse old.keeper) false (running_of old) x.planted) (placed (k.told new.keeper) (k.fuse new.keeper) false (running_of new) x.planted) (Queued heard.queued)
-  hear_exact heard rest tells wants queued = (
+  hear_exact : (w : WorldState) → Where w → (heard : Heard) → RestSame old new → StillTells k old new → HearWants text (Ok heard) (running_of old).queue (running_of new).queue → IsQueued (running_of old).queue (running_of new).queue heard.queued
+      → Exact w (Hear r message) (placed (k.told old.keeper) (k.fuse old.keeper) false (running_of old) x.planted) (placed (k.told new.keeper) (k.fuse new.keeper) false (running_of new) x.planted) (Queued heard.queued)
+  hear_exact w here heard rest tells wants queued = (
     record { run_on = (rest.walk_same, rest.whole_same, rest.batch_same); silent = λ e. tells.told_same ∙ e; planted_same = refl },
     (tells.told_same, tells.fuse_same),
-    (heard.queued, wants.0, refl, wants.1, queued),
+    record { count = heard.queued; cids = wants.0; some = subst (λ (t : List ℕ). NamesSome t wants.0) (sym here) wants.1; says = refl; wants = wants.2; queued = queued },
   )
 
-  pub hear_ok : (heard : Heard) → Continues k false old new → RestSame old new → StillTells k old new → HearWants (Ok heard) (running_of old).queue (running_of new).queue
+  pub hear_ok : (heard : Heard) → Continues k false old new → RestSame old new → StillTells k old new → HearWants text (Ok heard) (running_of old).queue (running_of new).queue
       → IsQueued (running_of old).queue (running_of new).queue heard.queued → None ≡ stop_front old.stopped (cast_refusal text)
       → Acts k (HearDue text) (λ s. HearEvents s text) Stays (Ok heard) old new
       → SeatActsIn k Where (Hear r message) (Ok (Queued heard.queued)) x (up new x.planted)
@@ -97,14 +97,14 @@ module _ {K D : Type 0} {g : keeper.Ghosts K D} {h : counted.Ghosts K} {i : coun
       (ok_acts k Where (Hear r message) refl old new x.planted (Queued heard.queued) keeps refl
       (λ w here. subst (λ (text : List ℕ). None ≡ stop_front old.stopped (cast_refusal text)) (sym here) front)
       (hear_call_ok heard call)
-      (λ w stop stop2 happens. (at_stops stop stop2 (hear_exact heard rest tells wants queued), happens)))
+      (λ w here stop stop2 happens. (at_stops w stop stop2 (hear_exact w here heard rest tells wants queued), happens)))
     where
-      at_stops : old.stopped ≡ false → new.stopped ≡ false
-          → Exact (Hear r message) (placed (k.told old.keeper) (k.fuse old.keeper) false (running_of old) x.planted) (placed (k.told new.keeper) (k.fuse new.keeper) false (running_of new) x.planted) (Queued heard.queued)
-          → Exact (Hear r message) (place k (up old x.planted)) (place k (up new x.planted)) (Queued heard.queued)
-      at_stops stop stop2 exact =
-          subst (λ b. Exact (Hear r message) (placed (k.told old.keeper) (k.fuse old.keeper) b (running_of old) x.planted) (place k (up new x.planted)) (Queued heard.queued)) (sym stop)
-          (subst (λ b. Exact (Hear r message) (placed (k.told old.keeper) (k.fuse old.keeper) false (running_of old) x.planted) (placed (k.told new.keeper) (k.fuse new.keeper) b (running_of new) x.planted) (Queued heard.queued)) (sym stop2) exact)
+      at_stops : (w : WorldState) → old.stopped ≡ false → new.stopped ≡ false
+          → Exact w (Hear r message) (placed (k.told old.keeper) (k.fuse old.keeper) false (running_of old) x.planted) (placed (k.told new.keeper) (k.fuse new.keeper) false (running_of new) x.planted) (Queued heard.queued)
+          → Exact w (Hear r message) (place k (up old x.planted)) (place k (up new x.planted)) (Queued heard.queued)
+      at_stops w stop stop2 exact =
+          subst (λ b. Exact w (Hear r message) (placed (k.told old.keeper) (k.fuse old.keeper) b (running_of old) x.planted) (place k (up new x.planted)) (Queued heard.queued)) (sym stop)
+          (subst (λ b. Exact w (Hear r message) (placed (k.told old.keeper) (k.fuse old.keeper) false (running_of old) x.planted) (placed (k.told new.keeper) (k.fuse new.keeper) b (running_of new) x.planted) (Queued heard.queued)) (sym stop2) exact)
 
 pub hear_down : {K D : Type 0} {g : keeper.Ghosts K D} {h : counted.Ghosts K} {i : counted.Ghosts D} (k : Members K D) (text : List ℕ) (x : Seat K D g h i) (idle : Idle K D g h i) → x.held ≡ Down idle → HearActs k text (Ok Stopped) x x
 hear_down k text x idle is = λ r message. down_acts k (λ w. message_at w.around.bag message ≡ text) (Hear r message) refl x idle is

@@ -1,5 +1,5 @@
 -- What is asked of peers, one after another.
-use Rattle.std.proofs.Common.{◌≡◌, ℕ, zero, suc, ◌+◌, ◌-◌, ◌^◌, ◌≤◌, ◌<◌, arith, Bool, true, false, List, [], ◌∷◌, ◌++◌, append-nil, get_or, length, map, set, drop, Option, Some, None, Result, Ok, Err, refl, sym, ap, ◌∙◌, subst}
+use Rattle.std.proofs.Common.{◌≡◌, ℕ, zero, suc, ◌+◌, ◌-◌, ◌^◌, ◌≤◌, ◌<◌, arith, Bool, true, false, ◌&&◌, List, [], ◌∷◌, ◌++◌, append-nil, get_or, length, map, set, drop, Option, Some, None, Result, Ok, Err, refl, sym, ap, ◌∙◌, subst}
 use Rattle.std.specs.Prelude.{IfOk, IfSome, is_some, min, nat_eq, slice_get, unwrap_or, find}
 use Rattle.std.specs.List.{AllZip, flat_map, list_all, sum_by}
 use Rattle.std.specs.Str.{bytes_eq}
@@ -30,7 +30,7 @@ use Rattle.mc_seats.specs.declared.seat.Held.{Held}
 use Rattle.mc_seats.specs.declared.seat.Held.TheVariants.{Up, Down}
 use Rattle.mc_seats.specs.declared.seat.Seat.{Seat}
 use Rattle.mc_seats.specs.Desked.{is_desked, is_full_list}
-use Rattle.mc_seats.specs.Fetching.{offers_of}
+use Rattle.mc_seats.specs.Fetching.{Decides, IsFoundIn, all_tell, first_in_front, front_offers, onto_front}
 use Rattle.mc_seats.specs.Keepers.{desk_count, is_calm_desk, is_calm_keeper, keeper_in, keeper_of}
 use Rattle.mc_seats.specs.Record.{RoseIn}
 use Rattle.mc_seats.specs.StepParts.{AllDesksGo, DesksAsk, DesksGo, IsOfferedAt, IsOfferedBy, PeerFailed, are_calm, desks_in_views, is_peer_at, peers_among}
@@ -93,10 +93,9 @@ module _ {K D : Type 0} (k : Members K D) where
         (subst (λ (l : List D). DesksAsk k desk_faults (k.quiet keeper) failed (view.desk ∷ rest) l) (sym new)
         (asked_all (k.quiet keeper) failed view left desk rest (ap k.quiet at) (subst (λ vs. AllZip Goes vs left) is goes) (subst (λ vs. CountGoes failed (faults_of desk_faults vs) (faults_of desk_faults left)) is counts) desks))
 
--- What is found among the places from this number on, where all peers there tell.
-abbrev pub finds : List Link → ℕ → ℕ → Cid → List Place → Option (Option (List ℕ))
-finds down r number cid places =
-    option_map (λ (offers : List (Cid → PeerOffers)). found_bytes (offers_from None (map (λ (peer : Cid → PeerOffers). peer cid) offers)) cid) (offers_of (picked (peer_row down r number places) places))
+-- What is found among the places from this number on.
+abbrev pub Finds : List Link → ℕ → ℕ → Cid → List Place → Option (List ℕ) → Type 0
+Finds down r number cid places found = IsFoundIn None (picked (peer_row down r number places) places) cid found
 
 abbrev with_digest : Cid → List ℕ → Bool
 with_digest cid bytes = bytes_eq (digest_of bytes) cid.0
@@ -110,71 +109,57 @@ first_then cid peer peers =
 
 module _ (down : List Link) (r : ℕ) (cid : Cid) where
   -- one that r doesn't fetch from
-  finds_past : (number : ℕ) (p : Place) (places : List Place) → is_peer_at down r number p ≡ false → finds down r number cid (p ∷ places) ≡ finds down r (number + 1) cid places
-  finds_past number p places is =
-      ap (λ (mark : Bool). option_map (λ (offers : List (Cid → PeerOffers)). found_bytes (offers_from None (map (λ (peer : Cid → PeerOffers). peer cid) offers)) cid) (offers_of (picked (mark ∷ peer_row down r (number + 1) places) (p ∷ places)))) is
+  finds_past : (number : ℕ) (p : Place) (places : List Place) (found : Option (List ℕ)) → is_peer_at down r number p ≡ false → Finds down r (number + 1) cid places found → Finds down r number cid (p ∷ places) found
+  finds_past number p places found is found_is =
+      subst (λ (mark : Bool). IsFoundIn None (picked (mark ∷ peer_row down r (number + 1) places) (p ∷ places)) cid found) (sym is) found_is
 
   -- one that it fetches from
-  finds_here : (number : ℕ) (p : Place) (places : List Place) → is_peer_at down r number p ≡ true
-      → finds down r number cid (p ∷ places) ≡ option_map (λ (offers : List (Cid → PeerOffers)). found_bytes (offers_from None (map (λ (peer : Cid → PeerOffers). peer cid) offers)) cid) (onto_peers (option_map (offers_at p.planted) p.content) (offers_of (picked (peer_row down r (number + 1) places) places)))
-  finds_here number p places is =
-      ap (λ (mark : Bool). option_map (λ (offers : List (Cid → PeerOffers)). found_bytes (offers_from None (map (λ (peer : Cid → PeerOffers). peer cid) offers)) cid) (offers_of (picked (mark ∷ peer_row down r (number + 1) places) (p ∷ places)))) is
+  finds_here : (number : ℕ) (p : Place) (places : List Place) (found : Option (List ℕ)) → is_peer_at down r number p ≡ true → IsFoundIn None (p ∷ picked (peer_row down r (number + 1) places) places) cid found → Finds down r number cid (p ∷ places) found
+  finds_here number p places found is found_is =
+      subst (λ (mark : Bool). IsFoundIn None (picked (mark ∷ peer_row down r (number + 1) places) (p ∷ places)) cid found) (sym is) found_is
 
   abbrev Offers : Place → Option (List ℕ) → Type 0
   Offers p bytes = IfSome p.content (λ kept. bytes ≡ first_offer cid (peer_places (offers_at p.planted kept cid)))
 
-  abbrev All : Option (List (Cid → PeerOffers)) → Option (Option (List ℕ))
-  All offers = option_map (λ (offers : List (Cid → PeerOffers)). found_bytes (offers_from None (map (λ (peer : Cid → PeerOffers). peer cid) offers)) cid) offers
+  -- in front of others, one that tells decides where it offers the block, and else they do
+  offers_in : (planted : List Planted) (content : Option Kept) (peers : List Place) (bytes found : Option (List ℕ)) → IfSome content (λ kept. bytes ≡ first_offer cid (peer_places (offers_at planted kept cid)))
+      → Decides (option_or bytes (first_in_front None peers cid)) (all_tell peers) found
+      → Decides (found_bytes (offers_from None (map (λ (offers : Cid → PeerOffers). offers cid) (onto_front (option_map (offers_at planted) content) (front_offers peers)))) cid) (is_some content && all_tell peers) found
+  offers_in planted None peers bytes found offered is = tt
+  offers_in planted (Some kept) peers bytes found offered is =
+      subst (λ (x : Option (List ℕ)). Decides x (all_tell peers) found)
+      (ap (λ (o : Option (List ℕ)). option_or o (first_in_front None peers cid)) offered ∙ sym (first_then cid (offers_at planted kept cid) (map (λ (offers : Cid → PeerOffers). offers cid) (front_offers peers)))) is
 
-  onto_none : (planted : List Planted) (content : Option Kept) (rest : Option (List (Cid → PeerOffers))) (x : Option (List ℕ)) → IfSome content (λ kept. None ≡ first_offer cid (peer_places (offers_at planted kept cid)))
-      → All (onto_peers (option_map (offers_at planted) content) rest) ≡ Some x → All rest ≡ Some x
-  onto_none planted None rest x none is = never (sym (ap is_some is))
-  onto_none planted (Some kept) None x none is = never (sym (ap is_some is))
-  onto_none planted (Some kept) (Some offers) x none is =
-      ap Some (ap (λ o. option_or o (found_bytes (offers_from None (map (λ (peer : Cid → PeerOffers). peer cid) offers)) cid)) none
-      ∙ sym (first_then cid (offers_at planted kept cid) (map (λ (peer : Cid → PeerOffers). peer cid) offers))) ∙ is
+  onto_none : (p : Place) (peers : List Place) (found : Option (List ℕ)) → Offers p None → IsFoundIn None peers cid found → IsFoundIn None (p ∷ peers) cid found
+  onto_none p peers found none is = offers_in p.planted p.content peers None found none is
 
-  onto_some : (planted : List Planted) (content : Option Kept) (rest : Option (List (Cid → PeerOffers))) (bytes : List ℕ) (x : Option (List ℕ)) → IfSome content (λ kept. Some bytes ≡ first_offer cid (peer_places (offers_at planted kept cid)))
-      → All (onto_peers (option_map (offers_at planted) content) rest) ≡ Some x → Some bytes ≡ x
-  onto_some planted None rest bytes x some is = never (sym (ap is_some is))
-  onto_some planted (Some kept) None bytes x some is = never (sym (ap is_some is))
-  onto_some planted (Some kept) (Some offers) bytes x some is =
-      ap (λ o. option_or o (found_bytes (offers_from None (map (λ (peer : Cid → PeerOffers). peer cid) offers)) cid)) some
-      ∙ sym (first_then cid (offers_at planted kept cid) (map (λ (peer : Cid → PeerOffers). peer cid) offers)) ∙ ap (λ o. unwrap_or o x) is
+  onto_some : (p : Place) (peers : List Place) (bytes : List ℕ) → Offers p (Some bytes) → IsFoundIn None (p ∷ peers) cid (Some bytes)
+  onto_some p peers bytes some = offers_in p.planted p.content peers (Some bytes) (Some bytes) some refl
 
-  -- so far nothing was found
+  -- so far nothing was found: what is found from here on is what is found
   abbrev pub SoFar : List Place → ℕ → Type 0
-  SoFar places at = (x : Option (List ℕ)) → finds down r 0 cid places ≡ Some x → finds down r at cid (drop at places) ≡ Some x
+  SoFar places at = (found : Option (List ℕ)) → Finds down r at cid (drop at places) found → Finds down r 0 cid places found
 
   drop_at : (places : List Place) (at : ℕ) (p : Place) → slice_get places at ≡ Some p → drop at places ≡ p ∷ drop (at + 1) places
   drop_at places at p is =
       drop-cons places at p (slice_get_within places at p is) ∙ ap (λ q. q ∷ drop (suc at) places) (get_or_from_slice_get places at p p is) ∙ ap (λ n. p ∷ drop n places) (let number : suc at ≡ at + 1 = omega arith in number)
 
-  at_here : (places : List Place) (at : ℕ) (p : Place) (x : Option (List ℕ)) → slice_get places at ≡ Some p → finds down r at cid (drop at places) ≡ Some x → finds down r at cid (p ∷ drop (at + 1) places) ≡ Some x
-  at_here places at p x is found = sym (ap (λ l. finds down r at cid l) (drop_at places at p is)) ∙ found
+  at_here : (places : List Place) (at : ℕ) (p : Place) (found : Option (List ℕ)) → slice_get places at ≡ Some p → Finds down r at cid (p ∷ drop (at + 1) places) found → Finds down r at cid (drop at places) found
+  at_here places at p found is here = subst (λ (l : List Place). Finds down r at cid l found) (sym (drop_at places at p is)) here
 
   pub so_far_past : (places : List Place) (at : ℕ) (p : Place) → slice_get places at ≡ Some p → is_peer_at down r at p ≡ false → SoFar places at → SoFar places (at + 1)
-  so_far_past places at p is out so_far x found = sym (finds_past at p (drop (at + 1) places) out) ∙ at_here places at p x is (so_far x found)
+  so_far_past places at p is out so_far found rest = so_far found (at_here places at p found is (finds_past at p (drop (at + 1) places) found out rest))
 
   pub so_far_none : (places : List Place) (at : ℕ) (p : Place) → slice_get places at ≡ Some p → is_peer_at down r at p ≡ true → Offers p None → SoFar places at → SoFar places (at + 1)
-  so_far_none places at p is mark none so_far x found =
-      onto_none p.planted p.content (offers_of (picked (peer_row down r (at + 1) (drop (at + 1) places)) (drop (at + 1) places))) x none (sym (finds_here at p (drop (at + 1) places) mark) ∙ at_here places at p x is (so_far x found))
-
-  told_all : (peers : List Place) (found : Option (List ℕ)) → ((x : Option (List ℕ)) → All (offers_of peers) ≡ Some x → found ≡ x) → IsOfferedBy peers cid found
-  told_all peers found is = over (offers_of peers) is
-    where
-      over : (offers : Option (List (Cid → PeerOffers))) → ((x : Option (List ℕ)) → All offers ≡ Some x → found ≡ x)
-          → IfSome offers (λ offers. found ≡ found_bytes (offers_from None (map (λ (peer : Cid → PeerOffers). peer cid) offers)) cid)
-      over None is = tt
-      over (Some offers) is = is _ refl
+  so_far_none places at p is mark none so_far found rest =
+      so_far found (at_here places at p found is (finds_here at p (drop (at + 1) places) found mark (onto_none p (picked (peer_row down r (at + 1) (drop (at + 1) places)) (drop (at + 1) places)) found none rest)))
 
   pub so_far_some : (places : List Place) (at : ℕ) (p : Place) (bytes : List ℕ) → slice_get places at ≡ Some p → is_peer_at down r at p ≡ true → Offers p (Some bytes) → SoFar places at → IsOfferedBy (peers_among down r places) cid (Some bytes)
-  so_far_some places at p bytes is mark some so_far = told_all (peers_among down r places) (Some bytes)
-      (λ x found. onto_some p.planted p.content (offers_of (picked (peer_row down r (at + 1) (drop (at + 1) places)) (drop (at + 1) places))) bytes x some (sym (finds_here at p (drop (at + 1) places) mark) ∙ at_here places at p x is (so_far x found)))
+  so_far_some places at p bytes is mark some so_far =
+      so_far (Some bytes) (at_here places at p (Some bytes) is (finds_here at p (drop (at + 1) places) (Some bytes) mark (onto_some p (picked (peer_row down r (at + 1) (drop (at + 1) places)) (drop (at + 1) places)) bytes some)))
 
   pub so_far_all : (places : List Place) (at : ℕ) → length places ≤ at → SoFar places at → IsOfferedBy (peers_among down r places) cid None
-  so_far_all places at end so_far = told_all (peers_among down r places) None
-      (λ x found. ap (λ o. unwrap_or o x) (sym (ap (λ l. finds down r at cid l) (drop_of_length-le places end)) ∙ so_far x found))
+  so_far_all places at end so_far = so_far None (subst (λ (l : List Place). Finds down r at cid l None) (sym (drop_of_length-le places end)) refl)
 
   -- the mark of a place
   marked : (number at : ℕ) (places : List Place) (p : Place) → slice_get places at ≡ Some p → slice_get (peer_row down r number places) at ≡ Some (is_peer_at down r (number + at) p)
@@ -285,7 +270,7 @@ module _ {K D : Type 0} {g : keeper.Ghosts K D} {h : counted.Ghosts K} {i : coun
 
   -- none is asked yet
   pub asking_starts : is_desked (length seats) olds ≡ true → Asking olds 0
-  asking_starts desked = record { goes = all_still k desk_faults (are_calm k seats) olds; desked = desked; so_far = λ x is. is }
+  asking_starts desked = record { goes = all_still k desk_faults (are_calm k seats) olds; desked = desked; so_far = λ found is. is }
 
   module _ (asking : Asking news at) where
     pub asking_ends : length seats ≤ at → IsOfferedBy (peers_among down r Places) cid None

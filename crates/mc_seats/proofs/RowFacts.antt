@@ -96,11 +96,11 @@ arms_for d is = refl
 no_arms : (command : Command) → is_acting command ≡ true → arms command ≡ 0
 no_arms command = arms_for (doing command)
 
-done_for : (w : WorldState) (d : Doing) (p q : Place) (reply : Reply) → calls_by d ≡ true → exact_by d p q reply → happens_by w d p q reply → done_by w d p q reply
+done_for : (w : WorldState) (d : Doing) (p q : Place) (reply : Reply) → calls_by d ≡ true → exact_by w d p q reply → happens_by w d p q reply → done_by w d p q reply
 done_for w (At r (Calls call)) p q reply is exact happens = (exact, happens)
 done_for w d p q reply is exact happens = no_fault is
 
-done_from : (w : WorldState) (command : Command) (p q : Place) (reply : Reply) → is_call command ≡ true → Exact command p q reply → Happens w command p q reply → DoneAt w command p q reply
+done_from : (w : WorldState) (command : Command) (p q : Place) (reply : Reply) → is_call command ≡ true → Exact w command p q reply → Happens w command p q reply → DoneAt w command p q reply
 done_from w command = done_for w (doing command)
 
 -- the place of a replica
@@ -130,18 +130,18 @@ reach_for Nothing call told told2 fuse fuse2 run run2 planted reply walk whole b
 reach_for (Batches B) call told told2 fuse fuse2 run run2 planted reply walk whole batch form silent tells = let same = tells refl in (record { run_on = (walk, whole, batch); silent = silent; planted_same = refl }, (same.0, same.1), form)
 reach_for (Blocks B) call told told2 fuse fuse2 run run2 planted reply walk whole batch form silent tells = (record { run_on = (walk, whole, batch); silent = silent; planted_same = refl }, form)
 
-exact_for : (d : Doing) (told told2 : Option Kept) (fuse fuse2 : Option Fuse) (run run2 : Running) (planted : List Planted) (reply : Reply) → calls_by d ≡ true
+exact_for : (w : WorldState) (d : Doing) (told told2 : Option Kept) (fuse fuse2 : Option Fuse) (run run2 : Running) (planted : List Planted) (reply : Reply) → calls_by d ≡ true
     → run2.walk ≡ run.walk → run2.whole ≡ run.whole → batch_by d run.batch run2.batch → form_by d reply → (told ≡ None → told2 ≡ None)
     → (runs_by d ≡ true → (told2 ≡ told) × (fuse2 ≡ fuse) × (run2.queue ≡ run.queue))
-    → exact_by d (placed told fuse false run planted) (placed told2 fuse2 false run2 planted) reply
-exact_for (At r (Calls call)) told told2 fuse fuse2 run run2 planted reply is walk whole batch form silent tells = reach_for call.reach call told told2 fuse fuse2 run run2 planted reply walk whole batch form silent tells
-exact_for d told told2 fuse fuse2 run run2 planted reply is walk whole batch form silent tells = no_fault is
+    → exact_by w d (placed told fuse false run planted) (placed told2 fuse2 false run2 planted) reply
+exact_for w (At r (Calls call)) told told2 fuse fuse2 run run2 planted reply is walk whole batch form silent tells = reach_for call.reach call told told2 fuse fuse2 run run2 planted reply walk whole batch form silent tells
+exact_for w d told told2 fuse fuse2 run run2 planted reply is walk whole batch form silent tells = no_fault is
 
-exact_from : (command : Command) (told told2 : Option Kept) (fuse fuse2 : Option Fuse) (run run2 : Running) (planted : List Planted) (reply : Reply) → is_call command ≡ true
+exact_from : (w : WorldState) (command : Command) (told told2 : Option Kept) (fuse fuse2 : Option Fuse) (run run2 : Running) (planted : List Planted) (reply : Reply) → is_call command ≡ true
     → run2.walk ≡ run.walk → run2.whole ≡ run.whole → BatchBy command run.batch run2.batch → FormBy command reply → (told ≡ None → told2 ≡ None)
     → (only_runs command ≡ true → (told2 ≡ told) × (fuse2 ≡ fuse) × (run2.queue ≡ run.queue))
-    → Exact command (placed told fuse false run planted) (placed told2 fuse2 false run2 planted) reply
-exact_from command = exact_for (doing command)
+    → Exact w command (placed told fuse false run planted) (placed told2 fuse2 false run2 planted) reply
+exact_from w command = exact_for w (doing command)
 
 -- a call at one replica, in one world
 
@@ -343,14 +343,14 @@ module _ {K D : Type 0} {g : keeper.Ghosts K D} {h : counted.Ghosts K} {i : coun
   pub ok_acts : (Where : WorldState → Type 0) (command : Command) → is_acting command ≡ true → (old new : Replica K D g h i) (planted : List Planted) (reply : Reply) → Continues k false old new → is_fault reply ≡ false
       → ((w : WorldState) → Where w → None ≡ stop_front old.stopped (call_front w old.batch command))
       → ((w : WorldState) → Where w → CallsIn w command (Ok reply) old new)
-      → ((w : WorldState) → old.stopped ≡ false → new.stopped ≡ false → Happens w command (place k (up old planted)) (place k (up new planted)) reply → DoneAt w command (place k (up old planted)) (place k (up new planted)) reply)
+      → ((w : WorldState) → Where w → old.stopped ≡ false → new.stopped ≡ false → Happens w command (place k (up old planted)) (place k (up new planted)) reply → DoneAt w command (place k (up old planted)) (place k (up new planted)) reply)
       → SeatActsIn k Where command (Ok reply) (up old planted) (up new planted)
   ok_acts Where command acts old new planted reply keeps value front call done = record {
     row = λ w here.
         let stop = up_by old.stopped (call_front w old.batch command) (front w here) in
         inl (inr (
           ok_allowed w command (Rose (k.faults old.keeper) (k.faults new.keeper)) (Rose (k.own old.keeper) (k.own new.keeper)) (place k (up old planted)) (place k (up new planted)) reply acts (front w here ∙ sym (front_of_place w command (k.told old.keeper) (k.fuse old.keeper) old.stopped (running_of old) planted)) (call w here),
-          done w stop (keeps.stops ∙ stop) (ok_happens w command (Rose (k.faults old.keeper) (k.faults new.keeper)) (Rose (k.own old.keeper) (k.own new.keeper)) (place k (up old planted)) (place k (up new planted)) reply (call w here)),
+          done w here stop (keeps.stops ∙ stop) (ok_happens w command (Rose (k.faults old.keeper) (k.faults new.keeper)) (Rose (k.own old.keeper) (k.own new.keeper)) (place k (up old planted)) (place k (up new planted)) reply (call w here)),
         ));
     short = λ e. no_error e;
     not_bad = λ e. no_error e;
@@ -378,13 +378,13 @@ module _ {K D : Type 0} {g : keeper.Ghosts K D} {h : counted.Ghosts K} {i : coun
       → ((w : WorldState) → None ≡ stop_front old.stopped (call_front w old.batch command)) → ((w : WorldState) → CallsIn w command (Ok reply) old new)
       → SeatActsIn k (λ w. ⊤) command (Ok reply) (up old planted) (up new planted)
   call_ok_up command is reply old new planted keeps value leaves makes front call =
-      ok_acts (λ w. ⊤) command (call_acts command is) old new planted reply keeps value (λ w here. front w) (λ w here. call w) (λ w stop stop2 happens. done_from w command (place k (up old planted)) (place k (up new planted)) reply is (exact stop stop2) happens)
+      ok_acts (λ w. ⊤) command (call_acts command is) old new planted reply keeps value (λ w here. front w) (λ w here. call w) (λ w here stop stop2 happens. done_from w command (place k (up old planted)) (place k (up new planted)) reply is (exact w stop stop2) happens)
     where
-      exact : old.stopped ≡ false → new.stopped ≡ false → Exact command (place k (up old planted)) (place k (up new planted)) reply
-      exact stop stop2 =
-          subst (λ b. Exact command (placed (k.told old.keeper) (k.fuse old.keeper) b (running_of old) planted) (place k (up new planted)) reply) (sym stop)
-          (subst (λ b. Exact command (placed (k.told old.keeper) (k.fuse old.keeper) false (running_of old) planted) (placed (k.told new.keeper) (k.fuse new.keeper) b (running_of new) planted) reply) (sym stop2)
-          (exact_from command (k.told old.keeper) (k.told new.keeper) (k.fuse old.keeper) (k.fuse new.keeper) (running_of old) (running_of new) planted reply is leaves.walk_same leaves.whole_same makes.batch makes.form keeps.keeper_goes.silent
+      exact : (w : WorldState) → old.stopped ≡ false → new.stopped ≡ false → Exact w command (place k (up old planted)) (place k (up new planted)) reply
+      exact w stop stop2 =
+          subst (λ b. Exact w command (placed (k.told old.keeper) (k.fuse old.keeper) b (running_of old) planted) (place k (up new planted)) reply) (sym stop)
+          (subst (λ b. Exact w command (placed (k.told old.keeper) (k.fuse old.keeper) false (running_of old) planted) (placed (k.told new.keeper) (k.fuse new.keeper) b (running_of new) planted) reply) (sym stop2)
+          (exact_from w command (k.told old.keeper) (k.told new.keeper) (k.fuse old.keeper) (k.fuse new.keeper) (running_of old) (running_of new) planted reply is leaves.walk_same leaves.whole_same makes.batch makes.form keeps.keeper_goes.silent
           (λ only. let same = makes.tells only in (same.told_same, same.fuse_same, queue_by old new same.queue_same))))
 
   -- the same of a seat that holds the replica

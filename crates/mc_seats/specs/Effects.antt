@@ -6,13 +6,13 @@ use Rattle.mc_key.specs.KeyRule.{fault_number}
 use Rattle.mc_model.specs.Draining.{queue_in}
 use Rattle.mc_model.specs.Events.{Event}
 use Rattle.mc_model.specs.State.{OpenBatch, Running}
-use Rattle.mc_model.specs.Wanted.{hear_all}
+use Rattle.mc_model.specs.Wanted.{Queue, hear_all}
 use Rattle.mc_core.specs.declared.CoreError.{CoreError}
 use Rattle.mc_core.specs.declared.CoreError.TheVariants as core
 use Rattle.mc_core.specs.Calls.{Stays}
 use Rattle.mc_core.specs.Events.{ReplicaState, Goes}
 use Rattle.mc_core.specs.Exact.{DecidesAlone, seen_of, stop_front}
-use Rattle.mc_core.specs.Hears.{HearEvents, IsQueued, cast_refusal, hear_refusal}
+use Rattle.mc_core.specs.Hears.{HearEvents, IsQueued, NamesSome, cast_refusal, hear_refusal}
 use Rattle.mc_core.specs.Jobs.{NextShort}
 use Rattle.mc_core.specs.Reads.{read_refusal}
 use Rattle.mc_core.specs.Refusals.{ByKind, Is, kind_of}
@@ -121,11 +121,18 @@ pub record StormDone (writers writes : ℕ) (p q : Place) (reply : Reply) : Type
   pub runs : RunsOn SameBatch p q
   pub told : Told (state_at p) (state_at q) (StormLeads writers writes (Ok value) ⊥)
 
--- some blocks are heard, and those that came to waiting are counted
-abbrev pub HearsSome : Option Running → Option Running → Reply → Type 0
-HearsSome (Some old) (Some new) reply = (count : ℕ) × (cids : List Cid) × (reply ≡ Queued count)
-    × (new.queue ≡ hear_all [] old.queue cids) × IsQueued old.queue new.queue count
-HearsSome old new reply = ⊥
+-- some of the blocks that a message names are heard, and those that came to waiting are counted
+pub record HearsNamed (text : List ℕ) (old new : Queue) (reply : Reply) : Type 0 where
+  pub count : ℕ
+  pub cids : List Cid
+  pub some : NamesSome text cids
+  pub says : reply ≡ Queued count
+  pub wants : new ≡ hear_all [] old cids
+  pub queued : IsQueued old new count
+
+abbrev pub HearsSome : List ℕ → Option Running → Option Running → Reply → Type 0
+HearsSome text (Some old) (Some new) reply = HearsNamed text old.queue new.queue reply
+HearsSome text old new reply = ⊥
 
 -- a step answers `idle` exactly where no block waits, and else `processed`, `missing` or `bad`
 abbrev pub IsIdle : Option Running → Reply → Type 0
@@ -142,14 +149,15 @@ CallsAt (Batches B) call p q reply = RunsOn B p q × TellsSame p q × IsForm cal
 CallsAt (Blocks B) call p q reply = RunsOn B p q × IsForm call.Fits call.says reply
 
 -- what is exact over every keeper of a command that has its events at a replica
-abbrev pub exact_by : Doing → Place → Place → Reply → Type 0
-exact_by (At r (Calls call)) p q reply = CallsAt call.reach call p q reply
-exact_by (At r (Hears message)) p q reply = RunsOn SameBatch p q × TellsSame p q × HearsSome p.run q.run reply
-exact_by (At r Steps) p q reply = RunsOn SameBatch p q × IsIdle p.run reply
-exact_by d p q reply = ⊥
+abbrev pub exact_by : WorldState → Doing → Place → Place → Reply → Type 0
+exact_by w (At r (Calls call)) p q reply = CallsAt call.reach call p q reply
+exact_by w (At r (Hears message)) p q reply =
+    RunsOn SameBatch p q × TellsSame p q × HearsSome (message_at w.around.bag message) p.run q.run reply
+exact_by w (At r Steps) p q reply = RunsOn SameBatch p q × IsIdle p.run reply
+exact_by w d p q reply = ⊥
 
-abbrev pub Exact : Command → Place → Place → Reply → Type 0
-Exact command p q reply = exact_by (doing command) p q reply
+abbrev pub Exact : WorldState → Command → Place → Place → Reply → Type 0
+Exact w command p q reply = exact_by w (doing command) p q reply
 
 -- its events have happened, where the content is told
 abbrev pub happens_by : WorldState → Doing → Place → Place → Reply → Type 0
@@ -167,7 +175,7 @@ done_by w (At r Casts) p q reply = q ≡ p
 done_by w (At r (Works budget)) p q reply = WorkDone (peers_of w r) (budget_of budget) p q reply
 done_by w (At r Repairs) p q reply = RepairDone (peers_of w r) p q reply
 done_by w (At r (Storms writers writes)) p q reply = StormDone writers writes p q reply
-done_by w d p q reply = exact_by d p q reply × happens_by w d p q reply
+done_by w d p q reply = exact_by w d p q reply × happens_by w d p q reply
 
 abbrev pub DoneAt : WorldState → Command → Place → Place → Reply → Type 0
 DoneAt w command p q reply = done_by w (doing command) p q reply

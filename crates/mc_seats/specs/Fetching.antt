@@ -1,5 +1,6 @@
 -- What a step of a replica finds among its peers, and what it does with it.
-use Rattle.std.specs.Prelude.{◌≡◌, ℕ, List, [], ◌∷◌, map, Option, Some, None, IfSome}
+use Rattle.std.specs.Prelude.{◌≡◌, ⊤, ℕ, Bool, true, false, List, [], ◌∷◌, map, Option, Some, None, is_some}
+use Rattle.std.specs.List.{list_all}
 use Rattle.std.specs.Option.{option_map}
 use Rattle.mc_base.specs.declared.cid.Cid.{Cid}
 use Rattle.mc_fetch.specs.declared.job.Delivered.{Delivered}
@@ -25,14 +26,39 @@ abbrev pub offers_of : List Place → Option (List (Cid → PeerOffers))
 offers_of [] = Some []
 offers_of (place ∷ places) = onto_peers (offers_of_place place) (offers_of places)
 
--- the bytes that a replica finds for a block: of its own store, and then of its peers, the first that have the digest
-abbrev pub found_among : Kept → List (Cid → PeerOffers) → Cid → Option (List ℕ)
-found_among kept peers c =
-    found_bytes (offers_from (bytes_at kept.graph c) (map (λ (peer : Cid → PeerOffers). peer c) peers)) c
+-- one more in front, where its content is told
+abbrev pub onto_front : Option (Cid → PeerOffers) → List (Cid → PeerOffers) → List (Cid → PeerOffers)
+onto_front None offers = []
+onto_front (Some first) offers = first ∷ offers
 
--- so are these, where all the peers tell
+-- what those offer that stand in front of the first whose content isn't told
+abbrev pub front_offers : List Place → List (Cid → PeerOffers)
+front_offers [] = []
+front_offers (place ∷ places) = onto_front (offers_of_place place) (front_offers places)
+
+-- whether all their contents are told
+abbrev pub all_tell : List Place → Bool
+all_tell places = list_all (λ (place : Place). is_some place.content) places
+
+-- the first bytes that have the digest of a block: of its own ones, and then of those that are offered in front
+abbrev pub first_in_front : Option (List ℕ) → List Place → Cid → Option (List ℕ)
+first_in_front own peers c =
+    found_bytes (offers_from own (map (λ (offers : Cid → PeerOffers). offers c) (front_offers peers))) c
+
+-- what is found, by what is found in front: the same where that is something, and else nothing where all tell
+abbrev pub Decides : Option (List ℕ) → Bool → Option (List ℕ) → Type 0
+Decides (Some bytes) told found = found ≡ Some bytes
+Decides None true found = found ≡ None
+Decides None false found = ⊤
+
+-- these bytes, or none, are found for a block with these own ones among its peers. One that is silent silences what
+-- stands behind it alone.
+abbrev pub IsFoundIn : Option (List ℕ) → List Place → Cid → Option (List ℕ) → Type 0
+IsFoundIn own peers c found = Decides (first_in_front own peers c) (all_tell peers) found
+
+-- the own ones are those that are stored
 abbrev pub IsFound : Kept → List Place → Cid → Option (List ℕ) → Type 0
-IsFound kept peers c found = IfSome (offers_of peers) (λ offers. found ≡ found_among kept offers c)
+IsFound kept peers c found = IsFoundIn (bytes_at kept.graph c) peers c found
 
 -- what is answered for a delivery
 abbrev pub IsStepReply : Delivered → Reply → Type 0

@@ -15,7 +15,6 @@ use Rattle.mc_fetch.specs.Offers.{HasDigest, first_offer}
 use Rattle.mc_fetch.specs.Peers.{offers_at, peer_places}
 use Rattle.mc_keep.specs.Calls.{Members}
 use Rattle.mc_keep.specs.declared.keeper.Keeper as keeper
-use Rattle.mc_model.specs.Found.{PeerOffers, found_bytes, offers_from}
 use Rattle.mc_model.specs.Graph.{has}
 use Rattle.mc_model.specs.Kept.{Kept, bytes_at}
 use Rattle.mc_model.specs.State.{Running, kept_of}
@@ -30,7 +29,7 @@ use Rattle.mc_seats.specs.declared.seat.Held.TheVariants.{Up}
 use Rattle.mc_seats.specs.declared.seat.Seat.{Seat}
 use Rattle.mc_seats.specs.declared.world.World.{World}
 use Rattle.mc_seats.specs.Desked.{is_full_list}
-use Rattle.mc_seats.specs.Fetching.{IsFound, offers_of}
+use Rattle.mc_seats.specs.Fetching.{IsFound, IsFoundIn}
 use Rattle.mc_seats.specs.Keepers.{desk_count, is_calm_desk, is_calm_keeper, keeper_of}
 use Rattle.mc_seats.specs.Record.{RoseIn}
 use Rattle.mc_seats.specs.Step.{GivesBack, ShortAt, answers_fault, is_fault}
@@ -77,11 +76,9 @@ is_peer_at down r number p = is_linked down r number && is_up p.run
 abbrev pub desks_in_views : {K D : Type 0} → List (PeerView K D) → List D
 desks_in_views {K} {D} views = map (λ (view : PeerView K D). view.desk) views
 
--- what peers are found to offer for a block, where all of them tell
+-- what peers are found to offer for a block, as far as they tell
 abbrev pub IsOfferedBy : List Place → Cid → Option (List ℕ) → Type 0
-IsOfferedBy peers cid found =
-    IfSome (offers_of peers) (λ offers.
-    found ≡ found_bytes (offers_from None (map (λ (peer : Cid → PeerOffers). peer cid) offers)) cid)
+IsOfferedBy peers cid found = IsFoundIn None peers cid found
 
 -- these are found for a block with these bytes of the replica's own, or none, whatever it has stored besides
 abbrev pub IsFoundFor : WorldState → ℕ → Option (List ℕ) → Cid → Option (List ℕ) → Type 0

@@ -1,7 +1,8 @@
 // The calls of a node that change its replica: each takes the turn, makes one call of the replica, and gives the turn
 // back.
-ghost use Rattle.std.specs.Prelude.{◌≡◌, true};
+ghost use Rattle.std.specs.Prelude.{◌≡◌, true, IfErr};
 ghost use Rattle.mc_turn.specs.Seats.{IsSeatOf};
+ghost use Rattle.mc_core.specs.Exact.{DecidesAlone};
 ghost use Rattle.mc_node.specs.Entries.{StaysOpen, is_open, items};
 ghost use Rattle.mc_node.specs.Moves.{DeleteDoes, HearDoes, PutDoes};
 ghost use Rattle.mc_node.specs.Seats.{knows};
@@ -64,7 +65,8 @@ impl<K: Keeper, J: Naming> Node<Stored<K, J>> {
         result
     }
 
-    /// Hears a broadcast, as a replica does. Refusals as of `put`. Condition: the node isn't sealed.
+    /// Hears a broadcast, as a replica does; over every keeper the blocks that come to waiting are among those that it
+    /// names. Refusals as of `put`, but that none is for a block. Condition: the node isn't sealed.
     pub fn hear<W: Wait>(
         &self,
         alloc: Global,
@@ -78,6 +80,7 @@ impl<K: Keeper, J: Naming> Node<Stored<K, J>> {
         ensures open { StaysOpen (knows seat.old).seen (knows seat.new).seen }
         ensures turned { Turned (knows seat.old) (knows seat.new) (λ old new.
             HearDoes message.now result (items K.Keeper old) (items K.Keeper new)) }
+        ensures seen { IfErr result DecidesAlone }
     {
         let mut held = self.turn.take(&mut seat.seat, wait);
         let result = held.value.hear(alloc, message);

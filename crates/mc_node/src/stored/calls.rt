@@ -1,6 +1,7 @@
 // The calls of a replica that change it, each with what it leaves in the log.
-ghost use Rattle.std.specs.Prelude.{◌≡◌, true};
+ghost use Rattle.std.specs.Prelude.{◌≡◌, true, IfErr};
 ghost use Rattle.mc_turn.specs.Lists.{Begins};
+ghost use Rattle.mc_core.specs.Exact.{DecidesAlone};
 ghost use Rattle.mc_node.specs.Entries.{is_open, items};
 ghost use Rattle.mc_node.specs.Moves.{DeleteDoes, HearDoes, PutDoes};
 
@@ -65,6 +66,7 @@ impl<K: Keeper, J: Naming> Stored<K, J> {
         ensures extends { Begins self.old.log.items self.new.log.items }
         ensures does { HearDoes message.now result (items K.Keeper self.old.log.items)
             (items K.Keeper self.new.log.items) }
+        ensures seen { IfErr result DecidesAlone }
     {
         replicas_only_grow();
         kept_is_durable();

@@ -8,7 +8,7 @@ ghost use Rattle.mc_queue.specs.Views.{shown};
 ghost use Rattle.mc_core.specs.Exact.{RestSame};
 ghost use Rattle.mc_core.specs.Replica.{replica_state};
 ghost use Rattle.mc_core.specs.Words.{Becomes, Continues};
-ghost use Rattle.mc_drain.specs.Leads.{LeadsBy, Never, up_to};
+ghost use Rattle.mc_drain.specs.Leads.{Leads, up_to};
 ghost use Rattle.mc_drain.specs.Rounds.{FindsFrom};
 ghost use Rattle.mc_drain.specs.Words.{NoneStuck};
 ghost use Rattle.mc_node.specs.Ties.{IsWithin, StoresFound};
@@ -107,8 +107,8 @@ where
     requires fresh { NoneStuck (shown replica.queue) }
     requires few { length fetches.items ≤ 16 }
     requires same { All (λ f. found_by (F.offers f) ≡ found_first F.offers fetches.items) fetches.items }
-    ensures leads { Becomes K.Keeper (λ rose s new. LeadsBy result.0.stopped (up_to limit s)
-        (FindsFrom (found_first F.offers fetches.items) s.state.durable.graph) Never s new) replica result.0 }
+    ensures leads { Becomes K.Keeper (λ rose s new. Leads result.0.stopped (up_to limit s)
+        (FindsFrom (found_first F.offers fetches.items) s.state.durable.graph) s new) replica result.0 }
     ensures keeps { Continues K.Keeper result.0.stopped replica result.0 }
     ensures rest { RestSame replica result.0 }
     ensures left { AllZip (FetchLeft F.Fetch) fetches.items result.1.items }

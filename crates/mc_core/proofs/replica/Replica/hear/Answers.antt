@@ -20,3 +20,6 @@ returns-in-Ok-hear_new-clause-call g c =
 
 pub returns-in-Ok-hear_new-clause-keeps : goal.returns-in-Ok-hear_new-clause-keeps
 returns-in-Ok-hear_new-clause-keeps g c = looks_on c.in-Ok.ensures.reads refl
+
+pub returns-in-Ok-hear_new-clause-wants : goal.returns-in-Ok-hear_new-clause-wants
+returns-in-Ok-hear_new-clause-wants g c = (c.in-Ok.new, c.in-Ok.ensures.some, rw c.as_slice.ensures at c.in-Ok-hear_new.ensures.queue)
