@@ -38,6 +38,8 @@ mod queries;
 #[cfg(test)]
 mod queues;
 #[cfg(test)]
+mod relays;
+#[cfg(test)]
 mod replicas;
 #[cfg(test)]
 mod rows;
