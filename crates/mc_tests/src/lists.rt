@@ -130,7 +130,7 @@ fn shares_in_lists(alloc: Global, shared: &Rc<u64>) -> Result<usize, Fail> {
 
 #[test]
 fn a_drop_leaves_no_item(rt: HostRuntime) -> Result<(), Fail> {
-    let shared = Rc::new(7, rt.alloc())?;
+    let shared: Rc<u64> = Rc::new(rt.alloc(), 7)?;
     assert!(rt; shares_in_lists(rt.alloc(), &shared)? == 9);
     assert!(rt; Rc::strong_count(&shared) == 1);
     Ok(())

@@ -1,6 +1,11 @@
-use Rattle.std.proofs.Common.{[], ◌∷◌, arith}
+use Rattle.std.proofs.Common.{◌≡◌, [], ◌∷◌, arith, subst}
+use Rattle.std.specs.Prelude.{OnOk}
 use Rattle.mc_model.specs.Events.{Store, Process}
 use Rattle.mc_model.specs.State.{vertices}
+use Rattle.mc_model.specs.Wanted.{without}
+use Rattle.mc_queue.specs.declared.queue.Queue.{Queue}
+use Rattle.mc_queue.specs.Views.{shown}
+use Rattle.mc_plan.specs.Uptakes.{wants}
 use Rattle.mc_plan.proofs.PartFacts.{part_more, part_then}
 use Rattle.mc_core.proofs.Keeps.{commit_more}
 use Rattle.mc_core.proofs.replica.Replica.commit_both.Goals as goal
@@ -14,3 +19,7 @@ returns-in-Err-clause-part g c = part_more _ _ (Store (vertices c.args.store.sto
 
 pub returns-in-Ok-clause-keeps : goal.returns-in-Ok-clause-keeps
 returns-in-Ok-clause-keeps g c = commit_more c.in-Ok.ensures.keeps c.commit_process.ensures.keeps
+
+pub returns-in-Ok-clause-queue : goal.returns-in-Ok-clause-queue
+returns-in-Ok-clause-queue g c =
+    subst (λ (q : Queue). OnOk c.commit_process.result (shown c.commit_process.new.self.queue ≡ wants (without (shown q) (c.args.after.cid ∷ [])) c.args.after.links)) c.in-Ok.ensures.queue_same c.commit_process.ensures.queue
