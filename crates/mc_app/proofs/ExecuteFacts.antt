@@ -1,6 +1,6 @@
 -- A line whose command was done.
-use Rattle.std.proofs.Common.{◌≡◌, ℕ, zero, suc, Bool, true, false, true≢false, cond, List, [], ◌∷◌, Option, Some, Result, Ok, Err, refl, subst, sym, ap, inl, inr, arith}
-use Rattle.std.specs.Prelude.{OnOk, IfOk, IsErrOf, ◌||◌, ◌⊎◌, nat_eq}
+use Rattle.std.proofs.Common.{◌≡◌, ℕ, zero, suc, Bool, true, true≢false, cond, List, [], ◌∷◌, Option, Some, Result, Ok, Err, refl, subst, sym, ap, inl, inr, arith}
+use Rattle.std.specs.Prelude.{OnOk, IfOk, IsErrOf, ◌⊎◌, nat_eq}
 use Rattle.std.specs.List.{list_all, sum_by}
 use Rattle.std.specs.Io.KnownBytes.{Appends}
 use Rattle.std.proofs.lemmas.Bool.Decides.{nat_tests}

@@ -1,6 +1,6 @@
 -- What is written for a generated script.
 use Rattle.std.proofs.Common.{◌≡◌, ◌∙◌, ℕ, List, Option, None, Some, refl, sym, subst, inl, inr, length}
-use Rattle.std.specs.Prelude.{◌⊎◌, ⊤}
+use Rattle.std.specs.Prelude.{⊤}
 use Rattle.std.specs.Io.KnownBytes.{Appends}
 use Rattle.mc_core.specs.declared.replica.OpenCause.{OpenCause}
 use Rattle.mc_core.specs.declared.replica.OpenCause.TheVariants as causes

@@ -1,5 +1,5 @@
 -- A keeper or a desk that failed by itself is counted.
-use Rattle.std.proofs.Common.{◌≡◌, ◌≤◌, ◌<◌, ◌+◌, ◌-◌, ◌^◌, ℕ, zero, suc, Bool, true, false, cond, List, [], ◌∷◌, Option, Some, None, refl, sym, ap, subst, arith, inl, inr}
+use Rattle.std.proofs.Common.{◌≡◌, ◌≤◌, ◌<◌, ◌+◌, ◌-◌, ◌^◌, ℕ, zero, suc, Bool, true, false, cond, List, [], ◌∷◌, Option, Some, None, refl, ap, arith, inl, inr}
 use Rattle.std.specs.Prelude.{◌⊎◌, ◌&&◌, ◌||◌, ◌==◌, min, slice_get}
 use Rattle.std.specs.List.{sum_by}
 use Rattle.std.proofs.lemmas.Bool.{cases_lt, eq-eqb, eqb-true}
@@ -12,7 +12,7 @@ use Rattle.mc_runs.specs.Runs.{IsWithin, names_none}
 use Rattle.mc_seats.specs.declared.seat.Seat.{Seat}
 use Rattle.mc_seats.specs.declared.world.World.{World}
 use Rattle.mc_seats.specs.Asks.{is_named}
-use Rattle.mc_seats.specs.Keepers.{AllLater, WorldGoes, counted_in, desk_count, desks_in, keeper_of, own_in}
+use Rattle.mc_seats.specs.Keepers.{AllLater, WorldGoes, counted_in, desk_count, keeper_of}
 use Rattle.mc_seats.specs.Record.{RoseAt, RoseIn}
 use Rattle.mc_seats.specs.Words.{DeskRose, OwnRose}
 

@@ -1,13 +1,13 @@
 -- The replies to a generated script so far, summed up.
-use Rattle.std.proofs.Common.{◌≡◌, ◌≤◌, ◌<◌, ◌+◌, ◌-◌, ◌∙◌, ℕ, List, [], ◌∷◌, ◌++◌, length, Option, None, Some, refl, sym, ap, subst, arith, length-append, inl, inr, true, append_assoc}
-use Rattle.std.specs.Prelude.{◌⊎◌, map}
+use Rattle.std.proofs.Common.{◌≡◌, ◌≤◌, ◌<◌, ◌+◌, ◌-◌, ◌∙◌, ℕ, List, [], ◌∷◌, ◌++◌, Option, None, Some, refl, sym, ap, subst, arith, length-append, inl, inr, true}
+use Rattle.std.specs.Prelude.{◌⊎◌}
 use Rattle.mc_gen.specs.Summary.{Sums}
 use Rattle.mc_gen.specs.declared.summary.Summary.{Summary}
 use Rattle.mc_script.specs.Line.{line_of}
 use Rattle.mc_script.specs.declared.command.Command.{Command}
-use Rattle.mc_app.specs.Executes.{Executes, ExecutesPart, IsAnswered, LineShort}
+use Rattle.mc_app.specs.Executes.{Executes, ExecutesPart, IsAnswered}
 use Rattle.mc_seats.specs.Step.{LeavesStep}
-use Rattle.mc_app.specs.Generating.{IsAllAnswered, IsStoppedBad, IsStoppedShort, replies_of}
+use Rattle.mc_app.specs.Generating.{IsStoppedShort, replies_of}
 use Rattle.mc_app.specs.LineWords.{MayEnd}
 use Rattle.mc_app.specs.Lines.{IsTooLong, lines_of, script_max}
 use Rattle.mc_app.specs.Progress.{IsBadCommand, Progress}

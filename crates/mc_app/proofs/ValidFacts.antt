@@ -1,9 +1,8 @@
 -- A valid script meets no bad line.
-use Rattle.std.proofs.Common.{true≢false, ◌≡◌, ◌≤◌, ◌<◌, ◌+◌, ◌-◌, ◌∙◌, ℕ, Bool, true, false, List, [], ◌∷◌, ◌++◌, ◌==◌, length, Option, None, Some, refl, sym, ap, subst, arith, inl, inr, length-append}
+use Rattle.std.proofs.Common.{true≢false, ◌≡◌, ◌≤◌, ◌-◌, ◌∙◌, ℕ, Bool, true, false, List, [], ◌∷◌, ◌++◌, ◌==◌, length, Option, None, Some, refl, sym, ap, subst, arith, inl, inr, length-append}
 use Rattle.std.specs.Prelude.{⊤, ◌⊎◌, ◌&&◌, nat_lt, not}
 use Rattle.std.specs.List.{AllByRecursion, onto_first}
 use Rattle.std.specs.Io.BufRead.{take_through}
-use Rattle.mc_base.specs.Causes.{Rose}
 use Rattle.mc_base.specs.Told.{Told}
 use Rattle.mc_keepers.specs.declared.keepers.KeeperPlan.{KeeperPlan}
 use Rattle.mc_model.specs.Kept.{Kept}
@@ -14,7 +13,7 @@ use Rattle.mc_app.specs.declared.status.Status.TheVariants.{Done, Usage, BadLine
 use Rattle.mc_app.specs.Generating.{Generates}
 use Rattle.mc_app.specs.Lines.{IsTooLong, first_line, line_max, lines_of, script_max}
 use Rattle.mc_app.specs.Outcome.{CountsEnds, CountsKeepers, Outcome, starts_from}
-use Rattle.mc_app.specs.Progress.{IsBadCommand, IsBadLine, IsNoCommand, MeetsBadLine, Progress}
+use Rattle.mc_app.specs.Progress.{IsBadCommand, IsBadLine, MeetsBadLine, Progress}
 use Rattle.mc_app.specs.Valid.{EndsWell, IsPlain, IsPlainScript, IsStill, IsValid, NoneIsBad}
 use Rattle.mc_gen.specs.Script.{script_text}
 use Rattle.mc_runs.specs.Runs.{Answer, LineStep, Runs}

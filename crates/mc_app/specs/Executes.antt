@@ -1,5 +1,5 @@
 -- A line, its answer, and what was written of it.
-use Rattle.std.specs.Prelude.{◌≡◌, ◌⊎◌, ℕ, Bool, true, List, Option, Some}
+use Rattle.std.specs.Prelude.{◌≡◌, ◌⊎◌, ℕ, true, List, Option, Some}
 use Rattle.std.specs.Io.KnownBytes.{Appends}
 use Rattle.mc_base.specs.Told.{AppendsPart}
 use Rattle.mc_script.specs.ReplyText.{reply_text}

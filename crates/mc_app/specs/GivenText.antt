@@ -1,5 +1,5 @@
 -- The bytes of a borrowed text, where there is one.
-use Rattle.std.specs.Prelude.{ℕ, List, Option, None, Some}
+use Rattle.std.specs.Prelude.{ℕ, List, Option}
 use Rattle.std.specs.Option.{option_map}
 use denote.Ref.{Bor}
 

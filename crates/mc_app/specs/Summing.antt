@@ -1,5 +1,5 @@
 -- How far the replies to a generated script were summed up.
-use Rattle.std.specs.Prelude.{◌≡◌, ◌⊎◌, ◌∷◌, ◌++◌, ℕ, [], List, Option}
+use Rattle.std.specs.Prelude.{◌⊎◌, ◌∷◌, ◌++◌, ℕ, [], List, Option}
 use Rattle.mc_gen.specs.Summary.{Sums}
 use Rattle.mc_gen.specs.declared.summary.Summary.{Summary}
 use Rattle.mc_script.specs.declared.command.Command.{Command}

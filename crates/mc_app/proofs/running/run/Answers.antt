@@ -1,4 +1,4 @@
-use Rattle.std.proofs.Common.{◌≡◌, ◌∙◌, Some, ap, arith, refl, true}
+use Rattle.std.proofs.Common.{◌≡◌, arith, refl, true}
 use Rattle.mc_core.specs.declared.replica.OpenCause.TheVariants as causes
 use Rattle.mc_app.specs.Outcome.{starts_from}
 use Rattle.mc_app.specs.declared.status.Status.TheVariants as status
@@ -33,6 +33,9 @@ returns-in-Err-Memory-clause-generated g c = λ start count asked. (
 
 pub returns-in-Ok-Gen-clause-untouched_keepers : goal.returns-in-Ok-Gen-clause-untouched_keepers
 returns-in-Ok-Gen-clause-untouched_keepers g c = rw (rw c.in-Ok-Gen.field-0-is at c.in-Ok-Gen.ensures.ok) c.generate.ensures.untouched_keepers
+
+pub returns-in-Ok-Run-clause-untouched_keepers : goal.returns-in-Ok-Run-clause-untouched_keepers
+returns-in-Ok-Run-clause-untouched_keepers g c = rw (rw c.in-Ok-Run.field-0-is at c.in-Ok-Run.ensures.ok) c.run_keepers.ensures.untouched_keepers
 
 pub returns-in-Ok-Gen-clause-handed_back : goal.returns-in-Ok-Gen-clause-handed_back
 returns-in-Ok-Gen-clause-handed_back g c = λ asked. rw (rw c.in-Ok-Gen.field-0-is at c.in-Ok-Gen.ensures.ok) c.generate.ensures.handed_back
