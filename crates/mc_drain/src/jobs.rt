@@ -9,7 +9,7 @@ ghost use Rattle.mc_model.specs.Wanted.{give_back, recall, requeue};
 ghost use Rattle.mc_queue.specs.Views.{shown};
 ghost use Rattle.mc_core.specs.Exact.{RestSame};
 ghost use Rattle.mc_core.specs.Jobs.{DeliverEvents, DeliverShort, NextEvents, NextShort, WantsAfter, found_in};
-ghost use Rattle.mc_core.specs.Jobs.{is_known};
+ghost use Rattle.mc_core.specs.Jobs.{is_known, tried_first};
 ghost use Rattle.mc_core.specs.Replica.{replica_state};
 ghost use Rattle.mc_core.specs.Words.{Becomes, Continues, HappensTo};
 ghost use Rattle.mc_drain.specs.JobCalls.{JobCall, back_events};
@@ -31,7 +31,7 @@ use std::alloc::Global;
 
 /// Begins a job for the first block that waits, which is in flight then, with the bytes that the replica has stored
 /// under it; none exactly where nothing waits. Other jobs may be in flight. What it does is what `Replica::next_job`
-/// does.
+/// does: after `Memory` that block is at the back of those that wait, over every keeper.
 pub fn begin_job<K: Keeper>(
     alloc: Global,
     replica: &mut Replica<K>,
@@ -47,6 +47,8 @@ pub fn begin_job<K: Keeper>(
     ensures own { IfSome (replica_state K.told K.fuse replica.old) (λ s. IfOk result (λ job.
         IfSome job (λ (job : Begun). job.own ≡ bytes_in s.state.durable.graph job.cid))) }
     ensures broken { IfErr result IsBroken }
+    ensures short { IfErr result (λ end. end ≡ DrainEnd.Memory → shown replica.new.queue
+        ≡ tried_first (shown replica.old.queue) (shown replica.old.queue).waiting) }
 {
     found_drains_go_on();
     order_and_store_grow();
@@ -64,7 +66,7 @@ pub fn begin_job<K: Keeper>(
 }
 
 /// Delivers what was found for a job, which may be one of many. What it does, and its answer, are those of
-/// `Replica::deliver`.
+/// `Replica::deliver`: after `Memory` its block is at the back of those that wait, over every keeper.
 pub fn deliver_job<K: Keeper>(
     alloc: Global,
     replica: &mut Replica<K>,
@@ -81,6 +83,8 @@ pub fn deliver_job<K: Keeper>(
     ensures keeps { Continues K.Keeper (begin_failed result) replica.old replica.new }
     ensures rest { RestSame replica.old replica.new }
     ensures broken { IfErr result IsBroken }
+    ensures short { IfErr result (λ end. end ≡ DrainEnd.Memory →
+        shown replica.new.queue ≡ give_back (shown replica.old.queue) job.cid) }
     ensures wants { IfOk result (λ delivered.
         WantsAfter delivered (shown replica.old.queue) (shown replica.new.queue) job.cid) }
     ensures known { IfOk result (λ delivered.

@@ -1,6 +1,6 @@
 -- A worker's call as one of the replica between two moments of the log.
 use Rattle.std.proofs.Common.{◌≡◌, ◌<◌, ◌≤◌, ℕ, Bool, true, false, not, cond, inl, inr, List, [], ◌∷◌, length, Option, Some, None, Result, Ok, Err, refl, sym, ap, ◌∙◌, subst}
-use Rattle.std.specs.Prelude.{⊤, IfOk, IfSome}
+use Rattle.std.specs.Prelude.{⊤, IfErr, IfOk, IfSome}
 use Rattle.std.proofs.lemmas.Bool.{false≢true}
 use Rattle.mc_base.specs.Causes.{Rose}
 use Rattle.mc_base.specs.Told.{Told}
@@ -17,13 +17,13 @@ use Rattle.mc_model.specs.Draining.{queue_in}
 use Rattle.mc_model.specs.Graph.{has}
 use Rattle.mc_model.specs.Kept.{Kept}
 use Rattle.mc_model.specs.State.{Running}
-use Rattle.mc_model.specs.Wanted.{Queue}
+use Rattle.mc_model.specs.Wanted.{Queue, give_back}
 use Rattle.mc_queue.specs.Views.{shown as shown_queue}
 use Rattle.mc_core.specs.Calls.{Stays}
 use Rattle.mc_core.specs.Counted.{capped, run_of}
 use Rattle.mc_core.specs.Events.{Goes as Happens, HappensIn, ReplicaState, state_of}
 use Rattle.mc_core.specs.Exact.{RestSame}
-use Rattle.mc_core.specs.Jobs.{DeliverShort, NextEvents, NextShort, WantsAfter, is_known}
+use Rattle.mc_core.specs.Jobs.{DeliverShort, NextEvents, NextShort, WantsAfter, is_known, tried_first}
 use Rattle.mc_core.specs.Replica.{replica_state}
 use Rattle.mc_core.specs.Words.{ContinuesAt}
 use Rattle.mc_core.specs.declared.replica.Replica.{Replica}
@@ -31,7 +31,7 @@ use Rattle.mc_core.proofs.Keeps.{still_on}
 use Rattle.mc_drain.specs.declared.end.DrainEnd.{DrainEnd}
 use Rattle.mc_drain.specs.declared.end.DrainEnd.TheVariants as drain
 use Rattle.mc_drain.specs.JobCalls.{GivesBack, JobCall, back_events}
-use Rattle.mc_drain.specs.Words.{Begins, begin_failed}
+use Rattle.mc_drain.specs.Words.{Begins, IsBroken, begin_failed}
 use Rattle.mc_worker.specs.declared.ends.ShopError.{ShopError}
 use Rattle.mc_worker.specs.declared.ends.ShopError.TheVariants as shop
 use Rattle.mc_node.specs.declared.entry.Entry.{Entry}
@@ -76,27 +76,28 @@ fails_alike {T} (Err end) = ended end
     ended drain.Spent = refl
     ended drain.PeerFault = refl
 
-pub next_wants : (result : Result (Option Job) DrainEnd) (stopped : Bool) (q left : Queue) → IfOk result (Begins q left) → NextWants (shop_answer result) stopped q left
-next_wants (Ok job) stopped q left begins = begins
-next_wants (Err end) stopped q left begins = ended end
+pub next_wants : (result : Result (Option Job) DrainEnd) (stopped : Bool) (q left : Queue) → IfOk result (Begins q left) → IfErr result IsBroken → IfErr result (λ end. end ≡ drain.Memory → left ≡ tried_first q q.waiting) → NextWants (shop_answer result) stopped q left
+next_wants (Ok job) stopped q left begins broken short = begins
+next_wants (Err end) stopped q left begins broken short = ended end broken short
   where
-    ended : (end : DrainEnd) → NextWants (shop_answer (Err end)) stopped q left
-    ended drain.KeeperFault = tt
-    ended drain.Memory = tt
-    ended drain.Idle = tt
-    ended drain.Spent = tt
-    ended drain.PeerFault = tt
+    ended : (end : DrainEnd) → IsBroken end → (end ≡ drain.Memory → left ≡ tried_first q q.waiting) → NextWants (shop_answer (Err end)) stopped q left
+    ended drain.KeeperFault broken short = tt
+    ended drain.Memory broken short = inr (short refl)
+    ended drain.Idle broken short = absurd broken
+    ended drain.Spent broken short = absurd broken
+    ended drain.PeerFault broken short = absurd broken
 
-pub deliver_wants : (cid : Cid) (result : Result Delivered DrainEnd) (stopped : Bool) (q left : Queue) → IfOk result (λ delivered. WantsAfter delivered q left cid) → IfOk result (λ delivered. is_known delivered ≡ not (has cid q.flight)) → DeliverWants cid (shop_answer result) stopped q left
-deliver_wants cid (Ok delivered) stopped q left wants known = (wants, known)
-deliver_wants cid (Err end) stopped q left wants known = ended end
+pub deliver_wants : (cid : Cid) (result : Result Delivered DrainEnd) (stopped : Bool) (q left : Queue) → IfOk result (λ delivered. WantsAfter delivered q left cid) → IfOk result (λ delivered. is_known delivered ≡ not (has cid q.flight)) → IfErr result IsBroken → IfErr result (λ end. end ≡ drain.Memory → left ≡ give_back q cid)
+    → DeliverWants cid (shop_answer result) stopped q left
+deliver_wants cid (Ok delivered) stopped q left wants known broken short = (wants, known)
+deliver_wants cid (Err end) stopped q left wants known broken short = ended end broken short
   where
-    ended : (end : DrainEnd) → DeliverWants cid (shop_answer (Err end)) stopped q left
-    ended drain.KeeperFault = tt
-    ended drain.Memory = tt
-    ended drain.Idle = tt
-    ended drain.Spent = tt
-    ended drain.PeerFault = tt
+    ended : (end : DrainEnd) → IsBroken end → (end ≡ drain.Memory → left ≡ give_back q cid) → DeliverWants cid (shop_answer (Err end)) stopped q left
+    ended drain.KeeperFault broken short = tt
+    ended drain.Memory broken short = inr (short refl)
+    ended drain.Idle broken short = absurd broken
+    ended drain.Spent broken short = absurd broken
+    ended drain.PeerFault broken short = absurd broken
 
 -- what was given back for want of memory was in flight
 pub short_back : (cid : Cid) (s new : ReplicaState) → DeliverShort s cid new → GivesBack cid s new

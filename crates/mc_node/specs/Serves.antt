@@ -13,7 +13,7 @@ use Rattle.mc_model.specs.Wanted.{Queue, give_back}
 use Rattle.mc_core.specs.Calls.{Does as Makes, Faults, Stays}
 use Rattle.mc_core.specs.Counted.{capped}
 use Rattle.mc_core.specs.Events.{ReplicaState}
-use Rattle.mc_core.specs.Jobs.{DeliverEvents, NextEvents, NextShort, WantsAfter, found_in, is_known}
+use Rattle.mc_core.specs.Jobs.{DeliverEvents, NextEvents, NextShort, WantsAfter, found_in, is_known, tried_first}
 use Rattle.mc_core.specs.Reads.{read_refusal}
 use Rattle.mc_core.specs.Refusals.{Is}
 use Rattle.mc_drain.specs.JobCalls.{GivesBack}
@@ -74,22 +74,23 @@ pub record Serves (failed : Bool) (At : Shown → Type 0) (Call : Type 0 → Rep
 abbrev pub backed : Cid → Queue → Queue
 backed cid q = cond (has cid q.flight) (give_back q cid) q
 
--- what is wanted after a call that asks for a job, by its answer
+-- what is wanted after a call that asks for a job, by its answer: after a want of memory no job began, or that of the
+-- first block that waited came back
 abbrev pub NextWants : Result (Option Job) ShopError → Bool → Queue → Queue → Type 0
 NextWants (Ok job) stopped q left = Begins q left job
 NextWants (Err KeeperFault) stopped q left = ⊤
 NextWants (Err Stopped) stopped q left = left ≡ q
 NextWants (Err Spent) stopped q left = left ≡ q
-NextWants (Err Memory) stopped q left = ⊤
+NextWants (Err Memory) stopped q left = (left ≡ q) ⊎ (left ≡ tried_first q q.waiting)
 
--- and after a delivery
+-- and after a delivery: after a want of memory the block is at the back of those that wait
 abbrev pub DeliverWants : Cid → Result Delivered ShopError → Bool → Queue → Queue → Type 0
 DeliverWants cid (Ok delivered) stopped q left =
     WantsAfter delivered q left cid × (is_known delivered ≡ not (has cid q.flight))
 DeliverWants cid (Err KeeperFault) stopped q left = ⊤
 DeliverWants cid (Err Stopped) stopped q left = left ≡ q
 DeliverWants cid (Err Spent) stopped q left = left ≡ backed cid q
-DeliverWants cid (Err Memory) stopped q left = ⊤
+DeliverWants cid (Err Memory) stopped q left = (left ≡ backed cid q) ⊎ (left ≡ give_back q cid)
 
 -- and after a job was given back
 abbrev pub BackWants : Cid → Bool → Queue → Queue → Type 0

@@ -51,8 +51,8 @@ Decides (Some bytes) told found = found ≡ Some bytes
 Decides None true found = found ≡ None
 Decides None false found = ⊤
 
--- these bytes, or none, are found for a block with these own ones among its peers. One that is silent silences what
--- stands behind it alone.
+-- these bytes, or none, are found for a block with these own ones among its peers. One that is silent silences its own
+-- offers and those behind it alone.
 abbrev pub IsFoundIn : Option (List ℕ) → List Place → Cid → Option (List ℕ) → Type 0
 IsFoundIn own peers c found = Decides (first_in_front own peers c) (all_tell peers) found
 

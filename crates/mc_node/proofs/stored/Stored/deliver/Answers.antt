@@ -1,4 +1,4 @@
-use Rattle.std.proofs.Common.{◌∙◌, ap, arith, refl, sym}
+use Rattle.std.proofs.Common.{◌∙◌, ap, arith, inl, refl, sym}
 use Rattle.std.specs.Prelude.{Err}
 use Rattle.mc_core.specs.Jobs.{DeliverEvents, DeliverShort, found_in}
 use Rattle.mc_drain.specs.JobCalls.{GivesBack}
@@ -31,7 +31,7 @@ returns-in-Err-clause-does g c =
     serves_by g.K.Keeper.told g.K.Keeper.fuse g.K.Keeper.own g.K.Counted.faults g.K.Keeper.quiet g.K.Keeper.schedule (AnswersAt c.args.limit (Err Memory)) (WorkerCall (λ s. DeliverEvents s c.args.job.cid (found_in c.args.found)) (GivesBack c.args.job.cid) (GivesBack c.args.job.cid) (Err Memory)) (DeliverWants c.args.job.cid (Err Memory)) _ _ c.begin.new.self.replica c.give_back.new.self.replica
     c.args.self.now.log.items c.begin.new.self.log.items c.give_back.new.self.log.items c.begin.new.self.tied c.in-Err.ensures.log c.give_back.new.self.tied
     (record { stopped = ap (λ r. r.stopped) c.in-Err.ensures.replica ∙ sym c.is_stopped.ensures ∙ c.if-is_stopped.false; spent = said_of_none (g.K.Keeper.told c.begin.new.self.replica.keeper) })
-    c.give_back.ensures.goes c.give_back.ensures.keeps c.give_back.ensures.rest tt c.give_back.ensures.log
+    c.give_back.ensures.goes c.give_back.ensures.keeps c.give_back.ensures.rest (inl (back_runs c.args.job.cid c.begin.new.self.replica.stopped _ _ (ap (λ r. r.stopped) c.in-Err.ensures.replica ∙ sym c.is_stopped.ensures ∙ c.if-is_stopped.false) c.give_back.ensures.wants)) c.give_back.ensures.log
 
 pub returns-then-processed-limit-clause-does : goal.returns-then-processed-limit-clause-does
 returns-then-processed-limit-clause-does g c =
@@ -52,4 +52,4 @@ returns-clause-does g c =
     job_serves g.K.Keeper.told g.K.Keeper.fuse g.K.Keeper.own g.K.Counted.faults g.K.Keeper.quiet g.K.Keeper.schedule (λ s. DeliverEvents s c.args.job.cid (found_in c.args.found)) (GivesBack c.args.job.cid) (λ s. DeliverShort s c.args.job.cid) (GivesBack c.args.job.cid) (short_back c.args.job.cid) (DeliverWants c.args.job.cid) _ c.args.limit c.in-Ok.processed c.begin.new.self.replica c.deliver_job-result.new.replica
     c.args.self.now.log.items c.begin.new.self.log.items c.note.new.log.items c.halted-entry.result c.deliver_job-result.result c.answered.result c.answered.ensures c.begin.new.self.tied c.in-Ok.ensures.log tied
     c.in-Ok.ensures.runs (omega (arith, c.if-processed-limit.false)) c.in-Ok.ensures.length c.deliver_job-result.ensures.call c.deliver_job-result.ensures.keeps c.deliver_job-result.ensures.rest
-    (deliver_wants c.args.job.cid _ _ _ _ c.deliver_job-result.ensures.wants c.deliver_job-result.ensures.known) c.halted-entry.ensures c.note.ensures
+    (deliver_wants c.args.job.cid _ _ _ _ c.deliver_job-result.ensures.wants c.deliver_job-result.ensures.known c.deliver_job-result.ensures.broken c.deliver_job-result.ensures.short) c.halted-entry.ensures c.note.ensures

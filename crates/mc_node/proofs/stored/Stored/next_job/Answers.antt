@@ -25,7 +25,7 @@ returns-then-is_stopped-clause-does g c =
 pub returns-in-Err-clause-does : goal.returns-in-Err-clause-does
 returns-in-Err-clause-does g c =
     serves_nothing g.K.Keeper.told g.K.Keeper.fuse g.K.Keeper.own g.K.Counted.faults g.K.Keeper.quiet g.K.Keeper.schedule (AnswersAt c.args.limit (Err Memory)) (WorkerCall NextEvents Stays NextStays (Err Memory)) (NextWants (Err Memory)) _ c.begin.new.self.replica _ _ c.begin.new.self.tied c.in-Err.ensures.log
-    (record { stopped = ap (λ r. r.stopped) c.in-Err.ensures.replica ∙ sym c.is_stopped.ensures ∙ c.if-is_stopped.false; spent = said_of_none (g.K.Keeper.told c.begin.new.self.replica.keeper) }) (λ s. inl refl) (λ q. tt)
+    (record { stopped = ap (λ r. r.stopped) c.in-Err.ensures.replica ∙ sym c.is_stopped.ensures ∙ c.if-is_stopped.false; spent = said_of_none (g.K.Keeper.told c.begin.new.self.replica.keeper) }) (λ s. inl refl) (λ q. inl refl)
 
 pub returns-then-length-limit-clause-does : goal.returns-then-length-limit-clause-does
 returns-then-length-limit-clause-does g c =
@@ -47,4 +47,4 @@ returns-clause-does g c =
     job_serves g.K.Keeper.told g.K.Keeper.fuse g.K.Keeper.own g.K.Counted.faults g.K.Keeper.quiet g.K.Keeper.schedule NextEvents Stays NextShort NextStays (λ s new short. inr short) NextWants _ c.args.limit c.in-Ok.length c.begin.new.self.replica c.begin_job-result.new.replica
     c.args.self.now.log.items c.begin.new.self.log.items c.note.new.log.items c.halted-entry.result c.begin_job-result.result c.answered.result c.answered.ensures c.begin.new.self.tied c.in-Ok.ensures.log tied
     c.in-Ok.ensures.runs (omega (arith, c.if-length-limit.false)) c.in-Ok.ensures.length c.begin_job-result.ensures.call c.begin_job-result.ensures.keeps c.begin_job-result.ensures.rest
-    (next_wants _ _ _ _ c.begin_job-result.ensures.begins) c.halted-entry.ensures c.note.ensures
+    (next_wants _ _ _ _ c.begin_job-result.ensures.begins c.begin_job-result.ensures.broken c.begin_job-result.ensures.short) c.halted-entry.ensures c.note.ensures
