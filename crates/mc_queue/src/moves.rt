@@ -1,5 +1,5 @@
 // The moves of the wanted set, each as one function of its four lists.
-ghost use Rattle.std.specs.Prelude.{◌≡◌, ◌≤◌, ◌<◌, ◌+◌, ◌-◌, [], true, false, Some, None, IfSome, not, ◌||◌, length};
+ghost use Rattle.std.specs.Prelude.{◌≡◌, ◌≤◌, ◌<◌, ◌-◌, [], true, false, Some, None, IfSome, not, ◌||◌, length};
 ghost use Rattle.std.specs.Prelude.{is_some, OnOk, cond};
 ghost use Rattle.indexmap.specs.IndexMap.{get, spare as spare_places};
 ghost use Rattle.mc_base.specs.declared.cid.Cid.{Cid};
@@ -8,7 +8,7 @@ ghost use Rattle.mc_model.specs.Graph.{has, times};
 ghost use Rattle.mc_model.specs.Wanted.{bad_cids, wanted, hear, to_waiting};
 ghost use Rattle.mc_list.specs.Entries.{first_place};
 ghost use Rattle.mc_list.specs.Views.{IsUsed, spare as spare_entries};
-ghost use Rattle.mc_queue.specs.Parts.{same_part, first_of};
+ghost use Rattle.mc_queue.specs.Parts.{same_part};
 ghost use Rattle.mc_queue.specs.Fits.{entries_of, moved};
 ghost use Rattle.mc_queue.specs.Shown.{cids_of, drained};
 ghost use Rattle.mc_queue.specs.declared.part.Part.TheVariants.{Waiting, Bad};
@@ -91,7 +91,8 @@ impl Queue {
         requires apart { same_part to Bad ≡ false }
         ensures queue { shown self.new ≡ cond (has cid.now (cids_of from (shown self.old)))
             (moved (Some to) (shown self.old) cid.now 0) (shown self.old) }
-        ensures once { has cid.now (cids_of from (shown self.old)) ≡ true → times cid.now (wanted (shown self.old)) ≤ 1 }
+        ensures once { has cid.now (cids_of from (shown self.old)) ≡ true
+            → times cid.now (wanted (shown self.old)) ≤ 1 }
         ensures room { self.new.room ≡ self.old.room }
     {
         if let Some(place) = self.standing(cid, from) {

@@ -118,7 +118,8 @@ fn many_calls_agree(rt: HostRuntime) -> Result<(), Fail> {
     Ok(())
 }
 
-// Entries in each list that share one value, and spare nodes. The lists are dropped at the end, after so many shares are counted.
+// How many shares of a value there are beside entries in each list that share it, and spare nodes. All of these are
+// dropped at the end.
 fn shares_in_lists(alloc: Global, shared: &Rc<u64>) -> Result<usize, Fail> {
     let mut lists = Lists::new(alloc);
     for number in 0..8 {
