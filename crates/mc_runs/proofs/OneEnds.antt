@@ -1,6 +1,6 @@
 -- Two works, or two repairs, of one world that have come to their ends leave the same.
-use Rattle.std.proofs.Common.{◌≡◌, ℕ, zero, suc, ◌+◌, ◌-◌, ◌≤◌, Bool, true, false, true≢false, List, [], ◌∷◌, ◌++◌, length, map, Option, Some, None, Result, Ok, Err, refl, sym, ◌∙◌, ap, subst, inl, inr, arith}
-use Rattle.std.specs.Prelude.{is_some, slice_get}
+use Rattle.std.proofs.Common.{◌≡◌, ℕ, zero, suc, ◌+◌, ◌-◌, ◌≤◌, ◌<◌, ◌^◌, ◌≢◌, Bool, true, false, true≢false, List, [], ◌∷◌, ◌++◌, length, map, Option, Some, None, Result, Ok, Err, refl, sym, ◌∙◌, ap, subst, inl, inr, arith}
+use Rattle.std.specs.Prelude.{◌⊎◌, IfSome, is_some, slice_get}
 use Rattle.std.specs.List.{AllByRecursion}
 use Rattle.std.specs.Option.{option_map}
 use Rattle.std.proofs.lemmas.List.{length-map}
@@ -13,12 +13,15 @@ use Rattle.mc_keep.specs.declared.fuse.Fuse.{Fuse}
 use Rattle.mc_model.specs.Draining.{bytes_in, queue_in}
 use Rattle.mc_model.specs.Draining as draining
 use Rattle.mc_model.specs.Found.{PeerOffers}
-use Rattle.mc_model.specs.Graph.{has, times}
+use Rattle.mc_model.specs.Graph.{cids_in, has, times}
 use Rattle.mc_model.specs.Kept.{Kept}
 use Rattle.mc_model.specs.State.{IsSound, Running, durable_of, wanted_in}
 use Rattle.mc_model.specs.Wanted.{Queue, bad_cids, held, wanted}
-use Rattle.mc_model.proofs.Counts.{times-append}
+use Rattle.mc_model.proofs.Counts.{cid_itself, has-append, times-append}
 use Rattle.mc_model.proofs.Drains.{once_in}
+use Rattle.mc_model.proofs.Takings.{taken_so_far}
+use Rattle.mc_model.specs.Drain.{IsSoFar}
+use Rattle.mc_model.specs.Front.{same_cid}
 use Rattle.mc_core.specs.Counted.{capped}
 use Rattle.mc_core.specs.Events.{ReplicaState, state_of}
 use Rattle.mc_core.specs.declared.CoreError.{CoreError}
@@ -26,12 +29,11 @@ use Rattle.mc_core.specs.declared.CoreError.TheVariants as core
 use Rattle.mc_drain.specs.Finds.{first_bytes, found_from}
 use Rattle.mc_drain.specs.Leads.{count}
 use Rattle.mc_drain.specs.Repairs.{RepairLeads, repair_start}
-use Rattle.mc_drain.specs.Works.{IsAtEnd, WorkLeads, came_between}
+use Rattle.mc_drain.specs.Works.{IsAtEnd, IsBefore, WorkLeads, came_between, limit_of}
 use Rattle.mc_drain.specs.declared.repairing.Repaired.{Repaired}
 use Rattle.mc_drain.specs.declared.repairing.Repaired.TheVariants as repaired
 use Rattle.mc_drain.specs.declared.working.Worked.{Worked}
 use Rattle.mc_drain.specs.declared.working.Worked.TheVariants as worked
-use Rattle.mc_script.specs.declared.command.Command.{Command}
 use Rattle.mc_script.specs.declared.command.Command.TheVariants.{Repair, Work}
 use Rattle.mc_script.specs.declared.reply.Reply.{Reply}
 use Rattle.mc_script.specs.declared.reply.Reply.TheVariants as replies
@@ -39,12 +41,11 @@ use Rattle.mc_seats.specs.declared.entry.LineEntry.{LineEntry}
 use Rattle.mc_seats.specs.declared.error.ActError.{ActError}
 use Rattle.mc_seats.specs.Asks.{is_named}
 use Rattle.mc_seats.specs.Effects.{IsReply, RefusedAt}
-use Rattle.mc_seats.specs.Fetching.{offers_of}
 use Rattle.mc_seats.specs.Step.{IsDone, Row, Step}
 use Rattle.mc_seats.specs.Works.{RepairDone, RepairsTo, WorkDone, WorksTo, budget_of, offered_by, repair_budget, repaired_reply, worked_reply}
-use Rattle.mc_seats.specs.Worlds.{Moved, Place, WorldState, peer_row, peers_of, picked, state_at}
-use Rattle.mc_runs.specs.OneEnd.{AreSame, AreSameAt, AreTold, is_end}
-use Rattle.mc_runs.proofs.OneClosure.{IsStill, bad_one, closed_one, coming_one, length_one, missing_one}
+use Rattle.mc_seats.specs.Worlds.{Place, WorldState, peer_row, peers_of, state_at}
+use Rattle.mc_runs.specs.OneEnd.{AreSame, AreSameAt, AreTold, HasRoom, is_end, is_worked}
+use Rattle.mc_runs.proofs.OneClosure.{IsStill, bad_one, before_end, closed_one, coming_one, length_one, missing_one, or_first}
 use Rattle.mc_runs.proofs.OneEvents.{all_picked, no_some, offers_told, some_is}
 use Rattle.mc_runs.proofs.WrittenFacts.{at_there, moved_stands}
 
@@ -159,31 +160,88 @@ repair_done w r workers entry reply w2 end step = over step.row
     over (inl (inr fault)) = absurd (true≢false (sym end ∙ ap is_end fault.says))
     over (inr peer) = absurd (true≢false (sym end ∙ ap is_end peer.says))
 
--- the end of a work
+-- the end of a work, or where its budget is used
 
-record IsWorked (map : Map) (s : ReplicaState) (q : Place) (reply : Reply) : Type 0 where
+record IsWorked (map : Map) (budget : ℕ) (s : ReplicaState) (q : Place) (reply : Reply) : Type 0 where
   pub state : ReplicaState
   pub is_state : state_at q ≡ Some state
   pub end : IsEnd map (wanted_in s.state.run) s state
+  pub within : count state ≤ count s + budget
   pub says : reply ≡ replies.Worked (came_between s state) (length (queue_in state.state.run).missing) (length (queue_in state.state.run).bad)
 
-work_end : (map : Map) (peers : List Place) (budget : ℕ) (p q : Place) (s : ReplicaState) (reply : Reply) → is_end reply ≡ true → state_at p ≡ Some s → found_from s.state.durable.graph (offered_by peers) ≡ Some map → WorkDone peers budget p q reply → IsWorked map s q reply
-work_end map peers budget p q s reply end is known done = over done.value done.says done.works
+record IsSpent (map : Map) (budget : ℕ) (s : ReplicaState) (q : Place) (reply : Reply) : Type 0 where
+  pub state : ReplicaState
+  pub before : IsBefore map (wanted_in s.state.run) s state
+  pub sound : IsSound state.state
+  pub waits : (queue_in state.state.run).waiting ≢ []
+  pub within : count state ≤ count s + budget
+  pub limit : limit_of budget s ≤ count state
+  pub says : reply ≡ replies.Again (came_between s state)
+
+work_cases : (map : Map) (peers : List Place) (budget : ℕ) (p q : Place) (s : ReplicaState) (reply : Reply) → state_at p ≡ Some s → found_from s.state.durable.graph (offered_by peers) ≡ Some map → WorkDone peers budget p q reply → IsWorked map budget s q reply ⊎ IsSpent map budget s q reply
+work_cases map peers budget p q s reply is known done = over done.value done.says done.works
   where
-    over : (value : Worked) → reply ≡ worked_reply value → WorksTo peers budget (Ok value) p q → IsWorked map s q reply
-    over (worked.Again processed) says works = absurd (true≢false (sym end ∙ ap is_end says))
+    over : (value : Worked) → reply ≡ worked_reply value → WorksTo peers budget (Ok value) p q → IsWorked map budget s q reply ⊎ IsSpent map budget s q reply
+    over (worked.Again processed) says works =
+        let after = told_after p q s (WorkLeads budget (offered_by peers) (Ok (worked.Again processed))) is works.told in
+        let run : q.run ≡ after.0.state.run = run_of_state q after.0 after.1 in
+        inr (record {
+          state = after.0;
+          before = after.2.is map known;
+          sound = after.2.sound;
+          waits = subst (λ (x : Option Running). (queue_in x).waiting ≢ []) run works.wants.0;
+          within = after.2.within;
+          limit = after.2.counts.1;
+          says = says ∙ ap replies.Again after.2.counts.0;
+        })
     over (worked.Done processed missing bad) says works =
         let after = told_after p q s (WorkLeads budget (offered_by peers) (Ok (worked.Done processed missing bad))) is works.told in
         let run : q.run ≡ after.0.state.run = run_of_state q after.0 after.1 in
         let still : IsStill (queue_in after.0.state.run) = subst (λ (x : Option Running). IsStill (queue_in x)) run (works.wants.0, works.wants.1) in
-        record {
+        inl (record {
           state = after.0;
           is_state = after.1;
           end = record { at_end = after.2.is map known; sound = after.2.sound; still = still };
+          within = after.2.within;
           says = says
               ∙ (λ i. replies.Worked (after.2.counts i) (works.wants.2 i) (works.wants.3 i))
               ∙ ap (λ (x : Option Running). replies.Worked (came_between s after.0) (length (queue_in x).missing) (length (queue_in x).bad)) run;
-        }
+        })
+
+work_end : (map : Map) (peers : List Place) (budget : ℕ) (p q : Place) (s : ReplicaState) (reply : Reply) → is_end reply ≡ true → state_at p ≡ Some s → found_from s.state.durable.graph (offered_by peers) ≡ Some map → WorkDone peers budget p q reply → IsWorked map budget s q reply
+work_end map peers budget p q s reply end is known done = over (work_cases map peers budget p q s reply is known done)
+  where
+    over : IsWorked map budget s q reply ⊎ IsSpent map budget s q reply → IsWorked map budget s q reply
+    over (inl a) = a
+    over (inr spent) = absurd (true≢false (sym end ∙ ap is_end spent.says))
+
+-- what is answered for a work
+
+first_waits : (waiting : List Cid) → waiting ≢ [] → (c : Cid) × (has c waiting ≡ true)
+first_waits [] some = absurd (some refl)
+first_waits (c ∷ waiting) some = (c, or_first (same_cid c c) (has c waiting) (cid_itself c))
+
+not_spent : (map : Map) (budget : ℕ) (s : ReplicaState) (q q2 : Place) (reply reply2 : Reply) → count s + budget < 2 ^ 64 → IsWorked map budget s q reply → IsSpent map budget s q2 reply2 → ⊥
+not_spent map budget s q q2 reply reply2 room a b =
+    let wants : Queue = queue_in b.state.state.run in
+    let first = first_waits wants.waiting b.waits in
+    let waits : has first.0 (wanted wants) ≡ true = has-append first.0 wants.waiting (wants.flight ++ (wants.missing ++ bad_cids wants.bad)) ∙ or_first (has first.0 wants.waiting) (has first.0 (wants.flight ++ (wants.missing ++ bad_cids wants.bad))) first.1 in
+    let so_far = subst (λ (l : List Cid). IsSoFar (draining.offers_of map) s.state.durable (wanted_in s.state.run) b.state.state.durable l) (wanted_of b.state.state.run)
+    (taken_so_far map (cids_in s.state.durable.graph) s.state.durable (wanted_in s.state.run) b.state.state b.sound b.before.drained) in
+    let fewer = before_end (draining.offers_of map) s.state.durable (wanted_in s.state.run) a.state.state.durable b.state.state.durable (wanted_in a.state.state.run) wants first.0 a.end.at_end.closure a.end.sound.durable.order_once so_far
+    (once_in b.state.state.durable b.state.state.run b.sound.durable b.sound.run) waits (b.before.good first.0 first.1) in
+    omega (arith, fewer, a.within, b.limit, room)
+
+worked_says : (map : Map) (budget budget2 : ℕ) (s : ReplicaState) (q q2 : Place) (reply reply2 : Reply) → IsWorked map budget s q reply → IsWorked map budget2 s q2 reply2 → reply ≡ reply2
+worked_says map budget budget2 s q q2 reply reply2 a b =
+    let start : List Cid = wanted_in s.state.run in
+    let came : came_between s a.state ≡ came_between s b.state = ap (λ (n : ℕ). capped n - capped (count s)) (ends_count map start s a.state b.state a.end b.end) in
+    a.says ∙ (λ i. replies.Worked (came i) (missing_count map start s a.state b.state a.end b.end i) (bad_count map start s a.state b.state a.end b.end i)) ∙ sym b.says
+
+spent_says : (map : Map) (budget : ℕ) (s : ReplicaState) (q q2 : Place) (reply reply2 : Reply) → count s + budget < 2 ^ 64 → IsSpent map budget s q reply → IsSpent map budget s q2 reply2 → reply ≡ reply2
+spent_says map budget s q q2 reply reply2 room a b =
+    let same : count a.state ≡ count b.state = omega (arith, a.within, a.limit, b.within, b.limit, room) in
+    a.says ∙ ap (λ (n : ℕ). replies.Again (capped n - capped (count s))) same ∙ sym b.says
 
 record IsRepaired (map : Map) (s : ReplicaState) (q : Place) : Type 0 where
   pub state : ReplicaState
@@ -217,9 +275,7 @@ repair_end map peers p q s reply end is known done = over done.value done.says d
 pub works_one : (w : WorldState) (r workers workers2 : ℕ) (budget budget2 : Option ℕ) (entry entry2 : LineEntry) (reply reply2 : Reply) (w2 w3 : WorldState) → AreTold w → is_end reply ≡ true → is_end reply2 ≡ true → Step w (Work r workers budget) entry reply w2 → Step w (Work r workers2 budget2) entry2 reply2 w3
     → (reply ≡ reply2) × AreSameAt r w2 w3
 works_one w r workers workers2 budget budget2 entry entry2 reply reply2 w2 w3 all end end2 step step2 = (
-  a.says
-      ∙ (λ i. replies.Worked (came i) (missing_count map (wanted_in s.0.state.run) s.0 a.state b.state a.end b.end i) (bad_count map (wanted_in s.0.state.run) s.0 a.state b.state a.end b.end i))
-      ∙ sym b.says,
+  worked_says map (budget_of budget) (budget_of budget2) s.0 first.moved.new second.moved.new reply reply2 a b,
   record {
     place = first.moved.new;
     place_too = second.moved.new;
@@ -248,14 +304,11 @@ works_one w r workers workers2 budget budget2 entry entry2 reply reply2 w2 w3 al
     map : Map
     map = (found_told w r s.0 all).0
 
-    a : IsWorked map s.0 first.moved.new reply
+    a : IsWorked map (budget_of budget) s.0 first.moved.new reply
     a = work_end map (peers_of w r) (budget_of budget) first.moved.old first.moved.new s.0 reply end s.1 (found_told w r s.0 all).1 first.moved.holds
 
-    b : IsWorked map s.0 second.moved.new reply2
+    b : IsWorked map (budget_of budget2) s.0 second.moved.new reply2
     b = work_end map (peers_of w r) (budget_of budget2) first.moved.old second.moved.new s.0 reply2 end2 s.1 (found_told w r s.0 all).1 (subst (λ (p : Place). WorkDone (peers_of w r) (budget_of budget2) p second.moved.new reply2) old second.moved.holds)
-
-    came : came_between s.0 a.state ≡ came_between s.0 b.state
-    came = ap (λ (n : ℕ). capped n - capped (count s.0)) (ends_count map (wanted_in s.0.state.run) s.0 a.state b.state a.end b.end)
 
 pub repairs_one : (w : WorldState) (r workers workers2 : ℕ) (entry entry2 : LineEntry) (reply reply2 : Reply) (w2 w3 : WorldState) → AreTold w → is_end reply ≡ true → is_end reply2 ≡ true → Step w (Repair r workers) entry reply w2 → Step w (Repair r workers2) entry2 reply2 w3 → AreSameAt r w2 w3
 repairs_one w r workers workers2 entry entry2 reply reply2 w2 w3 all end end2 step step2 = record {
@@ -290,3 +343,52 @@ repairs_one w r workers workers2 entry entry2 reply reply2 w2 w3 all end end2 st
 
     b : IsRepaired map s.0 second.moved.new
     b = repair_end map (peers_of w r) first.moved.old second.moved.new s.0 reply2 end2 s.1 (found_told w r s.0 all).1 (subst (λ (p : Place). RepairDone (peers_of w r) p second.moved.new reply2) old second.moved.holds)
+
+-- and of one budget
+
+abbrev says_worked : Result Reply ActError → Bool
+says_worked (Ok reply) = is_worked reply
+says_worked (Err error) = false
+
+no_work : (error : CoreError) (reply : Reply) → is_worked reply ≡ true → IsReply error reply → ⊥
+no_work core.KeeperFault reply work e = e
+no_work core.Memory reply work e = e
+no_work error reply work e = true≢false (sym work ∙ sym (ap says_worked e))
+
+work_done_so : (w : WorldState) (r workers : ℕ) (budget : Option ℕ) (entry : LineEntry) (reply : Reply) (w2 : WorldState) → is_worked reply ≡ true → Step w (Work r workers budget) entry reply w2 → IsDone w (Work r workers budget) reply w2
+work_done_so w r workers budget entry reply w2 work step = over step.row
+  where
+    over : Row w (Work r workers budget) (λ r. is_named entry.keepers r ≡ true) (λ r. is_named entry.own r ≡ true) (λ r. is_named entry.desks r ≡ true) reply w2 → IsDone w (Work r workers budget) reply w2
+    over (inl (inl (inl refused))) = let found = at_there w r (λ p. RefusedAt w p (Work r workers budget) (Some reply)) step.there refused.cause in absurd (no_work found.2.0 reply work found.2.3)
+    over (inl (inl (inr done))) = done
+    over (inl (inr fault)) = absurd (true≢false (sym work ∙ ap is_worked fault.says))
+    over (inr peer) = absurd (true≢false (sym work ∙ ap is_worked peer.says))
+
+pub answers_one : (w : WorldState) (r workers workers2 : ℕ) (budget : Option ℕ) (entry entry2 : LineEntry) (reply reply2 : Reply) (w2 w3 : WorldState) → AreTold w → HasRoom r budget w → is_worked reply ≡ true → is_worked reply2 ≡ true → Step w (Work r workers budget) entry reply w2 → Step w (Work r workers2 budget) entry2 reply2 w3 → reply ≡ reply2
+answers_one w r workers workers2 budget entry entry2 reply reply2 w2 w3 all room work work2 step step2 = over
+    (work_cases map (peers_of w r) (budget_of budget) first.moved.old first.moved.new s.0 reply s.1 (found_told w r s.0 all).1 first.moved.holds)
+    (work_cases map (peers_of w r) (budget_of budget) first.moved.old second.moved.new s.0 reply2 s.1 (found_told w r s.0 all).1 (subst (λ (p : Place). WorkDone (peers_of w r) (budget_of budget) p second.moved.new reply2) old second.moved.holds))
+  where
+    first : IsDone w (Work r workers budget) reply w2
+    first = work_done_so w r workers budget entry reply w2 work step
+
+    second : IsDone w (Work r workers2 budget) reply2 w3
+    second = work_done_so w r workers2 budget entry2 reply2 w3 work2 step2
+
+    old : second.moved.old ≡ first.moved.old
+    old = some_is (sym second.moved.stands ∙ first.moved.stands)
+
+    s : (s : ReplicaState) × (state_at first.moved.old ≡ Some s)
+    s = told_place first.moved.old (told_at w.places r first.moved.old all first.moved.stands)
+
+    map : Map
+    map = (found_told w r s.0 all).0
+
+    roomy : count s.0 + budget_of budget < 2 ^ 64
+    roomy = subst (λ (o : Option ReplicaState). IfSome o (λ s. count s + budget_of budget < 2 ^ 64)) s.1 (subst (λ (o : Option Place). IfSome o (λ (place : Place). IfSome (state_at place) (λ s. count s + budget_of budget < 2 ^ 64))) first.moved.stands room)
+
+    over : IsWorked map (budget_of budget) s.0 first.moved.new reply ⊎ IsSpent map (budget_of budget) s.0 first.moved.new reply → IsWorked map (budget_of budget) s.0 second.moved.new reply2 ⊎ IsSpent map (budget_of budget) s.0 second.moved.new reply2 → reply ≡ reply2
+    over (inl a) (inl b) = worked_says map (budget_of budget) (budget_of budget) s.0 first.moved.new second.moved.new reply reply2 a b
+    over (inl a) (inr b) = absurd (not_spent map (budget_of budget) s.0 first.moved.new second.moved.new reply reply2 roomy a b)
+    over (inr a) (inl b) = absurd (not_spent map (budget_of budget) s.0 second.moved.new first.moved.new reply2 reply roomy b a)
+    over (inr a) (inr b) = spent_says map (budget_of budget) s.0 first.moved.new second.moved.new reply reply2 roomy a b

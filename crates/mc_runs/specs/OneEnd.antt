@@ -1,14 +1,16 @@
 -- What two works, or two repairs, of one world have in common that have come to their ends.
-use Rattle.std.specs.Prelude.{◌≡◌, ℕ, Bool, true, false, Option, Some, is_some, slice_get}
+use Rattle.std.specs.Prelude.{◌≡◌, ◌<◌, ◌+◌, ◌^◌, ℕ, Bool, true, false, Option, Some, IfSome, is_some, slice_get}
 use Rattle.std.specs.List.{AllByRecursion}
 use Rattle.mc_base.specs.declared.cid.Cid.{Cid}
 use Rattle.mc_model.specs.Draining.{queue_in}
 use Rattle.mc_model.specs.Graph.{has}
 use Rattle.mc_model.specs.Wanted.{bad_cids}
 use Rattle.mc_core.specs.Events.{ReplicaState}
+use Rattle.mc_drain.specs.Leads.{count}
 use Rattle.mc_script.specs.declared.reply.Reply.{Reply}
-use Rattle.mc_script.specs.declared.reply.Reply.TheVariants.{Clean, OpenGaps, Worked}
+use Rattle.mc_script.specs.declared.reply.Reply.TheVariants.{Again, Clean, OpenGaps, Worked}
 use Rattle.mc_seats.specs.Step.{SameProcessed}
+use Rattle.mc_seats.specs.Works.{budget_of}
 use Rattle.mc_seats.specs.Worlds.{Place, WorldState, state_at}
 
 -- the content of each replica is told
@@ -21,6 +23,17 @@ is_end (Worked processed missing bad) = true
 is_end Clean = true
 is_end (OpenGaps gaps) = true
 is_end reply = false
+
+-- whether this is the reply to a work that has come to its end, or has used its budget
+abbrev pub is_worked : Reply → Bool
+is_worked (Worked processed missing bad) = true
+is_worked (Again processed) = true
+is_worked reply = false
+
+-- the processed blocks of a replica and a budget together have a number of 64 bits
+abbrev pub HasRoom : ℕ → Option ℕ → WorldState → Type 0
+HasRoom r budget w = IfSome (slice_get w.places r) (λ (place : Place).
+    IfSome (state_at place) (λ s. count s + budget_of budget < 2 ^ 64))
 
 -- the same blocks are processed, as many, and the same ones are missing and bad
 pub record AreSame (s t : ReplicaState) : Type 0 where

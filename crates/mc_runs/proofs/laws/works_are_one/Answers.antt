@@ -1,4 +1,4 @@
-use Rattle.mc_runs.proofs.OneEnds.{repairs_one, works_one}
+use Rattle.mc_runs.proofs.OneEnds.{answers_one, repairs_one, works_one}
 use Rattle.mc_runs.proofs.laws.works_are_one.Goals as goal
 
 pub returns-clause-works : goal.returns-clause-works
@@ -6,3 +6,6 @@ returns-clause-works c = works_one
 
 pub returns-clause-repairs : goal.returns-clause-repairs
 returns-clause-repairs c = repairs_one
+
+pub returns-clause-answers : goal.returns-clause-answers
+returns-clause-answers c = answers_one
