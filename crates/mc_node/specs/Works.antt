@@ -65,7 +65,7 @@ pub record StuckFit (found : Offers) (q : Queue) : Type 0 where
   pub missing : (c : Cid) → has c q.missing ≡ true → found c ≡ Nothing
   pub bad : (c : Cid) (number : ℕ) → is_bad_as c number q.bad ≡ true → found c ≡ Damaged number
 
--- the same of what workers lead to
+-- what workers lead to, in a form that has one proof at most
 pub record HasLed (limit : Bounds) (failed : Bool) (s new : ReplicaState) : Type 0 where
   pub order : take (length s.state.durable.order) new.state.durable.order ≡ s.state.durable.order
   pub graph : take (length s.state.durable.graph) new.state.durable.graph ≡ s.state.durable.graph

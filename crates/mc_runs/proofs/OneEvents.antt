@@ -1,6 +1,6 @@
 -- What a command that has one outcome makes: its events and its reply are those of its world alone.
 use Rattle.std.proofs.Common.{◌≡◌, ◌≢◌, ℕ, Bool, true, false, ◌&&◌, true≢false, List, [], ◌∷◌, length, map, Option, Some, None, Result, Ok, Err, refl, sym, ◌∙◌, ap, subst, inl, inr, arith}
-use Rattle.std.specs.Prelude.{◌⊎◌, IfSome, is_ok, is_some, unwrap_or}
+use Rattle.std.specs.Prelude.{◌⊎◌, is_ok, is_some, unwrap_or}
 use Rattle.std.specs.List.{AllByRecursion}
 use Rattle.mc_base.specs.Told.{Told}
 use Rattle.mc_base.specs.declared.cid.Cid.{Cid}
