@@ -51,12 +51,9 @@ pub struct FileDatabase {
 }
 
 impl FileDatabase {
-    /// Opens the file of the replica with this index in a folder, and makes it where it is not there: `a.db` for 0, and so
-    /// on.
-    pub fn open(rt: &HostRuntime, dir: &str, index: u64) -> Result<FileDatabase, KeepError> {
-        let letter = letter_of(index);
-        let path = format!(in rt.alloc(); "{dir}/{letter}.db")?;
-        match Connection::open(rt, path.as_str()) {
+    /// Opens the file with this name, and makes it where it is not there. Its folder must exist.
+    pub fn open(rt: &HostRuntime, name: &str) -> Result<FileDatabase, KeepError> {
+        match Connection::open(rt, name) {
             Ok(connection) => Ok(FileDatabase { connection }),
             Err(Error::SqliteFailure(ErrorCode::OutOfMemory)) => Err(KeepError::Memory),
             Err(_) => Err(KeepError::Failed),
@@ -80,11 +77,6 @@ impl Drop for FileDatabase {
     fn drop(self) {
         let _ = self.into_connection().into_store().close();
     }
-}
-
-// The letter of the replica with this index.
-fn letter_of(index: u64) -> char {
-    b'a'.saturating_add(index.min(7) as u8) as char
 }
 
 impl Database for FileDatabase {

@@ -1,10 +1,11 @@
 // Who makes the keepers of the program, and takes them back.
-ghost use Rattle.std.specs.Prelude.{◌≡◌, ◌+◌, ◌-◌, ◌^◌, ℕ, true, min, IfOk};
+ghost use Rattle.std.specs.Prelude.{◌≡◌, ◌+◌, ◌-◌, ◌^◌, ℕ, min, IfOk};
 ghost use Rattle.std.specs.List.{sum_by};
 ghost use Rattle.mc_keep.specs.Causes.{CountGoes};
 ghost use Rattle.mc_keep.specs.Plan.{is_fault};
 ghost use Rattle.mc_keepers.specs.declared.keepers.KeeperPlan.{KeeperPlan};
-ghost use Rattle.mc_keep_any.specs.Real.{starts_of, starts_marked, is_by, is_memory, never_told};
+ghost use Rattle.mc_keep_sql.specs.Named.{file_of};
+ghost use Rattle.mc_keep_any.specs.Real.{IsBy, starts_of, starts_marked, is_memory, never_told};
 
 use crate::any::AnyKeeper;
 use crate::desk::AnyDesk;
@@ -69,7 +70,7 @@ impl Keepers for RealKeepers {
     ghost lost = { λ keepers. keepers.lost };
 
     ghost makes = { λ old plan index result new. (new ≡ record old { faults = new.faults })
-        × IfOk result (λ keeper. is_by plan keeper ≡ true) };
+        × IfOk result (λ keeper. IsBy file_of plan index keeper) };
 
     ghost takes = { λ old keeper desks new. new ≡ record old {
       lost = min (old.lost + ⟦<AnyKeeper<MemKeeper, FileKeeper> as Counted>⟧.faults keeper

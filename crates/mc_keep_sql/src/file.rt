@@ -1,8 +1,11 @@
 // The keeper over a SQLite file.
 ghost use Rattle.std.specs.Prelude.{◌≡◌, ◌-◌, ◌^◌, false, None, IfOk};
+ghost use Rattle.mc_keep_sql.specs.Name.{name_text};
+ghost use Rattle.mc_keep_sql.specs.Named.{file_of};
 
 use crate::desk::SqlDesk;
 use crate::keeper::DatabaseKeeper;
+use crate::name::file_name;
 use mc_base::{Bytes, Cid, Counted, Failed, List, Text};
 use mc_database::FileDatabase;
 use mc_keep::{Changes, ElementRow, HeadRow, KeepError, Keeper, RankedValue, Summary, ValueRow};
@@ -15,6 +18,7 @@ use std::sync::Wait;
 #[derive(Drop)]
 pub struct FileKeeper {
     inner: DatabaseKeeper<FileDatabase>,
+    name: Text,
 }
 
 impl FileKeeper {
@@ -22,18 +26,27 @@ impl FileKeeper {
     /// exist.
     pub fn open(rt: &HostRuntime, dir: &str, index: u64) -> Result<FileKeeper, KeepError>
         ensures fresh { IfOk result (λ keeper. keeper.inner.faults ≡ 0) }
+        ensures named { IfOk result (λ keeper. file_of keeper ≡ name_text dir.now index) }
     {
-        match DatabaseKeeper::open_file(rt, dir, index) {
-            Ok(inner) => Ok(FileKeeper { inner }),
+        let name = file_name(rt.alloc(), dir, index)?;
+        match DatabaseKeeper::open_file(rt, name.as_str()) {
+            Ok(inner) => Ok(FileKeeper { inner, name }),
             Err(error) => Err(error),
         }
+    }
+
+    /// The name of the file that it was opened over.
+    pub fn name(&self) -> &str
+        ensures { result.now ≡ file_of self.now }
+    {
+        self.name.as_str()
     }
 }
 
 impl FileKeeper {
     /// Copies the log into the file, and closes both. Where that fails the log stays beside the file, with all commits.
     pub fn close(self) {
-        let FileKeeper { inner } = self;
+        let FileKeeper { inner, name: _ } = self;
         inner.into_database().close();
     }
 }

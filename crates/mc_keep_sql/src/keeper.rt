@@ -5,6 +5,7 @@ ghost use Rattle.mc_keep.specs.Causes.{CountGoes};
 ghost use Rattle.mc_keep.specs.Plan.{is_fault};
 
 use crate::desk::SqlDesk;
+use crate::name::file_name;
 use mc_base::{Bytes, Cid, Counted, Failed, List, Text};
 use mc_database::{Counts, Database, FileDatabase, Work, counts_after, opened};
 use mc_keep::{Changes, ElementRow, HeadRow, KeepError, Keeper, RankedValue, Summary, ValueRow};
@@ -33,7 +34,8 @@ impl SqlKeeper {
     pub fn open(rt: &HostRuntime, dir: &str, index: u64) -> Result<SqlKeeper, KeepError>
         ensures fresh { IfOk result (λ keeper. keeper.faults ≡ 0) }
     {
-        match DatabaseKeeper::open_file(rt, dir, index) {
+        let name = file_name(rt.alloc(), dir, index)?;
+        match DatabaseKeeper::open_file(rt, name.as_str()) {
             Ok(keeper) => Ok(keeper.into_sql()),
             Err(error) => Err(error),
         }
@@ -56,15 +58,14 @@ impl<S: Alter + Drop> SqlKeeper<S> {
 }
 
 impl DatabaseKeeper<FileDatabase> {
-    // A keeper over the file of the replica with this index.
+    // A keeper over the file with this name.
     pub(crate) fn open_file(
         rt: &HostRuntime,
-        dir: &str,
-        index: u64,
+        name: &str,
     ) -> Result<DatabaseKeeper<FileDatabase>, KeepError>
         ensures fresh { IfOk result (λ keeper. keeper.faults ≡ 0) }
     {
-        match FileDatabase::open(rt, dir, index) {
+        match FileDatabase::open(rt, name) {
             Ok(database) => DatabaseKeeper::over(database),
             Err(error) => Err(error),
         }

@@ -5,6 +5,7 @@
 mod desk;
 mod file;
 mod keeper;
+mod name;
 mod sums;
 
 pub use desk::SqlDesk;
