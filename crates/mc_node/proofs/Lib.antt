@@ -23,3 +23,4 @@ pub mod StormWrites
 pub mod Gathering
 pub mod StormFacts
 pub mod StormCrews
+pub mod Crossing
