@@ -1,5 +1,6 @@
 pub mod AnswerFacts
 pub mod CalmFacts
+pub mod Crossing
 pub mod DeskFacts
 pub mod Hiring
 pub mod Left
