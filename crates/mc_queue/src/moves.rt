@@ -1,5 +1,5 @@
 // The moves of the wanted set, each as one function of its four lists.
-ghost use Rattle.std.specs.Prelude.{◌≡◌, ◌≤◌, ◌<◌, ◌-◌, [], true, false, Some, None, IfSome, not, ◌||◌, length};
+ghost use Rattle.std.specs.Prelude.{◌≡◌, ◌≤◌, ◌<◌, ◌+◌, ◌-◌, [], true, false, Some, None, IfSome, not, ◌||◌, length};
 ghost use Rattle.std.specs.Prelude.{is_some, OnOk, cond};
 ghost use Rattle.indexmap.specs.IndexMap.{get, spare as spare_places};
 ghost use Rattle.mc_base.specs.declared.cid.Cid.{Cid};
@@ -16,6 +16,7 @@ ghost use Rattle.mc_queue.specs.declared.part.Part.TheVariants.{Waiting, Bad};
 use crate::part::{Entry, Part};
 use crate::places;
 use crate::queue::Queue;
+use indexmap::map;
 use mc_base::Cid;
 use mc_list::Place;
 use std::alloc::AllocError;
@@ -100,18 +101,27 @@ impl Queue {
         }
     }
 
-    /// A block that is not wanted comes to the back of waiting. It takes no memory.
-    pub(crate) fn enter(&mut self, cid: Cid)
-        requires absent { get same_cid self.old.places cid ≡ None }
+    /// The place of a wanted block; one that is not wanted comes to the back of waiting. It takes no memory.
+    pub(crate) fn enter(&mut self, cid: Cid) -> Option<Place>
         requires room { 0 < self.old.room }
-        ensures queue { shown self.new ≡ to_waiting (shown self.old) cid }
-        ensures room { self.new.room ≡ self.old.room - 1 }
+        ensures place { IfSome result (λ place. get same_cid self.new.places cid ≡ Some place) }
+        ensures used { IfSome result (λ place. IsUsed self.new.lists place) }
+        ensures wanted { is_some result ≡ has cid (wanted (shown self.old)) }
+        ensures queue { shown self.new ≡ cond (is_some result) (shown self.old) (to_waiting (shown self.old) cid) }
+        ensures room { self.old.room ≡ self.new.room + cond (is_some result) 0 1 }
     {
-        let place = self
-            .lists
-            .add(Part::Waiting.list(), Entry { cid, damage: 0 });
-        places::add(&mut self.places, cid, place);
-        self.room -= 1;
+        let Ok(entry) = self.places.entry(cid) else {
+            unreachable!();
+        };
+        match entry {
+            map::Entry::Occupied(known) => Some(*known.get()),
+            map::Entry::Vacant(new) => {
+                let wanted = Entry { cid, damage: 0 };
+                new.insert_entry(self.lists.add(Part::Waiting.list(), wanted));
+                self.room -= 1;
+                None
+            }
+        }
     }
 
     /// What stands at the place of a block comes to the back of bad, with the number of the damage. It takes no memory.

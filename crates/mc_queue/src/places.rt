@@ -16,16 +16,6 @@ pub(crate) fn find(places: &IndexMap<Cid, Place>, cid: &Cid) -> Option<Place>
     places.get(cid).copied()
 }
 
-/// Sets the place of a block that has none.
-pub(crate) fn add(places: &mut IndexMap<Cid, Place>, cid: Cid, place: Place)
-    requires room { 0 < spare places.old }
-    ensures places { (other : Cid) → get same_cid places.new other
-        ≡ cond (same_cid cid other) (Some place) (get same_cid places.old other) }
-    ensures spare { spare places.old ≤ spare places.new + 1 }
-{
-    let _before = places.insert(cid, place);
-}
-
 /// Sets the place of a block that has one.
 pub(crate) fn set(places: &mut IndexMap<Cid, Place>, cid: &Cid, place: Place)
     requires there { is_some (get same_cid places.old cid.now) ≡ true }

@@ -81,8 +81,7 @@ impl Queue {
         ensures came { result ≡ comes again (shown self.old) cid }
         ensures spare { spare self.old ≤ spare self.new + cond result 1 0 }
     {
-        let Some(place) = self.place_of(&cid) else {
-            self.enter(cid);
+        let Some(place) = self.enter(cid) else {
             return true;
         };
         if again {
