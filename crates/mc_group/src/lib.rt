@@ -1,0 +1,12 @@
+//! Blocks of an inbox that a replica takes in together: which of them are taken up, planned over its keeper with all memory
+//! taken, and what becomes of the rest.
+//! docs/GLOSSARY.md explains the words of its contracts.
+#![tactic(auto)]
+
+mod drains;
+mod giving;
+mod grouped;
+
+pub use drains::calls_on_an_inbox_drain;
+pub use giving::give_back_all;
+pub use grouped::Grouped;

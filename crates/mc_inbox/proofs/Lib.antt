@@ -1,0 +1,2 @@
+pub mod InboxFacts
+pub mod GroupFacts
