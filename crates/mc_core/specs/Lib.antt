@@ -16,6 +16,7 @@ pub use Rattle.mc_plan.specs.Walks
 pub use Rattle.mc_inbox.specs.Waiting
 pub mod AnswersTo
 pub mod Exact
+pub mod Groups
 pub mod Replica
 pub mod Reports
 pub mod Steps

@@ -11,7 +11,7 @@ ghost use Rattle.mc_core.specs.Words.{Acts, Continues, HappensTo};
 
 use crate::Replica;
 use mc_block::Verified;
-use mc_group::{Grouped, give_back_all};
+use mc_group::{Group, Grouped, give_back_all};
 use mc_keep::Keeper;
 use mc_model::kept_is_durable;
 use mc_plan::CoreError;
@@ -87,9 +87,10 @@ impl<K: Keeper> Replica<K> {
         if self.stopped {
             return Err(CoreError::Stopped);
         }
-        let _alloc = alloc;
-        let _limit = limit;
-        Err(CoreError::Memory)
+        match Group::with_room(alloc, limit as usize) {
+            Ok(group) => self.take_in(alloc, limit, group),
+            Err(AllocError) => Err(CoreError::Memory),
+        }
     }
 
     /// Gives all blocks of the inbox up: each that is in flight comes to the back of what waits, in their order. It takes

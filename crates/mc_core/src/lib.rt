@@ -8,6 +8,7 @@ mod commits;
 mod deletes;
 mod deliveries;
 mod desks;
+mod groups;
 mod hears;
 mod inboxes;
 mod jobs;

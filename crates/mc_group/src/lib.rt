@@ -4,9 +4,15 @@
 #![tactic(auto)]
 
 mod drains;
+mod gathering;
 mod giving;
+mod group;
 mod grouped;
+mod planning;
 
 pub use drains::calls_on_an_inbox_drain;
+pub use gathering::gather;
 pub use giving::give_back_all;
+pub use group::{Group, Slot, put_back, stores_of};
 pub use grouped::Grouped;
+pub use planning::{GroupPlan, plan_group};

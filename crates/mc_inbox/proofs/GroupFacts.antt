@@ -65,7 +65,7 @@ group_few flight (item ∷ items) =
     ]
 
 -- what holds of all that came in holds of those that are taken up, and of those that are stored
-good_group : (test : Stored → Bool) (flight : List Cid) (items : List Stored) → list_all test items ≡ true → list_all test (group_of flight items) ≡ true
+pub good_group : (test : Stored → Bool) (flight : List Cid) (items : List Stored) → list_all test items ≡ true → list_all test (group_of flight items) ≡ true
 good_group test flight [] e = refl
 good_group test flight (item ∷ items) e =
     let parts = and_parts (test item) (list_all test items) e in
@@ -74,7 +74,7 @@ good_group test flight (item ∷ items) e =
       | false ↦ good_group test flight items parts.1
     ]
 
-good_store : (test : Stored → Bool) (graph : List Vertex) (group : List Stored) → list_all test group ≡ true → list_all test (to_store graph group) ≡ true
+pub good_store : (test : Stored → Bool) (graph : List Vertex) (group : List Stored) → list_all test group ≡ true → list_all test (to_store graph group) ≡ true
 good_store test graph [] e = refl
 good_store test graph (item ∷ group) e =
     let parts = and_parts (test item) (list_all test group) e in
@@ -106,7 +106,7 @@ times_more c x xs ys h = elim (same_cid c x) as (λ b. cond b (1 + times c xs) (
 times_less : (c x : Cid) (ys : List Cid) → times c ys ≤ times c (x ∷ ys)
 times_less c x ys = elim (same_cid c x) as (λ b. times c ys ≤ cond b (1 + times c ys) (times c ys)) [ true ↦ omega arith | false ↦ omega arith ]
 
-store_within : (graph : List Vertex) (group : List Stored) (c : Cid) → times c (cids_of (to_store graph group)) ≤ times c (cids_of group)
+pub store_within : (graph : List Vertex) (group : List Stored) (c : Cid) → times c (cids_of (to_store graph group)) ≤ times c (cids_of group)
 store_within graph [] c = omega arith
 store_within graph (item ∷ group) c =
     let less = times_less c item.cid (cids_of group) in
@@ -145,7 +145,7 @@ or_middle : (a s b : Bool) → (a || b) ≡ true → (a || (s || b)) ≡ true
 or_middle true s b e = refl
 or_middle false s b e = or_right s b e
 
-all_stored : (graph : List Vertex) (group : List Stored) (c : Cid) → has c (cids_of group) ≡ true → (in_graph graph c || has c (cids_of (to_store graph group))) ≡ true
+pub all_stored : (graph : List Vertex) (group : List Stored) (c : Cid) → has c (cids_of group) ≡ true → (in_graph graph c || has c (cids_of (to_store graph group))) ≡ true
 all_stored graph [] c e = absurd (false≢true e)
 all_stored graph (item ∷ group) c e = by_test (same_cid c item.cid) refl e (all_stored graph group c)
   where

@@ -26,3 +26,4 @@ pub mod TakenFacts
 pub mod UptakeFacts
 pub mod ValueFacts
 pub mod WalkFacts
+pub mod WithoutFacts

@@ -1,0 +1,36 @@
+-- Blocks that leave the wanted set, one after another.
+use Rattle.std.proofs.Common.{◌≡◌, ℕ, Bool, true, false, not, cond, ◌||◌, filter, List, [], ◌∷◌, ◌++◌, refl, sym, ap, ◌∙◌}
+use Rattle.mc_base.specs.declared.cid.Cid.{Cid}
+use Rattle.mc_model.specs.Graph.{has}
+use Rattle.mc_model.specs.Wanted.{Queue, without}
+use Rattle.mc_model.proofs.Counts.{has-append}
+
+none_leave : {X : Type 0} (cid_of : X → Cid) (xs : List X) → filter (λ x. not (has (cid_of x) [])) xs ≡ xs
+none_leave cid_of [] = refl
+none_leave cid_of (x ∷ xs) = ap (λ rest. x ∷ rest) (none_leave cid_of xs)
+
+more_leave : {X : Type 0} (cid_of : X → Cid) (cids more : List Cid) (xs : List X) → filter (λ x. not (has (cid_of x) more)) (filter (λ x. not (has (cid_of x) cids)) xs) ≡ filter (λ x. not (has (cid_of x) (cids ++ more))) xs
+more_leave cid_of cids more [] = refl
+more_leave {X} cid_of cids more (x ∷ xs) =
+    by_test (has (cid_of x) cids) ∙ ap (λ t. cond (not t) (x ∷ filter (λ x. not (has (cid_of x) (cids ++ more))) xs) (filter (λ x. not (has (cid_of x) (cids ++ more))) xs)) (sym (has-append (cid_of x) cids more))
+  where
+    by_test : (b : Bool) → filter (λ x. not (has (cid_of x) more)) (cond (not b) (x ∷ filter (λ x. not (has (cid_of x) cids)) xs) (filter (λ x. not (has (cid_of x) cids)) xs))
+        ≡ cond (not (b || has (cid_of x) more)) (x ∷ filter (λ x. not (has (cid_of x) (cids ++ more))) xs) (filter (λ x. not (has (cid_of x) (cids ++ more))) xs)
+    by_test true = more_leave cid_of cids more xs
+    by_test false = ap (λ rest. cond (not (has (cid_of x) more)) (x ∷ rest) rest) (more_leave cid_of cids more xs)
+
+pub without_none : (q : Queue) → q ≡ without q []
+without_none q = λ i. record {
+  waiting = sym (none_leave (λ (d : Cid). d) q.waiting) i;
+  flight = sym (none_leave (λ (d : Cid). d) q.flight) i;
+  missing = sym (none_leave (λ (d : Cid). d) q.missing) i;
+  bad = sym (none_leave (λ (b : Cid × ℕ). b.0) q.bad) i;
+}
+
+pub without_more : (q : Queue) (cids more : List Cid) → without (without q cids) more ≡ without q (cids ++ more)
+without_more q cids more = λ i. record {
+  waiting = more_leave (λ (d : Cid). d) cids more q.waiting i;
+  flight = more_leave (λ (d : Cid). d) cids more q.flight i;
+  missing = more_leave (λ (d : Cid). d) cids more q.missing i;
+  bad = more_leave (λ (b : Cid × ℕ). b.0) cids more q.bad i;
+}
