@@ -109,7 +109,7 @@ turned_length p (e ∷ es) more new first few left =
   where
     one_more : (xs : List (Entry Verified)) → length (xs ++ e ∷ []) ≡ length (e ∷ xs)
     one_more [] = refl
-    one_more (x ∷ xs) = ap (λ n. n + 1) (one_more xs)
+    one_more (x ∷ xs) = ap suc (one_more xs)
 
 -- all of them are good
 pub all_good : (es : List (Entry Verified)) → list_all (λ (item : Stored). is_good item.cid item.bytes) (items_of es) ≡ true
@@ -117,14 +117,18 @@ all_good [] = refl
 all_good (e ∷ es) = and_from (is_good e.item.cid e.item.bytes) (list_all (λ (item : Stored). is_good item.cid item.bytes) (items_of es)) (ap is_ok e.item.good) (all_good es)
 
 -- one more turn
-pub turn_more : (count : ℕ) (items : List Stored) → 1 + count ≤ length items → turned (drop count items ++ take count items) ≡ drop (1 + count) items ++ take (1 + count) items
+pub turn_more : (count : ℕ) (items : List Stored) → suc count ≤ length items → turned (drop count items ++ take count items) ≡ drop (suc count) items ++ take (suc count) items
 turn_more count items lt = go count items [] lt
   where
-    go : (count : ℕ) (items front : List Stored) → 1 + count ≤ length items → turned (drop count items ++ (front ++ take count items)) ≡ drop (1 + count) items ++ (front ++ take (1 + count) items)
+    go : (count : ℕ) (items front : List Stored) → suc count ≤ length items → turned (drop count items ++ (front ++ take count items)) ≡ drop (suc count) items ++ (front ++ take (suc count) items)
     go zero [] front lt = absurd (omega (arith, lt))
     go zero (x ∷ xs) front lt = ap (λ ys. xs ++ ys ++ x ∷ []) (append-nil front) ∙ append_assoc xs front (x ∷ [])
     go (suc count) [] front lt = absurd (omega (arith, lt))
     go (suc count) (x ∷ xs) front lt =
         ap (λ ys. turned (drop count xs ++ ys)) (sym (append_assoc front (x ∷ []) (take count xs)))
         ∙ go count xs (front ++ x ∷ []) (omega (arith, lt))
-        ∙ ap (λ ys. drop (1 + count) xs ++ ys) (append_assoc front (x ∷ []) (take (1 + count) xs))
+        ∙ ap (λ ys. drop (suc count) xs ++ ys) (append_assoc front (x ∷ []) (take (suc count) xs))
+
+pub items_length : (es : List (Entry Verified)) → length (items_of es) ≡ length es
+items_length [] = refl
+items_length (e ∷ es) = ap suc (items_length es)

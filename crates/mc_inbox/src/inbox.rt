@@ -132,8 +132,13 @@ impl Inbox {
         }
     }
 
-    /// Each block is good under its identifier. A caller has this of every inbox. Does nothing.
+    /// Each block is good under its identifier; there are at most 64, and no more than there is room for. A caller has
+    /// this of every inbox. Does nothing.
     pub fn is_good(&self)
-        ensures { list_all (λ (item : Stored). is_good item.cid item.bytes) self.now.items ≡ true }
-    {}
+        ensures good { list_all (λ (item : Stored). is_good item.cid item.bytes) self.now.items ≡ true }
+        ensures few { length self.now.items ≤ 64 }
+        ensures room { length self.now.items ≤ self.now.room }
+    {
+        let _ = &self.lists;
+    }
 }
