@@ -76,7 +76,7 @@ left_of_all limit (x ∷ items) rest e = subst (λ n. drop n (x ∷ items ++ res
 few_first : (limit : ℕ) (items : List Stored) → length items ≤ limit → take limit items ≡ items
 few_first limit [] few = none_first limit
   where
-    none_first : (limit : ℕ) → take limit [] ≡ []
+    none_first : (limit : ℕ) → take {A = Stored} limit [] ≡ []
     none_first zero = refl
     none_first (suc n) = refl
 few_first zero (x ∷ items) few = absurd (omega (arith, few))
@@ -85,7 +85,7 @@ few_first (suc limit) (x ∷ items) few = ap (λ xs. x ∷ xs) (few_first limit 
 few_left : (limit : ℕ) (items : List Stored) → length items ≤ limit → drop limit items ≡ []
 few_left limit [] few = none_left limit
   where
-    none_left : (limit : ℕ) → drop limit [] ≡ []
+    none_left : (limit : ℕ) → drop {A = Stored} limit [] ≡ []
     none_left zero = refl
     none_left (suc n) = refl
 few_left zero (x ∷ items) few = absurd (omega (arith, few))

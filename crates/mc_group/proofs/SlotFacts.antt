@@ -1,6 +1,6 @@
 -- A block comes to a group.
-use Rattle.std.proofs.Common.{◌≡◌, ℕ, ◌+◌, ◌≤◌, Bool, true, false, not, cond, ◌&&◌, ◌||◌, List, [], ◌∷◌, ◌++◌, length, map, filter, drop, Option, Some, None, Ok, refl, sym, ap, ◌∙◌, subst, arith}
-use Rattle.std.specs.Prelude.{IfSome, unwrap_or, is_some}
+use Rattle.std.proofs.Common.{◌≡◌, ℕ, ◌+◌, ◌≤◌, Bool, true, false, not, cond, ◌&&◌, ◌||◌, List, [], ◌∷◌, ◌++◌, length, map, filter, drop, Option, Some, None, Result, Ok, Err, refl, sym, ap, ◌∙◌, subst, arith}
+use Rattle.std.specs.Prelude.{IfOk, IfSome, unwrap_or, is_some}
 use Rattle.std.specs.Option.{option_map}
 use Rattle.std.specs.Result.{result_ok}
 use Rattle.std.proofs.lemmas.Bool.{or_right, false≢true}
@@ -11,14 +11,15 @@ use Rattle.mc_model.specs.declared.block.Block.{Block}
 use Rattle.mc_model.specs.declared.block.Stored.{Stored}
 use Rattle.mc_model.specs.Front.{same_cid}
 use Rattle.mc_model.specs.Graph.{has, in_graph}
-use Rattle.mc_model.specs.Kept.{Kept, block_in, block_under, bytes_at, cids_of, is_stored}
-use Rattle.mc_model.specs.Offer.{block_of, empty_delta, offer}
+use Rattle.mc_model.specs.Kept.{Kept, IsKept, block_in, block_under, bytes_at, cids_of, is_stored}
+use Rattle.mc_model.specs.Offer.{block_of, empty_delta, is_good, offer}
 use Rattle.mc_model.specs.State.{durable_of, vertices}
 use Rattle.mc_model.specs.Wanted.{others}
 use Rattle.mc_model.proofs.Blocks.{in_graph_stored}
 use Rattle.mc_model.proofs.Counts.{cid_is, same_cid-symm}
 use Rattle.mc_inbox.specs.Groups.{group_of, to_store}
-use Rattle.mc_inbox.specs.Waiting.{as_stored}
+use Rattle.mc_inbox.specs.Waiting.{as_stored, first_of}
+use Rattle.mc_plan.proofs.JobFacts.{stored_good}
 use Rattle.mc_group.specs.declared.group.Fate.{Fate}
 use Rattle.mc_group.specs.declared.group.Fate.TheVariants as fate
 use Rattle.mc_group.specs.declared.group.Slot.{Slot}
@@ -47,11 +48,11 @@ stores_more (New s ∷ slots) slot = ap (λ xs. s ∷ xs) (stores_more slots slo
 
 pub slots_length : (slots : List Slot) (slot : Slot) → length (slots ++ slot ∷ []) ≡ length slots + 1
 slots_length [] slot = refl
-slots_length (s ∷ slots) slot = ap (λ n. n + 1) (slots_length slots slot)
+slots_length (s ∷ slots) slot = let more = slots_length slots slot in omega (arith, more)
 
 one_length : {X : Type 0} (xs : List X) (x : X) → length (xs ++ x ∷ []) ≡ length xs + 1
 one_length [] x = refl
-one_length (y ∷ xs) x = ap (λ n. n + 1) (one_length xs x)
+one_length (y ∷ xs) x = let more = one_length xs x in omega (arith, more)
 
 map_more : {X Y : Type 0} (f : X → Y) (xs : List X) (x : X) → map f (xs ++ x ∷ []) ≡ map f xs ++ f x ∷ []
 map_more f [] x = refl
@@ -96,15 +97,15 @@ and_no false = refl
 
 has_others : (c x : Cid) (flight : List Cid) → has c (others flight x) ≡ (has c flight && not (same_cid c x))
 has_others c x [] = refl
-has_others c x (d ∷ flight) = by_test (same_cid d x) (same_cid c d) (same_cid c x) refl refl refl
+has_others c x (d ∷ flight) = by_test (has_others c x flight) (same_cid d x) (same_cid c d) (same_cid c x) refl refl refl
   where
-    by_test : (p q r : Bool) → same_cid d x ≡ p → same_cid c d ≡ q → same_cid c x ≡ r → has c (cond (not p) (d ∷ others flight x) (others flight x)) ≡ ((q || has c flight) && not r)
-    by_test true true true dx cd cx = has_others c x flight ∙ ap (λ t. has c flight && not t) cx ∙ sym (and_no (has c flight))
-    by_test true true false dx cd cx = absurd (no_true (sym cx ∙ (ap (λ (z : Cid). same_cid z x) (cid_is c d cd) ∙ dx)))
-    by_test true false r dx cd cx = has_others c x flight ∙ ap (λ t. has c flight && not t) cx
-    by_test false true true dx cd cx = absurd (no_true (sym dx ∙ (ap (λ (z : Cid). same_cid z x) (sym (cid_is c d cd)) ∙ cx)))
-    by_test false true false dx cd cx = ap (λ t. t || has c (others flight x)) cd
-    by_test false false r dx cd cx = ap (λ t. t || has c (others flight x)) cd ∙ has_others c x flight ∙ ap (λ t. has c flight && not t) cx
+    by_test : has c (others flight x) ≡ (has c flight && not (same_cid c x)) → (p q r : Bool) → same_cid d x ≡ p → same_cid c d ≡ q → same_cid c x ≡ r → has c (cond (not p) (d ∷ others flight x) (others flight x)) ≡ ((q || has c flight) && not r)
+    by_test ih true true true dx cd cx = ih ∙ ap (λ t. has c flight && not t) cx ∙ sym (and_no (has c flight))
+    by_test ih true true false dx cd cx = absurd (no_true (sym cx ∙ (ap (λ (z : Cid). same_cid z x) (cid_is c d cd) ∙ dx)))
+    by_test ih true false r dx cd cx = ih ∙ ap (λ t. has c flight && not t) cx
+    by_test ih false true true dx cd cx = absurd (no_true (sym dx ∙ (ap (λ (z : Cid). same_cid z x) (sym (cid_is c d cd)) ∙ cx)))
+    by_test ih false true false dx cd cx = ap (λ t. t || has c (others flight x)) cd
+    by_test ih false false r dx cd cx = ap (λ t. t || has c (others flight x)) cd ∙ ih ∙ ap (λ t. has c flight && not t) cx
 
 and_or : (h s g : Bool) → ((h && not s) && not g) ≡ (h && not (s || g))
 and_or true true g = refl
@@ -251,3 +252,32 @@ pub told_over : (told : Option Kept) (f : Fate) (v : Verified) (slots : List Slo
     → IfSome told (λ kept. FateFits kept.graph v.cid f) → IfSome told (λ kept. IsGroupOver kept slots blocks → IsGroupOver kept slots_new blocks_new)
 told_over None f v slots blocks cids slots_new blocks_new cids_new put fits = tt
 told_over (Some kept) f v slots blocks cids slots_new blocks_new cids_new put fits = λ o. put_over kept slots blocks cids o f v slots_new blocks_new cids_new put fits
+
+-- a group without blocks
+
+pub empty_group : (flight : List Cid) (slots : List Slot) (blocks : List Block) (cids : List Cid) → (slots ≡ []) × (blocks ≡ []) × (cids ≡ []) → IsGroup flight slots blocks cids
+empty_group flight slots blocks cids none =
+    subst (λ s. IsGroup flight s blocks cids) (sym none.0) (subst (λ b. IsGroup flight [] b cids) (sym none.1) (subst (λ c. IsGroup flight [] [] c) (sym none.2)
+    (record { some = refl; held = refl; named = refl; blocks_named = refl; few_blocks = omega arith; few_cids = omega arith })))
+
+pub empty_over : (told : Option Kept) (slots : List Slot) (blocks : List Block) → slots ≡ [] → blocks ≡ [] → IfSome told (λ kept. IsGroupOver kept slots blocks)
+empty_over None slots blocks no_slots no_blocks = tt
+empty_over (Some kept) slots blocks no_slots no_blocks =
+    subst (λ s. IsGroupOver kept s blocks) (sym no_slots) (subst (λ b. IsGroupOver kept [] b) (sym no_blocks) (record { blocks_are = refl; stores_are = refl }))
+
+-- what is first and what is taken are one
+
+pub same_first : (a b : Verified) (items rest : List Stored) → Some (as_stored a) ≡ first_of items → items ≡ as_stored b ∷ rest → a.cid ≡ b.cid
+same_first a b items rest first is = ap cid_or (first ∙ ap first_of is)
+  where
+    cid_or : Option Stored → Cid
+    cid_or None = a.cid
+    cid_or (Some x) = x.cid
+
+-- what is stored is read as a block
+
+pub found_told : (told : Option Kept) (cid : Cid) (bytes : List ℕ) {E : Type 0} (result : Result (Option Block) E) → IfSome told IsKept → IfSome told (λ kept. Some bytes ≡ bytes_at kept.graph cid)
+    → (is_good cid bytes ≡ true → IfOk result (λ found. found ≡ Some (block_of cid bytes))) → IfSome told (λ kept. IfOk result (λ found. found ≡ option_map (block_of cid) (bytes_at kept.graph cid)))
+found_told None cid bytes result sound row same = tt
+found_told (Some kept) cid bytes (Ok found) sound row same = same (stored_good kept.graph cid bytes sound.good (sym row)) ∙ ap (option_map (block_of cid)) row
+found_told (Some kept) cid bytes (Err error) sound row same = tt

@@ -131,7 +131,7 @@ pub(crate) fn is_in(cids: &[Cid], cid: &Cid) -> bool
     ensures { result ≡ has cid.now cids.now }
 {
     for other in cids {
-        if other == cid {
+        if cid == other {
             return true;
         }
     }

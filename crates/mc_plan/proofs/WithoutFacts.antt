@@ -1,5 +1,6 @@
 -- Blocks that leave the wanted set, one after another.
-use Rattle.std.proofs.Common.{◌≡◌, ℕ, Bool, true, false, not, cond, ◌||◌, filter, List, [], ◌∷◌, ◌++◌, refl, sym, ap, ◌∙◌}
+use Rattle.std.proofs.Common.{◌≡◌, ℕ, suc, ◌+◌, ◌<◌, Bool, true, false, not, cond, ◌||◌, filter, length, take, get_or, List, [], ◌∷◌, ◌++◌, refl, sym, ap, ◌∙◌, arith}
+use Rattle.std.proofs.Math.Seq.{take-suc}
 use Rattle.mc_base.specs.declared.cid.Cid.{Cid}
 use Rattle.mc_model.specs.Graph.{has}
 use Rattle.mc_model.specs.Wanted.{Queue, without}
@@ -34,3 +35,9 @@ without_more q cids more = λ i. record {
   missing = more_leave (λ (d : Cid). d) cids more q.missing i;
   bad = more_leave (λ (b : Cid × ℕ). b.0) cids more q.bad i;
 }
+
+-- one more leaves
+pub leave_one : (q p r : Queue) (cids : List Cid) (n : ℕ) (d : Cid) → n < length cids → p ≡ without q (take n cids) → r ≡ without p (get_or cids n d ∷ []) → r ≡ without q (take (n + 1) cids)
+leave_one q p r cids n d lt so_far one =
+    let next : suc n ≡ n + 1 = omega arith in
+    one ∙ ap (λ p. without p (get_or cids n d ∷ [])) so_far ∙ without_more q (take n cids) (get_or cids n d ∷ []) ∙ ap (without q) (sym (take-suc cids n d lt) ∙ ap (λ m. take m cids) next)
