@@ -11,16 +11,16 @@ ghost use Rattle.mc_model.specs.Wanted.{without};
 ghost use Rattle.mc_queue.specs.Views.{shown, spare};
 ghost use Rattle.mc_plan.specs.Uptakes.{IsReady, IsShaped, IsSomeUptake, uptake_rows, uptake_events, wants};
 ghost use Rattle.mc_inbox.specs.Groups.{store_events};
-ghost use Rattle.mc_group.specs.Planning.{storing};
+ghost use Rattle.mc_group.specs.Planning.{AreReady, storing};
 ghost use Rattle.mc_core.specs.Words.{Becomes, CommitKeeps};
 
 use crate::Replica;
 use mc_base::{Cid, Failed, List};
+use mc_group::done_all;
 use mc_keep::{Changes, Keeper, changes_fit, commits_are_events};
 use mc_model::{Stored, kept_changes_are_events, kept_is_durable};
-use mc_plan::{Uptake, done_all, is_sound, numbers_after, want_links};
+use mc_plan::{After, Uptake, is_sound, numbers_after, want_links};
 use std::alloc::Global;
-use std::slice;
 
 impl<K: Keeper> Replica<K> {
     // Stores blocks.
@@ -54,35 +54,27 @@ impl<K: Keeper> Replica<K> {
         }
     }
 
-    // Processes stored blocks. Then they are wanted no more, and these of their links are, and so many gaps are left.
-    pub(crate) fn commit_process(
-        &mut self,
-        process: Changes,
-        cids: &[Cid],
-        links: &[Cid],
-        gaps: u64,
-    ) -> Result<(), Failed>
+    // Processes a stored block.
+    pub(crate) fn commit_process(&mut self, process: Changes, after: After) -> Result<(), Failed>
         requires up { self.old.stopped ≡ false }
         requires room { row_count process ≤ K.spare self.old.keeper }
-        requires links { length links.now ≤ spare self.old.queue }
-        requires only { (process.store ≡ []) × (process.marks ≡ cids.now) }
-        requires some { cids.now ≢ [] }
-        requires ready { IfSome (K.told self.old.keeper) (λ kept.
-            IsReady kept self.old.whole process links.now gaps) }
+        requires links { length after.links ≤ spare self.old.queue }
+        requires only { (process.store ≡ []) × (process.marks ≡ after.cid ∷ []) }
+        requires ready { IfSome (K.told self.old.keeper) (λ kept. IsReady kept self.old.whole process after) }
         ensures part { Becomes K.Keeper (λ rose. Part (Process process.marks ∷ []) rose result) self.old self.new }
         ensures queue { OnOk result (shown self.new.queue
-            ≡ wants (without (shown self.old.queue) cids.now) links.now) }
+            ≡ wants (without (shown self.old.queue) (after.cid ∷ [])) after.links) }
         ensures up { OnOk result (self.new.stopped ≡ false) }
         ensures keeps { CommitKeeps K.Keeper (is_err result) self.old self.new }
     {
         commits_are_events();
         is_sound(&self.keeper);
-        let numbers = numbers_after(self.numbers, &process, gaps);
+        let numbers = numbers_after(self.numbers, &process, after.gaps);
         match self.keeper.commit(process) {
             Ok(()) => {
                 self.numbers = numbers;
-                done_all(&mut self.queue, cids);
-                want_links(&mut self.queue, links);
+                self.queue.done(&after.cid);
+                want_links(&mut self.queue, after.links.as_slice());
                 Ok(())
             }
             Err(Failed) => {
@@ -92,33 +84,25 @@ impl<K: Keeper> Replica<K> {
         }
     }
 
-    // Stores blocks, and then processes some.
-    pub(crate) fn commit_both(
-        &mut self,
-        store: Changes,
-        process: Changes,
-        cids: &[Cid],
-        links: &[Cid],
-        gaps: u64,
-    ) -> Result<(), Failed>
+    // Stores blocks, and then processes one.
+    fn commit_both(&mut self, store: Changes, process: Changes, after: After) -> Result<(), Failed>
         requires up { self.old.stopped ≡ false }
         requires room { row_count store + row_count process ≤ K.spare self.old.keeper }
         requires only_store { (store.marks ≡ []) × (store.mark ≡ None) }
-        requires links { length links.now ≤ spare self.old.queue }
-        requires only_process { (process.store ≡ []) × (process.marks ≡ cids.now) }
-        requires some { cids.now ≢ [] }
+        requires links { length after.links ≤ spare self.old.queue }
+        requires only_process { (process.store ≡ []) × (process.marks ≡ after.cid ∷ []) }
         requires fits { IfSome (K.told self.old.keeper) (λ kept. ChangesFit kept store) }
         requires ready { IfSome (K.told self.old.keeper) (λ kept.
-            IsReady (changed kept store) self.old.whole process links.now gaps) }
+            IsReady (changed kept store) self.old.whole process after) }
         ensures part { Becomes K.Keeper (λ rose.
             Part (Store (vertices store.store) ∷ Process process.marks ∷ []) rose result) self.old self.new }
         ensures queue { OnOk result (shown self.new.queue
-            ≡ wants (without (shown self.old.queue) cids.now) links.now) }
+            ≡ wants (without (shown self.old.queue) (after.cid ∷ [])) after.links) }
         ensures up { OnOk result (self.new.stopped ≡ false) }
         ensures keeps { CommitKeeps K.Keeper (is_err result) self.old self.new }
     {
         match self.commit_store(store) {
-            Ok(()) => self.commit_process(process, cids, links, gaps),
+            Ok(()) => self.commit_process(process, after),
             Err(Failed) => Err(Failed),
         }
     }
@@ -146,11 +130,79 @@ impl<K: Keeper> Replica<K> {
             process,
             after,
         } = uptake;
-        let cids = one(&after.cid);
-        let links = after.links.as_slice();
         match store {
-            Some(store) => self.commit_both(store, process, cids, links, after.gaps),
-            None => self.commit_process(process, cids, links, after.gaps),
+            Some(store) => self.commit_both(store, process, after),
+            None => self.commit_process(process, after),
+        }
+    }
+
+    // Processes a group of stored blocks. Then they are wanted no more, these of their links are, and so many gaps are
+    // left.
+    fn process_group(
+        &mut self,
+        process: Changes,
+        cids: &[Cid],
+        links: &[Cid],
+        gaps: u64,
+    ) -> Result<(), Failed>
+        requires up { self.old.stopped ≡ false }
+        requires room { row_count process ≤ K.spare self.old.keeper }
+        requires links { length links.now ≤ spare self.old.queue }
+        requires only { (process.store ≡ []) × (process.marks ≡ cids.now) }
+        requires some { cids.now ≢ [] }
+        requires ready { IfSome (K.told self.old.keeper) (λ kept.
+            AreReady kept self.old.whole process links.now gaps) }
+        ensures part { Becomes K.Keeper (λ rose. Part (Process process.marks ∷ []) rose result) self.old self.new }
+        ensures queue { OnOk result (shown self.new.queue
+            ≡ wants (without (shown self.old.queue) cids.now) links.now) }
+        ensures up { OnOk result (self.new.stopped ≡ false) }
+        ensures keeps { CommitKeeps K.Keeper (is_err result) self.old self.new }
+    {
+        commits_are_events();
+        is_sound(&self.keeper);
+        let numbers = numbers_after(self.numbers, &process, gaps);
+        match self.keeper.commit(process) {
+            Ok(()) => {
+                self.numbers = numbers;
+                done_all(&mut self.queue, cids);
+                want_links(&mut self.queue, links);
+                Ok(())
+            }
+            Err(Failed) => {
+                self.stopped = true;
+                Err(Failed)
+            }
+        }
+    }
+
+    // Stores blocks of a group, and then processes it.
+    fn store_and_process(
+        &mut self,
+        store: Changes,
+        process: Changes,
+        cids: &[Cid],
+        links: &[Cid],
+        gaps: u64,
+    ) -> Result<(), Failed>
+        requires up { self.old.stopped ≡ false }
+        requires room { row_count store + row_count process ≤ K.spare self.old.keeper }
+        requires only_store { (store.marks ≡ []) × (store.mark ≡ None) }
+        requires links { length links.now ≤ spare self.old.queue }
+        requires only_process { (process.store ≡ []) × (process.marks ≡ cids.now) }
+        requires some { cids.now ≢ [] }
+        requires fits { IfSome (K.told self.old.keeper) (λ kept. ChangesFit kept store) }
+        requires ready { IfSome (K.told self.old.keeper) (λ kept.
+            AreReady (changed kept store) self.old.whole process links.now gaps) }
+        ensures part { Becomes K.Keeper (λ rose.
+            Part (Store (vertices store.store) ∷ Process process.marks ∷ []) rose result) self.old self.new }
+        ensures queue { OnOk result (shown self.new.queue
+            ≡ wants (without (shown self.old.queue) cids.now) links.now) }
+        ensures up { OnOk result (self.new.stopped ≡ false) }
+        ensures keeps { CommitKeeps K.Keeper (is_err result) self.old self.new }
+    {
+        match self.commit_store(store) {
+            Ok(()) => self.process_group(process, cids, links, gaps),
+            Err(Failed) => Err(Failed),
         }
     }
 
@@ -169,9 +221,8 @@ impl<K: Keeper> Replica<K> {
         requires links { length links.now ≤ spare self.old.queue }
         requires only { (process.store ≡ []) × (process.marks ≡ cids.now) }
         requires some { cids.now ≢ [] }
-        requires fits { IfSome (K.told self.old.keeper) (λ kept. ChangesFit kept (storing stores)) }
-        requires ready { IfSome (K.told self.old.keeper) (λ kept.
-            IsReady (changed kept (storing stores)) self.old.whole process links.now gaps) }
+        requires ready { IfSome (K.told self.old.keeper) (λ kept. ChangesFit kept (storing stores)
+            × AreReady (changed kept (storing stores)) self.old.whole process links.now gaps) }
         ensures part { Becomes K.Keeper (λ rose.
             Part (store_events stores ++ Process process.marks ∷ []) rose result) self.old self.new }
         ensures queue { OnOk result (shown self.new.queue
@@ -180,9 +231,9 @@ impl<K: Keeper> Replica<K> {
         ensures keeps { CommitKeeps K.Keeper (is_err result) self.old self.new }
     {
         if stores.as_slice().is_empty() {
-            return self.commit_process(process, cids, links, gaps);
+            return self.process_group(process, cids, links, gaps);
         }
-        self.commit_both(store_changes(alloc, stores), process, cids, links, gaps)
+        self.store_and_process(store_changes(alloc, stores), process, cids, links, gaps)
     }
 }
 
@@ -192,11 +243,4 @@ fn store_changes(alloc: Global, stores: List<Stored>) -> Changes
     let mut changes = Changes::new(alloc);
     changes.store = stores;
     changes
-}
-
-fn one(cid: &Cid) -> &[Cid]
-    ensures is { result.now ≡ cid.now ∷ [] }
-    ensures some { result.now ≢ [] }
-{
-    slice::from_ref(cid)
 }

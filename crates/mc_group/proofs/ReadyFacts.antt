@@ -15,21 +15,22 @@ use Rattle.mc_model.specs.Graph.{has, in_graph, times}
 use Rattle.mc_model.specs.Kept.{Kept, IsKept, block_in, block_under, blocks_in, bytes_at, cids_of, is_stored, processed}
 use Rattle.mc_model.specs.Offer.{block_of, is_good}
 use Rattle.mc_model.specs.State.{durable_of}
-use Rattle.mc_model.specs.Wanted.{Queue, IsOnce, want_all, wanted, without}
+use Rattle.mc_model.specs.Wanted.{Queue, IsOnce, want_all, want_unless, without}
 use Rattle.mc_model.proofs.Blocks.{in_graph_stored, once_times}
 use Rattle.mc_model.proofs.Counts.{cid_is, cid_itself, has_all, has_times, has-append, same_cid-symm, times_has, times_none}
 use Rattle.mc_model.proofs.Held.{in_parts}
 use Rattle.mc_keep.specs.declared.changes.Changes.{Changes}
 use Rattle.mc_keep.specs.Changes.{changed, no_changes}
 use Rattle.mc_keep.specs.New.{AreNew}
-use Rattle.mc_keep.specs.Tables.{ChangesFit, StoreFits}
+use Rattle.mc_keep.specs.Tables.{ChangesFit, FrontFits, RowsFit, StoreFits}
+use Rattle.mc_front.specs.Front.{mark_over}
 use Rattle.mc_inbox.specs.Groups.{group_of, to_store}
 use Rattle.mc_inbox.proofs.GroupFacts.{all_stored, good_group, good_store, group_flight, group_once, store_within}
-use Rattle.mc_plan.specs.Uptakes.{IsReady, Processes, wants}
-use Rattle.mc_plan.proofs.UptakeFacts.{FitLaw, LinksLaw, MarkLaw, SameLaw, SoundLaw, StoredLaw, StoringLaw, process_of, ready, wants_open}
+use Rattle.mc_plan.specs.Uptakes.{Processes, wants}
+use Rattle.mc_plan.proofs.UptakeFacts.{FitLaw, LinksLaw, MarkLaw, SameLaw, SoundLaw, StoredLaw, StoringLaw, ready}
 use Rattle.mc_group.specs.declared.group.Slot.{Slot}
 use Rattle.mc_group.specs.Gathering.{IsGroup, IsGroupOver, block_at, items_of, picked, stores_in}
-use Rattle.mc_group.specs.Planning.{open_among, open_links, storing}
+use Rattle.mc_group.specs.Planning.{AreReady, open_among, open_links, storing}
 
 -- what is stored after more is stored
 
@@ -57,18 +58,18 @@ module _ (kept : Kept) where
   -- one that has another identifier is not seen
   skips : (x : Stored) (stores rest : List Stored) → times x.cid (cids_of rest) ≡ 0 → map (then_at (x ∷ stores)) rest ≡ map (then_at stores) rest
   skips x stores [] none = refl
-  skips x stores (y ∷ rest) none = by_test (same_cid x.cid y.cid) refl none
+  skips x stores (y ∷ rest) none = by_test (skips x stores rest) (same_cid x.cid y.cid) refl none
     where
-      by_test : (b : Bool) → same_cid x.cid y.cid ≡ b → cond b (1 + times x.cid (cids_of rest)) (times x.cid (cids_of rest)) ≡ 0 → map (then_at (x ∷ stores)) (y ∷ rest) ≡ map (then_at stores) (y ∷ rest)
-      by_test true s none = absurd (omega (arith, none))
-      by_test false s none =
+      by_test : (times x.cid (cids_of rest) ≡ 0 → map (then_at (x ∷ stores)) rest ≡ map (then_at stores) rest) → (b : Bool) → same_cid x.cid y.cid ≡ b → cond b (1 + times x.cid (cids_of rest)) (times x.cid (cids_of rest)) ≡ 0 → map (then_at (x ∷ stores)) (y ∷ rest) ≡ map (then_at stores) (y ∷ rest)
+      by_test ih true s none = absurd (omega (arith, none))
+      by_test ih false s none =
           let apart : same_cid y.cid x.cid ≡ false = same_cid-symm y.cid x.cid ∙ s in
-          (λ i. block_under y.cid (option_or (bytes_at kept.graph y.cid) (option_map (λ (stored : Stored). stored.bytes) (cond (apart i) (Some x) (find (λ (stored : Stored). same_cid y.cid stored.cid) stores)))) ∷ skips x stores rest none i)
+          (λ i. block_under y.cid (option_or (bytes_at kept.graph y.cid) (option_map (λ (stored : Stored). stored.bytes) (cond (apart i) (Some x) (find (λ (stored : Stored). same_cid y.cid stored.cid) stores)))) ∷ ih none i)
 
   -- each block of a group is what is stored of it then
   blocks_then : (group : List Stored) → ((c : Cid) → times c (cids_of group) ≤ 1) → map (then_at (to_store (durable_of kept).graph group)) group ≡ map (block_at kept.graph) group
   blocks_then [] once = refl
-  blocks_then (x ∷ group) once = by_test (in_graph (durable_of kept).graph x.cid) refl
+  blocks_then (x ∷ group) once = by_test (blocks_then group tail_once) (in_graph (durable_of kept).graph x.cid) refl
     where
       tail_once : (c : Cid) → times c (cids_of group) ≤ 1
       tail_once c = elim (same_cid c x.cid) as (λ t. cond t (1 + times c (cids_of group)) (times c (cids_of group)) ≤ 1 → times c (cids_of group) ≤ 1) [
@@ -89,17 +90,17 @@ module _ (kept : Kept) where
       new_same None e = refl
       new_same (Some bytes) e = absurd (false≢true (sym e))
 
-      by_test : (b : Bool) → in_graph (durable_of kept).graph x.cid ≡ b
+      by_test : map (then_at (to_store (durable_of kept).graph group)) group ≡ map (block_at kept.graph) group → (b : Bool) → in_graph (durable_of kept).graph x.cid ≡ b
           → map (then_at (cond b (to_store (durable_of kept).graph group) (x ∷ to_store (durable_of kept).graph group))) (x ∷ group) ≡ map (block_at kept.graph) (x ∷ group)
-      by_test true e =
+      by_test ih true e =
           let stored : is_stored kept.graph x.cid ≡ true = sym (in_graph_stored kept.graph x.cid) ∙ e in
-          (λ i. stored_same (bytes_at kept.graph x.cid) (bytes_at (to_store (durable_of kept).graph group) x.cid) stored i ∷ blocks_then group tail_once i)
-      by_test false e =
+          (λ i. stored_same (bytes_at kept.graph x.cid) (bytes_at (to_store (durable_of kept).graph group) x.cid) stored i ∷ ih i)
+      by_test ih false e =
           let unstored : is_stored kept.graph x.cid ≡ false = sym (in_graph_stored kept.graph x.cid) ∙ e in
           let s : List Stored = to_store (durable_of kept).graph group in
           let mine : bytes_at (x ∷ s) x.cid ≡ Some x.bytes = ap (λ t. option_map (λ (stored : Stored). stored.bytes) (cond t (Some x) (find (λ (stored : Stored). same_cid x.cid stored.cid) s))) (cid_itself x.cid) in
           let head : then_at (x ∷ s) x ≡ block_at kept.graph x = ap (λ o. block_under x.cid (option_or (bytes_at kept.graph x.cid) o)) mine ∙ new_same (bytes_at kept.graph x.cid) unstored in
-          let tail : map (then_at (x ∷ s)) group ≡ map (block_at kept.graph) group = skips x s group alone ∙ blocks_then group tail_once in
+          let tail : map (then_at (x ∷ s)) group ≡ map (block_at kept.graph) group = skips x s group alone ∙ ih in
           (λ i. head i ∷ tail i)
 
   blocks_by_cid : (graph : List Stored) (group : List Stored) → blocks_in graph (cids_of group) ≡ map (λ (item : Stored). block_in graph item.cid) group
@@ -161,11 +162,30 @@ open_is kept cids (b ∷ blocks) = ap (λ rest. open_among kept cids b.links ++ 
       | false ↦ filter_append test xs ys
     ]
 
+-- only those are wanted
+wants_open : (order : List Cid) (q : Queue) (cids : List Cid) → want_all order q cids ≡ wants q (filter (λ c. not (has c order)) cids)
+wants_open order q [] = refl
+wants_open order q (c ∷ cids) =
+    elim (has c order) as (λ t. want_all order (want_unless t q c) cids ≡ wants q (cond (not t) (c ∷ filter (λ d. not (has d order)) cids) (filter (λ d. not (has d order)) cids))) [
+      | true ↦ wants_open order q cids
+      | false ↦ wants_open order (want_unless false q c) cids
+    ]
+
+-- what stores alone leaves the processed blocks
+process_of : (old new : Kept) (whole : Bool) (blocks : List Block) (cids : List Cid) (changes : Changes) → new.mark ≡ old.mark → processed new ≡ processed old
+    → Processes old whole blocks cids changes → Processes new whole blocks cids changes
+process_of old new whole blocks cids changes mark same p = record {
+  only = p.only;
+  marks = p.marks;
+  rows = subst (λ b. RowsFit b blocks changes) (sym same) p.rows;
+  front = subst (λ b. FrontFits b blocks changes) (sym same) p.front;
+  mark = ap (λ m. unwrap_or changes.mark m) mark ∙ p.mark ∙ ap (λ m. mark_over whole m (processed old ++ blocks)) (sym mark) ∙ ap (λ b. mark_over whole new.mark (b ++ blocks)) (sym same);
+}
+
 -- no block of a group is processed, and none stands twice
 pub group_new : (kept : Kept) (q : Queue) (slots : List Slot) (blocks : List Block) (cids : List Cid) → IsOnce kept.order q → IsGroup q.flight slots blocks cids → AreNew kept blocks
 group_new kept q slots blocks cids once g =
-    let are : map (λ (block : Block). block.cid) blocks ≡ cids_of (group_of q.flight (items_of slots)) = g.blocks_named ∙ g.named ∙ ap cids_of g.some in
-    (
+    let are : map (λ (block : Block). block.cid) blocks ≡ cids_of (group_of q.flight (items_of slots)) = g.blocks_named ∙ g.named ∙ ap cids_of g.some in (
       ap (is_once same_cid) are ∙ once_times (cids_of (group_of q.flight (items_of slots))) (group_once q.flight (items_of slots)),
       ap (list_any (is_among kept.order)) are ∙ none_any (is_among kept.order) (cids_of (group_of q.flight (items_of slots))) (group_apart kept q (items_of slots) once),
     )
@@ -211,17 +231,17 @@ module _ (fit_law : FitLaw) (sound_law : SoundLaw) (mark_law : MarkLaw) (links_l
     wanted_then r =
         let marks : List Cid = map (λ (block : Block). block.cid) blocks in
         ap (λ ls. want_all (kept.order ++ marks) (without r marks) ls) (links_law then_kept marks stored_then ∙ ap links blocks_are)
-        ∙ wants_open fit_law sound_law mark_law links_law (kept.order ++ marks) (without r marks) (links blocks)
+        ∙ wants_open (kept.order ++ marks) (without r marks) (links blocks)
         ∙ ap (wants (without r marks)) (sym (open_is kept marks blocks) ∙ ap (λ cs. open_links kept cs blocks) g.blocks_named ∙ sym opens)
 
     new_then : AreNew then_kept blocks
     new_then = group_new kept q slots blocks cids once g
 
-    both : ChangesFit kept (storing stores) × IsReady (changed kept (storing stores)) whole process left count
+    both : ChangesFit kept (storing stores) × AreReady (changed kept (storing stores)) whole process left count
     both = (
       storing_law kept stores fits,
-      subst (λ (k : Kept). IsReady k whole process left count) (sym (stored_law kept stores))
-          (ready fit_law sound_law mark_law links_law then_kept whole blocks process left count sound_then new_then stored_then blocks_are
+      subst (λ (k : Kept). AreReady k whole process left count) (sym (stored_law kept stores))
+          (λ c. ready fit_law sound_law mark_law links_law then_kept whole blocks process (record { cid = c; links = left; gaps = count }) sound_then new_then stored_then blocks_are
           (process_of kept then_kept whole blocks (map (λ (block : Block). block.cid) blocks) process refl same p)
           (counts ∙ ap (λ b. length (gaps (b ++ blocks))) (sym same)) wanted_then),
     )
@@ -229,8 +249,8 @@ module _ (fit_law : FitLaw) (sound_law : SoundLaw) (mark_law : MarkLaw) (links_l
     stores_same : stores ≡ stores_in slots
     stores_same = ap (to_store (durable_of kept).graph) (sym g.some) ∙ sym o.stores_are
 
-    pub group_ready : ChangesFit kept (storing (stores_in slots)) × IsReady (changed kept (storing (stores_in slots))) whole process left count
-    group_ready = subst (λ s. ChangesFit kept (storing s) × IsReady (changed kept (storing s)) whole process left count) stores_same both
+    pub group_ready : ChangesFit kept (storing (stores_in slots)) × AreReady (changed kept (storing (stores_in slots))) whole process left count
+    group_ready = subst (λ s. ChangesFit kept (storing s) × AreReady (changed kept (storing s)) whole process left count) stores_same both
 
   -- where nothing of it is stored
   nothing_more : (kept : Kept) → changed kept (storing []) ≡ kept
@@ -242,12 +262,12 @@ module _ (fit_law : FitLaw) (sound_law : SoundLaw) (mark_law : MarkLaw) (links_l
       (good : list_all (λ (item : Stored). is_good item.cid item.bytes) (items_of slots) ≡ true) (g : IsGroup q.flight slots blocks cids) where
     pub told_fits : (told : Option Kept) → IfSome told IsKept → ((kept : Kept) → told ≡ Some kept → IsOnce kept.order q) → IfSome told (λ kept. IsGroupOver kept slots blocks)
         → IfSome told (λ kept. Processes kept whole blocks (map (λ (block : Block). block.cid) blocks) process) → IfSome told (λ kept. count ≡ length (gaps (processed kept ++ blocks))) → IfSome told (λ kept. left ≡ open_links kept cids blocks)
-        → IfSome told (λ kept. ChangesFit kept (storing (stores_in slots)) × IsReady (changed kept (storing (stores_in slots))) whole process left count)
+        → IfSome told (λ kept. ChangesFit kept (storing (stores_in slots)) × AreReady (changed kept (storing (stores_in slots))) whole process left count)
     told_fits None sound once o p counts opens = tt
     told_fits (Some kept) sound once o p counts opens = group_ready kept whole q slots blocks cids process left count sound (once kept refl) good g o p counts opens
 
   pub told_alone : (told : Option Kept) (whole : Bool) (slots : List Slot) (process : Changes) (left : List Cid) (count : ℕ) → stores_in slots ≡ []
-      → IfSome told (λ kept. ChangesFit kept (storing (stores_in slots)) × IsReady (changed kept (storing (stores_in slots))) whole process left count) → IfSome told (λ kept. IsReady kept whole process left count)
+      → IfSome told (λ kept. ChangesFit kept (storing (stores_in slots)) × AreReady (changed kept (storing (stores_in slots))) whole process left count) → IfSome told (λ kept. AreReady kept whole process left count)
   told_alone None whole slots process left count none p = tt
   told_alone (Some kept) whole slots process left count none p =
-      subst (λ (k : Kept). IsReady k whole process left count) (ap (λ s. changed kept (storing s)) none ∙ nothing_more kept) p.1
+      subst (λ (k : Kept). AreReady k whole process left count) (ap (λ s. changed kept (storing s)) none ∙ nothing_more kept) p.1

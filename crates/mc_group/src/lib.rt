@@ -8,6 +8,7 @@ mod gathering;
 mod giving;
 mod group;
 mod grouped;
+mod leaving;
 mod planning;
 
 pub use drains::calls_on_an_inbox_drain;
@@ -15,4 +16,5 @@ pub use gathering::gather;
 pub use giving::give_back_all;
 pub use group::{Group, Slot, put_back, stores_of};
 pub use grouped::Grouped;
+pub use leaving::done_all;
 pub use planning::{GroupPlan, plan_group};

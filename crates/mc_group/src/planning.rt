@@ -3,12 +3,12 @@ ghost use Rattle.std.specs.Prelude.{◌≡◌, ◌≤◌, ◌+◌, ◌++◌, ◌
 ghost use Rattle.std.specs.Result.{is_err};
 ghost use Rattle.mc_base.specs.declared.cid.Cid.{Cid as Identifier};
 ghost use Rattle.mc_model.specs.declared.block.Block.{Block as Whole};
-ghost use Rattle.mc_keep.specs.Calls.{Reads};
+ghost use Rattle.mc_keep.specs.Calls.{Reads, Reserves};
 ghost use Rattle.mc_keep.specs.Causes.{IfTold};
-ghost use Rattle.mc_keep.specs.Changes.{row_count};
+ghost use Rattle.mc_keep.specs.Changes.{no_changes, row_count};
 ghost use Rattle.mc_keep.specs.New.{AreNew};
-ghost use Rattle.mc_keep.specs.Plan.{is_fault as keeper_failed};
-ghost use Rattle.mc_model.specs.Front.{gaps};
+ghost use Rattle.mc_keep.specs.Plan.{is_fault as keeper_failed, is_fault};
+ghost use Rattle.mc_model.specs.Front.{gaps, is_among};
 ghost use Rattle.mc_model.specs.Graph.{has};
 ghost use Rattle.mc_model.specs.Kept.{processed};
 ghost use Rattle.mc_plan.specs.Uptakes.{Processes};
@@ -17,9 +17,10 @@ ghost use Rattle.mc_group.specs.Planning.{open_among, open_links};
 use crate::gathering::is_in;
 use crate::group::Group;
 use mc_base::{Cid, Failed, List};
+use mc_front::front_changes;
 use mc_keep::{Changes, KeepError, Keeper};
 use mc_model::{Block, Stored};
-use mc_plan::{is_processed, process_changes};
+use mc_rows::merge;
 use std::alloc::{AllocError, Global};
 
 /// The commit that processes a group, with the memory of both of its commits taken: what it changes, which links are
@@ -60,7 +61,12 @@ pub fn plan_group<K: Keeper>(
     let Ok(stores) = Vec::with_capacity(alloc, count) else {
         return Err(KeepError::Memory);
     };
-    let links = open_links(keeper, alloc, group.blocks.as_slice(), group.cids.as_slice())?;
+    let links = open_links(
+        keeper,
+        alloc,
+        group.blocks.as_slice(),
+        group.cids.as_slice(),
+    )?;
     let mut process = Changes::new(alloc);
     let gaps = process_changes(
         keeper,
@@ -76,6 +82,47 @@ pub fn plan_group<K: Keeper>(
         gaps,
         stores,
     })
+}
+
+// The changes that process these blocks, of which none is processed, and how many gaps they leave, with room in the
+// keeper for their rows and so many more. Where `whole`, every gap is wanted.
+fn process_changes<K: Keeper>(
+    keeper: &mut K,
+    alloc: Global,
+    blocks: &[Block],
+    whole: bool,
+    more: u64,
+    changes: &mut Changes,
+) -> Result<u64, KeepError>
+    requires none { changes.old ≡ no_changes }
+    requires new { IfSome (K.told keeper.old) (λ kept. AreNew kept blocks.now) }
+    ensures process { IfTold (K.told keeper.old) result (λ kept count.
+        Processes kept whole blocks.now (map (λ (block : Whole). block.cid) blocks.now) changes.new) }
+    ensures gaps { IfTold (K.told keeper.old) result (λ kept count.
+        count ≡ length (gaps (processed kept ++ blocks.now))) }
+    ensures only { IfOk result (λ count. changes.new.store ≡ []) }
+    ensures marks { IfOk result (λ count. changes.new.marks ≡ map (λ (block : Whole). block.cid) blocks.now) }
+    ensures room { IfOk result (λ count. row_count changes.new + more ≤ K.spare keeper.new) }
+    ensures reads { Reads K.Keeper (is_fault result) keeper.old keeper.new }
+{
+    merge(keeper, alloc, blocks, changes)?;
+    let gaps = front_changes(keeper, alloc, blocks, whole, changes)?;
+    match reserve_rows(keeper, changes, more) {
+        Ok(()) => Ok(gaps),
+        Err(AllocError) => Err(KeepError::Memory),
+    }
+}
+
+// Takes the keeper's memory for the rows of these changes and for so many more.
+fn reserve_rows<K: Keeper>(keeper: &mut K, changes: &Changes, more: u64) -> Result<(), AllocError>
+    ensures room { OnOk result (row_count changes.now + more ≤ K.spare keeper.new) }
+    ensures reserves { Reserves K.Keeper keeper.old keeper.new }
+{
+    let rows = changes.rows().saturating_add(more);
+    if rows == u64::MAX {
+        return Err(AllocError);
+    }
+    keeper.reserve(rows)
 }
 
 // The links of blocks that are not processed once these are, block by block.
@@ -135,6 +182,13 @@ fn is_open<K: Keeper>(keeper: &mut K, link: &Cid, cids: &[Cid]) -> Result<bool, 
 {
     let processed = is_processed(keeper, link)?;
     Ok(!processed && !is_in(cids, link))
+}
+
+fn is_processed<K: Keeper>(keeper: &mut K, cid: &Cid) -> Result<bool, Failed>
+    ensures found { IfTold (K.told keeper.old) result (λ kept found. found ≡ is_among kept.order cid.now) }
+    ensures reads { Reads K.Keeper (is_err result) keeper.old keeper.new }
+{
+    Ok(keeper.position(cid)?.is_some())
 }
 
 fn add(cids: &mut List<Cid>, cid: Cid) -> Result<(), AllocError>

@@ -1,5 +1,5 @@
 -- One commit of the keeper as an event of the replica.
-use Rattle.std.proofs.Common.{◌≡◌, ◌≢◌, ℕ, Bool, true, false, List, [], ◌∷◌, ◌++◌, Option, Some, None, refl, sym, ◌∙◌, ap, subst, inl, inr}
+use Rattle.std.proofs.Common.{◌≡◌, ◌≢◌, Bool, true, false, List, [], ◌∷◌, ◌++◌, Option, Some, None, refl, sym, ◌∙◌, ap, subst, inl, inr}
 use Rattle.std.specs.Prelude.{unwrap_or, IfSome}
 use Rattle.mc_base.specs.Told.{Told}
 use Rattle.mc_base.specs.declared.cid.Cid.{Cid}
@@ -12,6 +12,7 @@ use Rattle.mc_keep.specs.Causes.{burnt, fires, CommitFails}
 use Rattle.mc_keep.specs.Changes.{changed}
 use Rattle.mc_keep.specs.Tables.{StoreFits, MarksFit, ChangesFit}
 use Rattle.mc_model.specs.Wanted.{Queue, without}
+use Rattle.mc_plan.specs.declared.uptakes.After.{After}
 use Rattle.mc_plan.specs.Events.{ReplicaState, state_of, Goes, CommitBreaks, Breaks}
 use Rattle.mc_plan.specs.Uptakes.{IsReady, wants}
 use Rattle.mc_plan.specs.Counted.{run_of}
@@ -106,14 +107,14 @@ process_breaks law (Some kept) (Some after) fuse fuse_new run changes rose is_bu
 
 -- what is ready, where it is told
 
-pub ready_fits : (told : Option Kept) (whole : Bool) (changes : Changes) (links : List Cid) (count : ℕ) → IfSome told (λ kept. IsReady kept whole changes links count) → IfSome told (λ kept. ChangesFit kept changes)
-ready_fits None whole changes links count p = tt
-ready_fits (Some kept) whole changes links count p = p.fits
+pub ready_fits : (told : Option Kept) (whole : Bool) (changes : Changes) (after : After) → IfSome told (λ kept. IsReady kept whole changes after) → IfSome told (λ kept. ChangesFit kept changes)
+ready_fits None whole changes after p = tt
+ready_fits (Some kept) whole changes after p = p.fits
 
-pub ready_mark : (told : Option Kept) (whole : Bool) (changes : Changes) (links : List Cid) (count : ℕ) → IfSome told (λ kept. IsReady kept whole changes links count)
+pub ready_mark : (told : Option Kept) (whole : Bool) (changes : Changes) (after : After) → IfSome told (λ kept. IsReady kept whole changes after)
     → IfSome told (λ kept. unwrap_or changes.mark kept.mark ≡ processed_mark whole (durable_of kept) (kept.order ++ changes.marks))
-ready_mark None whole changes links count p = tt
-ready_mark (Some kept) whole changes links count p = p.mark
+ready_mark None whole changes after p = tt
+ready_mark (Some kept) whole changes after p = p.mark
 
 -- the same of a replica that has not stopped
 
@@ -133,29 +134,34 @@ store_failed law old new fuse fuse_new stopped run changes rose up is_burnt soun
     subst (λ b. Told (state_of old fuse (run_of b run)) (state_of new fuse_new None) (λ s after. Breaks (Store (vertices changes.store) ∷ []) rose s after)) (sym up)
     (store_breaks law old new fuse fuse_new run changes rose is_burnt sound fits marks mark told)
 
-some_marks : (marks cids : List Cid) → marks ≡ cids → cids ≢ [] → marks ≢ []
-some_marks marks cids e some none = some (sym e ∙ none)
+-- one block has a mark
+abbrev is_nil : List Cid → Bool
+is_nil [] = true
+is_nil (c ∷ cids) = false
 
--- the wanted set once they are processed
-queue_then : (told : Option Kept) (whole : Bool) (changes : Changes) (cids links : List Cid) (count : ℕ) (q r : Queue) → changes.marks ≡ cids → r ≡ wants (without q cids) links
-    → IfSome told (λ kept. IsReady kept whole changes links count) → IfSome told (λ kept. r ≡ processed_queue (durable_of kept) q changes.marks)
-queue_then None whole changes cids links count q r marks is ready = tt
-queue_then (Some kept) whole changes cids links count q r marks is ready = is ∙ ap (λ cids. wants (without q cids) links) (sym marks) ∙ sym (ready.wanted q)
+some_marks : (marks : List Cid) (cid : Cid) → marks ≡ cid ∷ [] → marks ≢ []
+some_marks marks cid e none = absurd (let f : false ≡ true = ap is_nil (sym e ∙ none) in cc)
 
-pub process_done : (law : ProcessLaw) (old new : Option Kept) (fuse fuse_new : Option Fuse) (stopped : Bool) (run : Running) (queue : Queue) (changes : Changes) (cids links : List Cid) (count : ℕ)
-    → stopped ≡ false → fires fuse ≡ None → fuse_new ≡ burnt fuse → IfSome old IsKept → IfSome old (λ kept. IsReady kept run.whole changes links count) → changes.store ≡ [] → changes.marks ≡ cids → cids ≢ []
-    → queue ≡ wants (without run.queue cids) links
+-- the wanted set once it is processed
+queue_then : (told : Option Kept) (whole : Bool) (changes : Changes) (after : After) (q r : Queue) → changes.marks ≡ after.cid ∷ [] → r ≡ wants (without q (after.cid ∷ [])) after.links
+    → IfSome told (λ kept. IsReady kept whole changes after) → IfSome told (λ kept. r ≡ processed_queue (durable_of kept) q changes.marks)
+queue_then None whole changes after q r marks is ready = tt
+queue_then (Some kept) whole changes after q r marks is ready = is ∙ ap (λ cids. wants (without q cids) after.links) (sym marks) ∙ sym (ready.wanted q)
+
+pub process_done : (law : ProcessLaw) (old new : Option Kept) (fuse fuse_new : Option Fuse) (stopped : Bool) (run : Running) (queue : Queue) (changes : Changes) (after : After)
+    → stopped ≡ false → fires fuse ≡ None → fuse_new ≡ burnt fuse → IfSome old IsKept → IfSome old (λ kept. IsReady kept run.whole changes after) → changes.store ≡ [] → changes.marks ≡ after.cid ∷ []
+    → queue ≡ wants (without run.queue (after.cid ∷ [])) after.links
     → Told old new (λ kept now. now ≡ changed kept changes)
     → Told (state_of old fuse (run_of stopped run)) (state_of new fuse_new (run_of stopped (record run { queue = queue }))) (λ s now. Goes (Process changes.marks ∷ []) s now)
-process_done law old new fuse fuse_new stopped run queue changes cids links count up lasts is_burnt sound ready store marks some is told =
+process_done law old new fuse fuse_new stopped run queue changes after up lasts is_burnt sound ready store marks is told =
     subst (λ b. Told (state_of old fuse (run_of b run)) (state_of new fuse_new (run_of b (record run { queue = queue }))) (λ s now. Goes (Process changes.marks ∷ []) s now)) (sym up)
-    (process_goes law old new fuse fuse_new run queue changes lasts is_burnt sound (ready_fits old run.whole changes links count ready) store (some_marks changes.marks cids marks some) (ready_mark old run.whole changes links count ready)
-    (queue_then old run.whole changes cids links count run.queue queue marks is ready) told)
+    (process_goes law old new fuse fuse_new run queue changes lasts is_burnt sound (ready_fits old run.whole changes after ready) store (some_marks changes.marks after.cid marks) (ready_mark old run.whole changes after ready)
+    (queue_then old run.whole changes after run.queue queue marks is ready) told)
 
-pub process_failed : (law : ProcessLaw) (old new : Option Kept) (fuse fuse_new : Option Fuse) (stopped : Bool) (run : Running) (changes : Changes) (cids links : List Cid) (count : ℕ) (rose : Type 0)
-    → stopped ≡ false → fuse_new ≡ burnt fuse → IfSome old IsKept → IfSome old (λ kept. IsReady kept run.whole changes links count) → changes.store ≡ [] → changes.marks ≡ cids → cids ≢ []
+pub process_failed : (law : ProcessLaw) (old new : Option Kept) (fuse fuse_new : Option Fuse) (stopped : Bool) (run : Running) (changes : Changes) (after : After) (rose : Type 0)
+    → stopped ≡ false → fuse_new ≡ burnt fuse → IfSome old IsKept → IfSome old (λ kept. IsReady kept run.whole changes after) → changes.store ≡ [] → changes.marks ≡ after.cid ∷ []
     → Told old new (λ kept now. CommitFails (fires fuse) rose kept (changed kept changes) now)
     → Told (state_of old fuse (run_of stopped run)) (state_of new fuse_new None) (λ s now. Breaks (Process changes.marks ∷ []) rose s now)
-process_failed law old new fuse fuse_new stopped run changes cids links count rose up is_burnt sound ready store marks some told =
+process_failed law old new fuse fuse_new stopped run changes after rose up is_burnt sound ready store marks told =
     subst (λ b. Told (state_of old fuse (run_of b run)) (state_of new fuse_new None) (λ s now. Breaks (Process changes.marks ∷ []) rose s now)) (sym up)
-    (process_breaks law old new fuse fuse_new run changes rose is_burnt sound (ready_fits old run.whole changes links count ready) store (some_marks changes.marks cids marks some) (ready_mark old run.whole changes links count ready) told)
+    (process_breaks law old new fuse fuse_new run changes rose is_burnt sound (ready_fits old run.whole changes after ready) store (some_marks changes.marks after.cid marks) (ready_mark old run.whole changes after ready) told)

@@ -26,4 +26,3 @@ pub mod TakenFacts
 pub mod UptakeFacts
 pub mod ValueFacts
 pub mod WalkFacts
-pub mod WithoutFacts

@@ -80,20 +80,20 @@ module _ (fit_law : FitLaw) (sound_law : SoundLaw) (mark_law : MarkLaw) (links_l
       ∙ map-append (block_in kept.graph) kept.order (map (λ (block : Block). block.cid) blocks)
       ∙ ap (λ b. processed kept ++ b) are
 
-  pub ready : (kept : Kept) (whole : Bool) (blocks : List Block) (changes : Changes) (links_left : List Cid) (count : ℕ) → IsKept kept → AreNew kept blocks
+  pub ready : (kept : Kept) (whole : Bool) (blocks : List Block) (changes : Changes) (after : After) → IsKept kept → AreNew kept blocks
       → list_all (is_stored kept.graph) (map (λ (block : Block). block.cid) blocks) ≡ true → blocks_in kept.graph (map (λ (block : Block). block.cid) blocks) ≡ blocks
-      → Processes kept whole blocks (map (λ (block : Block). block.cid) blocks) changes → count ≡ length (gaps (processed kept ++ blocks))
-      → ((q : Queue) → processed_queue (durable_of kept) q (map (λ (block : Block). block.cid) blocks) ≡ wants (without q (map (λ (block : Block). block.cid) blocks)) links_left)
-      → IsReady kept whole changes links_left count
-  ready kept whole blocks changes links_left count sound new stored are p left wanted = record {
+      → Processes kept whole blocks (map (λ (block : Block). block.cid) blocks) changes → after.gaps ≡ length (gaps (processed kept ++ blocks))
+      → ((q : Queue) → processed_queue (durable_of kept) q (map (λ (block : Block). block.cid) blocks) ≡ wants (without q (map (λ (block : Block). block.cid) blocks)) after.links)
+      → IsReady kept whole changes after
+  ready kept whole blocks changes after sound new stored are p left wanted = record {
     fits = fit_law kept blocks changes p.only p.marks new stored are p.rows p.front;
     mark = mark_fits kept whole blocks changes sound new stored are p.mark ∙ ap (λ cids. processed_mark whole (durable_of kept) (kept.order ++ cids)) (sym p.marks);
     gaps_left = left ∙ ap (λ b. length (gaps b)) (sym (processed_then kept blocks changes p.only p.marks are));
-    wanted = subst (λ cids. (q : Queue) → processed_queue (durable_of kept) q cids ≡ wants (without q cids) links_left) (sym p.marks) wanted;
+    wanted = subst (λ cids. (q : Queue) → processed_queue (durable_of kept) q cids ≡ wants (without q cids) after.links) (sym p.marks) wanted;
   }
 
   -- only the links that are not processed are wanted
-  pub wants_open : (order : List Cid) (q : Queue) (cids : List Cid) → want_all order q cids ≡ wants q (filter (λ c. not (has c order)) cids)
+  wants_open : (order : List Cid) (q : Queue) (cids : List Cid) → want_all order q cids ≡ wants q (filter (λ c. not (has c order)) cids)
   wants_open order q [] = refl
   wants_open order q (c ∷ cids) =
       elim (has c order) as (λ t. want_all order (want_unless t q c) cids ≡ wants q (cond (not t) (c ∷ filter (λ d. not (has d order)) cids) (filter (λ d. not (has d order)) cids))) [
@@ -145,9 +145,9 @@ abbrev storing : Cid → List ℕ → Changes
 storing cid bytes = record no_changes { store = record { cid = cid; bytes = bytes } ∷ [] }
 
 abbrev pub Both : Bool → Changes → After → Kept → Type 0
-Both whole process after kept = IsReady kept whole process after.links after.gaps
+Both whole process after kept = IsReady kept whole process after
 
-pub process_of : (old new : Kept) (whole : Bool) (blocks : List Block) (cids : List Cid) (changes : Changes) → new.mark ≡ old.mark → processed new ≡ processed old
+process_of : (old new : Kept) (whole : Bool) (blocks : List Block) (cids : List Cid) (changes : Changes) → new.mark ≡ old.mark → processed new ≡ processed old
     → Processes old whole blocks cids changes → Processes new whole blocks cids changes
 process_of old new whole blocks cids changes mark same p = record {
   only = p.only;
@@ -168,7 +168,7 @@ module _ (fit_law : FitLaw) (sound_law : SoundLaw) (mark_law : MarkLaw) (links_l
   both_stored kept whole block bytes process after sound good new linked left at p =
       let stored = one_stored kept.graph block bytes at in
       let are = one_block kept.graph block bytes at good in
-      ready fit_law sound_law mark_law links_law kept whole (block ∷ []) process after.links after.gaps sound (one_new kept block new) stored are p left
+      ready fit_law sound_law mark_law links_law kept whole (block ∷ []) process after sound (one_new kept block new) stored are p left
       (one_wants fit_law sound_law mark_law links_law kept block after.links stored are linked)
 
   store_ready : (kept : Kept) (whole : Bool) (block : Block) (bytes : List ℕ) (process : Changes) (after : After) → IsKept kept → IsNew kept block bytes after.links → is_stored kept.graph block.cid ≡ false

@@ -15,6 +15,7 @@ use Rattle.mc_keep.specs.declared.changes.Changes.{Changes}
 use Rattle.mc_keep.specs.Changes.{no_changes, row_count, changed}
 use Rattle.mc_keep.specs.Tables.{RowsFit, FrontFits, ChangesFit}
 use Rattle.mc_front.specs.Front.{mark_over}
+use Rattle.mc_plan.specs.declared.uptakes.After.{After}
 use Rattle.mc_plan.specs.declared.uptakes.Uptake.{Uptake}
 
 -- nothing, or just these bytes
@@ -71,13 +72,13 @@ pub record IsShaped (uptake : Uptake) : Type 0 where
 abbrev pub wants : Queue → List Cid → Queue
 wants q cids = fold (want []) q cids
 
--- the changes may be committed, and leave the mark that the definitions give, so many gaps, and these links wanted
-pub record IsReady (kept : Kept) (whole : Bool) (changes : Changes) (links : List Cid) (count : ℕ) : Type 0 where
+-- the changes may be committed, and leave the mark, the gaps and the wanted set that the definitions give
+pub record IsReady (kept : Kept) (whole : Bool) (changes : Changes) (after : After) : Type 0 where
   pub fits : ChangesFit kept changes
   pub mark : unwrap_or changes.mark kept.mark ≡ processed_mark whole (durable_of kept) (kept.order ++ changes.marks)
-  pub gaps_left : count ≡ length (gaps (processed (changed kept changes)))
+  pub gaps_left : after.gaps ≡ length (gaps (processed (changed kept changes)))
   pub wanted : (q : Queue) →
-      processed_queue (durable_of kept) q changes.marks ≡ wants (without q changes.marks) links
+      processed_queue (durable_of kept) q changes.marks ≡ wants (without q changes.marks) after.links
 
 -- the rows of an uptake
 abbrev pub uptake_rows : Uptake → ℕ

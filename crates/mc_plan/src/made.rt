@@ -92,8 +92,7 @@ fn check_size(bytes: &[u8]) -> Result<(), CoreError>
     Ok(())
 }
 
-/// Whether the block is processed.
-pub fn is_processed<K: Keeper>(keeper: &mut K, cid: &Cid) -> Result<bool, Failed>
+pub(crate) fn is_processed<K: Keeper>(keeper: &mut K, cid: &Cid) -> Result<bool, Failed>
     ensures found { IfTold (K.told keeper.old) result (λ kept found. found ≡ is_among kept.order cid.now) }
     ensures reads { Reads K.Keeper (is_err result) keeper.old keeper.new }
 {

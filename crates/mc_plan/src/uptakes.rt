@@ -35,14 +35,13 @@ pub struct Uptake {
     pub after: After,
 }
 
-/// The changes that process these blocks, of which none is processed, and how many gaps they leave, with room in the
-/// keeper for their rows and so many more. Where `whole`, every gap is wanted.
-pub fn process_changes<K: Keeper>(
+// The changes that process these blocks, of which none is processed, and how many gaps they leave, with room in the
+// keeper for their rows and one more. Where `whole`, every gap is wanted.
+fn process_changes<K: Keeper>(
     keeper: &mut K,
     alloc: Global,
     blocks: &[Block],
     whole: bool,
-    more: u64,
     changes: &mut Changes,
 ) -> Result<u64, KeepError>
     requires none { changes.old ≡ no_changes }
@@ -53,27 +52,23 @@ pub fn process_changes<K: Keeper>(
         count ≡ length (gaps (processed kept ++ blocks.now))) }
     ensures only { IfOk result (λ count. changes.new.store ≡ []) }
     ensures marks { IfOk result (λ count. changes.new.marks ≡ map (λ (block : Block). block.cid) blocks.now) }
-    ensures room { IfOk result (λ count. row_count changes.new + more ≤ K.spare keeper.new) }
+    ensures room { IfOk result (λ count. row_count changes.new + 1 ≤ K.spare keeper.new) }
     ensures reads { Reads K.Keeper (is_fault result) keeper.old keeper.new }
 {
     merge(keeper, alloc, blocks, changes)?;
     let gaps = front_changes(keeper, alloc, blocks, whole, changes)?;
-    match reserve_rows(keeper, changes, more) {
+    match reserve_rows(keeper, changes) {
         Ok(()) => Ok(gaps),
         Err(AllocError) => Err(KeepError::Memory),
     }
 }
 
-// Takes the keeper's memory for the rows of these changes and for so many more.
-fn reserve_rows<K: Keeper>(
-    keeper: &mut K,
-    changes: &Changes,
-    more: u64,
-) -> Result<(), AllocError>
-    ensures room { OnOk result (row_count changes.now + more ≤ K.spare keeper.new) }
+// Takes the keeper's memory for the rows of these changes and for one more.
+fn reserve_rows<K: Keeper>(keeper: &mut K, changes: &Changes) -> Result<(), AllocError>
+    ensures room { OnOk result (row_count changes.now + 1 ≤ K.spare keeper.new) }
     ensures reserves { Reserves K.Keeper keeper.old keeper.new }
 {
-    let rows = changes.rows().saturating_add(more);
+    let rows = changes.rows().saturating_add(1);
     if rows == u64::MAX {
         return Err(AllocError);
     }
@@ -168,7 +163,7 @@ fn plan_changes<K: Keeper>(
     ensures room { IfOk result (λ plan. row_count process.new + 1 ≤ K.spare keeper.new) }
     ensures reads { Reads K.Keeper (is_fault result) keeper.old keeper.new }
 {
-    let gaps = process_changes(keeper, alloc, one(block), whole, 1, process)?;
+    let gaps = process_changes(keeper, alloc, one(block), whole, process)?;
     let store = store_changes(alloc, block.cid, bytes, known)?;
     Ok((store, gaps))
 }

@@ -5,7 +5,6 @@ ghost use Rattle.mc_keep.specs.Calls.{Reads};
 ghost use Rattle.mc_keep.specs.Causes.{IfTold};
 ghost use Rattle.mc_keep.specs.Plan.{is_fault};
 ghost use Rattle.mc_model.specs.Graph.{has};
-ghost use Rattle.mc_model.specs.Wanted.{without};
 ghost use Rattle.mc_queue.specs.Views.{shown, spare};
 ghost use Rattle.mc_plan.specs.Hears.{AreSome};
 ghost use Rattle.mc_plan.specs.Uptakes.{open_links, wants};
@@ -24,16 +23,6 @@ pub fn want_links(queue: &mut Queue, links: &[Cid])
 {
     for link in links {
         let _came = queue.want(*link, false);
-    }
-}
-
-/// These blocks are processed: each leaves the part of the wanted set that it is in.
-pub fn done_all(queue: &mut Queue, cids: &[Cid])
-    ensures queue { shown queue.new ≡ without (shown queue.old) cids.now }
-    ensures spare { spare queue.old ≤ spare queue.new }
-{
-    for cid in cids {
-        queue.done(cid);
     }
 }
 

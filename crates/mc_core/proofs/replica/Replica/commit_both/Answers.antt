@@ -22,4 +22,4 @@ returns-in-Ok-clause-keeps g c = commit_more c.in-Ok.ensures.keeps c.commit_proc
 
 pub returns-in-Ok-clause-queue : goal.returns-in-Ok-clause-queue
 returns-in-Ok-clause-queue g c =
-    subst (λ (q : Queue). OnOk c.commit_process.result (shown c.commit_process.new.self.queue ≡ wants (without (shown q) c.args.cids.now) c.args.links.now)) c.in-Ok.ensures.queue_same c.commit_process.ensures.queue
+    subst (λ (q : Queue). OnOk c.commit_process.result (shown c.commit_process.new.self.queue ≡ wants (without (shown q) (c.args.after.cid ∷ [])) c.args.after.links)) c.in-Ok.ensures.queue_same c.commit_process.ensures.queue

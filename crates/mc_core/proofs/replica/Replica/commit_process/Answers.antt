@@ -10,13 +10,13 @@ use Rattle.mc_core.proofs.replica.Replica.commit_process.Goals as goal
 
 pub returns-in-Ok-clause-part : goal.returns-in-Ok-clause-part
 returns-in-Ok-clause-part g c =
-    process_done c.commits_are_events.ensures.process _ _ _ _ _ (running_of c.args.self.now) _ _ c.args.cids.now c.args.links.now c.args.gaps c.requires.up c.in-Ok.ensures.lasts c.in-Ok.ensures.commits.fuse_burnt c.is_sound.ensures c.requires.ready
-    c.requires.only.0 c.requires.only.1 c.requires.some (rw (c.done_all.ensures.queue) at c.want_links.ensures.queue) c.in-Ok.ensures.done
+    process_done c.commits_are_events.ensures.process _ _ _ _ _ (running_of c.args.self.now) _ _ c.args.after c.requires.up c.in-Ok.ensures.lasts c.in-Ok.ensures.commits.fuse_burnt c.is_sound.ensures c.requires.ready
+    c.requires.only.0 c.requires.only.1 (rw (c.as_slice.ensures, c.done.ensures.queue) at c.want_links.ensures.queue) c.in-Ok.ensures.done
 
 pub returns-clause-part : goal.returns-clause-part
 returns-clause-part g c =
-    process_failed c.commits_are_events.ensures.process _ _ _ _ _ (running_of c.args.self.now) _ c.args.cids.now c.args.links.now c.args.gaps _ c.requires.up c.in-Err.ensures.commits.fuse_burnt c.is_sound.ensures c.requires.ready
-    c.requires.only.0 c.requires.only.1 c.requires.some c.in-Err.ensures.failed
+    process_failed c.commits_are_events.ensures.process _ _ _ _ _ (running_of c.args.self.now) _ c.args.after _ c.requires.up c.in-Err.ensures.commits.fuse_burnt c.is_sound.ensures c.requires.ready
+    c.requires.only.0 c.requires.only.1 c.in-Err.ensures.failed
 
 pub returns-in-Ok-clause-keeps : goal.returns-in-Ok-clause-keeps
 returns-in-Ok-clause-keeps g c = commits_on _ _ _ c.in-Ok.ensures.commits c.in-Ok.ensures.planned refl (record { walk_same = refl; batch_same = refl; whole_same = refl; inbox_same = refl })
@@ -29,11 +29,11 @@ invariant_of-self-clause-counted g c =
 pub invariant_of-self-clause-sound : goal.invariant_of-self-clause-sound
 invariant_of-self-clause-sound g c =
     goes_told (Process c.args.process.marks ∷ []) _ _ (g.K.Keeper.fuse c.args.self.now.keeper) _ _ _ (running_of c.args.self.now) _ c.in-Ok.ensures.commits.silent
-    (process_done c.commits_are_events.ensures.process _ _ (g.K.Keeper.fuse c.args.self.now.keeper) _ _ (running_of c.args.self.now) _ c.args.process c.args.cids.now c.args.links.now c.args.gaps c.requires.up c.in-Ok.ensures.lasts c.in-Ok.ensures.commits.fuse_burnt c.is_sound.ensures c.requires.ready
-    c.requires.only.0 c.requires.only.1 c.requires.some (rw (c.done_all.ensures.queue) at c.want_links.ensures.queue) c.in-Ok.ensures.done) c.args.self.now.sound
+    (process_done c.commits_are_events.ensures.process _ _ (g.K.Keeper.fuse c.args.self.now.keeper) _ _ (running_of c.args.self.now) _ c.args.process c.args.after c.requires.up c.in-Ok.ensures.lasts c.in-Ok.ensures.commits.fuse_burnt c.is_sound.ensures c.requires.ready
+    c.requires.only.0 c.requires.only.1 (rw (c.as_slice.ensures, c.done.ensures.queue) at c.want_links.ensures.queue) c.in-Ok.ensures.done) c.args.self.now.sound
 
 pub invariant_of-self-in-Err-clause-sound : goal.invariant_of-self-in-Err-clause-sound
 invariant_of-self-in-Err-clause-sound g c =
     breaks_told (Process c.args.process.marks ∷ []) (Rose (g.K.Keeper.own c.args.self.now.keeper) (g.K.Keeper.own c.commit.new.self)) _ _ (g.K.Keeper.fuse c.args.self.now.keeper) _ _ _ (running_of c.args.self.now) _ c.in-Err.ensures.commits.silent
-    (process_failed c.commits_are_events.ensures.process _ _ (g.K.Keeper.fuse c.args.self.now.keeper) _ _ (running_of c.args.self.now) c.args.process c.args.cids.now c.args.links.now c.args.gaps (Rose (g.K.Keeper.own c.args.self.now.keeper) (g.K.Keeper.own c.commit.new.self)) c.requires.up c.in-Err.ensures.commits.fuse_burnt c.is_sound.ensures c.requires.ready
-    c.requires.only.0 c.requires.only.1 c.requires.some c.in-Err.ensures.failed) c.args.self.now.sound
+    (process_failed c.commits_are_events.ensures.process _ _ (g.K.Keeper.fuse c.args.self.now.keeper) _ _ (running_of c.args.self.now) c.args.process c.args.after (Rose (g.K.Keeper.own c.args.self.now.keeper) (g.K.Keeper.own c.commit.new.self)) c.requires.up c.in-Err.ensures.commits.fuse_burnt c.is_sound.ensures c.requires.ready
+    c.requires.only.0 c.requires.only.1 c.in-Err.ensures.failed) c.args.self.now.sound

@@ -1,7 +1,7 @@
 use Rattle.std.proofs.Common.{◌≡◌, ◌≤◌, take}
 use Rattle.mc_model.specs.Wanted.{without}
 use Rattle.mc_queue.specs.Views.{shown, spare}
-use Rattle.mc_plan.proofs.wanting.done_all.Given as goal
+use Rattle.mc_group.proofs.leaving.done_all.Given as goal
 
 abbrev pub invariant-loop-cid : goal.invariant-loop-cid
 invariant-loop-cid l = record {

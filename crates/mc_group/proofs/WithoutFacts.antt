@@ -13,12 +13,12 @@ none_leave cid_of (x ∷ xs) = ap (λ rest. x ∷ rest) (none_leave cid_of xs)
 more_leave : {X : Type 0} (cid_of : X → Cid) (cids more : List Cid) (xs : List X) → filter (λ x. not (has (cid_of x) more)) (filter (λ x. not (has (cid_of x) cids)) xs) ≡ filter (λ x. not (has (cid_of x) (cids ++ more))) xs
 more_leave cid_of cids more [] = refl
 more_leave {X} cid_of cids more (x ∷ xs) =
-    by_test (has (cid_of x) cids) ∙ ap (λ t. cond (not t) (x ∷ filter (λ x. not (has (cid_of x) (cids ++ more))) xs) (filter (λ x. not (has (cid_of x) (cids ++ more))) xs)) (sym (has-append (cid_of x) cids more))
+    by_test (more_leave cid_of cids more xs) (has (cid_of x) cids) ∙ ap (λ t. cond (not t) (x ∷ filter (λ x. not (has (cid_of x) (cids ++ more))) xs) (filter (λ x. not (has (cid_of x) (cids ++ more))) xs)) (sym (has-append (cid_of x) cids more))
   where
-    by_test : (b : Bool) → filter (λ x. not (has (cid_of x) more)) (cond (not b) (x ∷ filter (λ x. not (has (cid_of x) cids)) xs) (filter (λ x. not (has (cid_of x) cids)) xs))
+    by_test : filter (λ x. not (has (cid_of x) more)) (filter (λ x. not (has (cid_of x) cids)) xs) ≡ filter (λ x. not (has (cid_of x) (cids ++ more))) xs → (b : Bool) → filter (λ x. not (has (cid_of x) more)) (cond (not b) (x ∷ filter (λ x. not (has (cid_of x) cids)) xs) (filter (λ x. not (has (cid_of x) cids)) xs))
         ≡ cond (not (b || has (cid_of x) more)) (x ∷ filter (λ x. not (has (cid_of x) (cids ++ more))) xs) (filter (λ x. not (has (cid_of x) (cids ++ more))) xs)
-    by_test true = more_leave cid_of cids more xs
-    by_test false = ap (λ rest. cond (not (has (cid_of x) more)) (x ∷ rest) rest) (more_leave cid_of cids more xs)
+    by_test ih true = ih
+    by_test ih false = ap (λ rest. cond (not (has (cid_of x) more)) (x ∷ rest) rest) ih
 
 pub without_none : (q : Queue) → q ≡ without q []
 without_none q = λ i. record {

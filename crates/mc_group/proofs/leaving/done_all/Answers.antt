@@ -1,8 +1,8 @@
 use Rattle.std.proofs.Common.{◌∙◌, ap, refl, arith, [], ◌∷◌, take}
 use Rattle.mc_model.specs.Wanted.{Queue, without}
 use Rattle.mc_queue.specs.Views.{shown}
-use Rattle.mc_plan.proofs.WithoutFacts.{leave_one, without_none}
-use Rattle.mc_plan.proofs.wanting.done_all.Goals as goal
+use Rattle.mc_group.proofs.WithoutFacts.{leave_one, without_none}
+use Rattle.mc_group.proofs.leaving.done_all.Goals as goal
 
 pub loop-cid-init : goal.loop-cid-init
 loop-cid-init c = record { queue = without_none (shown c.args.queue.now); spare = omega arith }
