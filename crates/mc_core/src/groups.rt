@@ -9,7 +9,7 @@ ghost use Rattle.mc_model.specs.Kept.{processed};
 ghost use Rattle.mc_model.specs.Offer.{is_good};
 ghost use Rattle.mc_model.specs.declared.block.Block.{Block};
 ghost use Rattle.mc_model.specs.declared.block.Stored.{Stored};
-ghost use Rattle.mc_group.specs.Gathering.{AreHeld, IsGroup, IsGroupOver, items_of};
+ghost use Rattle.mc_group.specs.Gathering.{IsGroup, IsGroupOver, items_of};
 ghost use Rattle.mc_group.specs.Inboxes.{CountsGroup, GroupEvents, GroupWants, InboxAfter};
 ghost use Rattle.mc_group.specs.Planning.{open_links};
 ghost use Rattle.mc_queue.specs.Views.{shown, spare};
@@ -17,7 +17,7 @@ ghost use Rattle.mc_plan.specs.Calls.{Stays};
 ghost use Rattle.mc_plan.specs.Reads.{read_refusal};
 ghost use Rattle.mc_plan.specs.Refusals.{Is, is_fault};
 ghost use Rattle.mc_plan.specs.Uptakes.{Processes};
-ghost use Rattle.mc_core.specs.Exact.{DecidesAlone, RestSame, RunSame, front_of};
+ghost use Rattle.mc_core.specs.Exact.{DecidesAlone, RunSame, front_of};
 ghost use Rattle.mc_core.specs.Groups.{TakesIn};
 ghost use Rattle.mc_core.specs.Words.{Acts, Continues};
 
@@ -66,7 +66,15 @@ impl<K: Keeper> Replica<K> {
             &mut group,
         ) {
             Ok(()) => self.take_up_group(alloc, group),
-            Err(error) => self.give_up(group, error),
+            Err(KeepError::Failed) => {
+                put_back(&mut self.inbox, group.slots, group.blocks);
+                self.stopped = true;
+                Err(CoreError::KeeperFault)
+            }
+            Err(KeepError::Memory) => {
+                put_back(&mut self.inbox, group.slots, group.blocks);
+                Err(CoreError::Memory)
+            }
         }
     }
 
@@ -96,7 +104,15 @@ impl<K: Keeper> Replica<K> {
         }
         match plan_group(&mut self.keeper, alloc, &group, self.whole) {
             Ok(plan) => self.reserve_links(alloc, group, plan),
-            Err(error) => self.give_up(group, error),
+            Err(KeepError::Failed) => {
+                put_back(&mut self.inbox, group.slots, group.blocks);
+                self.stopped = true;
+                Err(CoreError::KeeperFault)
+            }
+            Err(KeepError::Memory) => {
+                put_back(&mut self.inbox, group.slots, group.blocks);
+                Err(CoreError::Memory)
+            }
         }
     }
 
@@ -136,7 +152,10 @@ impl<K: Keeper> Replica<K> {
         kept_is_durable();
         match self.queue.reserve(plan.links.len() as u64) {
             Ok(()) => self.commit_group(alloc, group, plan),
-            Err(_error) => self.give_up(group, KeepError::Memory),
+            Err(_error) => {
+                put_back(&mut self.inbox, group.slots, group.blocks);
+                Err(CoreError::Memory)
+            }
         }
     }
 
@@ -201,35 +220,6 @@ impl<K: Keeper> Replica<K> {
         ) {
             Ok(()) => Ok(Grouped { processed, known }),
             Err(Failed) => Err(CoreError::KeeperFault),
-        }
-    }
-
-    // Puts a group back into the inbox that it was taken out of, and ends with this error of the keeper.
-    fn give_up(&mut self, group: Group, error: KeepError) -> Result<Grouped, CoreError>
-        requires held { AreHeld group.slots.items group.blocks.items }
-        requires few { length group.slots.items + length self.old.inbox.items ≤ 64 }
-        requires room { length group.slots.items + length self.old.inbox.items ≤ self.old.inbox.room }
-        ensures error { IfErr result (OfKeeper error) }
-        ensures ends { is_err result ≡ true }
-        ensures stopped { self.new.stopped ≡ (is_fault result || self.old.stopped) }
-        ensures items { self.new.inbox.items ≡ items_of group.slots.items ++ self.old.inbox.items }
-        ensures room { self.new.inbox.room ≡ self.old.inbox.room }
-        ensures keeper { self.new.keeper ≡ self.old.keeper }
-        ensures queue { self.new.queue ≡ self.old.queue }
-        ensures rest { RunSame self.old self.new }
-    {
-        let Group {
-            slots,
-            blocks,
-            cids: _,
-        } = group;
-        put_back(&mut self.inbox, slots, blocks);
-        match error {
-            KeepError::Failed => {
-                self.stopped = true;
-                Err(CoreError::KeeperFault)
-            }
-            KeepError::Memory => Err(CoreError::Memory),
         }
     }
 }

@@ -5,6 +5,7 @@ use Rattle.mc_group.proofs.CommitFacts.{group_counts, group_done, group_failed}
 use Rattle.mc_plan.proofs.CountFacts.{counted_after}
 use Rattle.mc_core.proofs.Keeps.{commits_on}
 use Rattle.mc_plan.proofs.SoundFacts.{breaks_told, goes_told}
+use Rattle.mc_core.proofs.GroupFacts.{ready_fit}
 use Rattle.mc_core.specs.Replica.{running_of}
 use Rattle.mc_core.proofs.replica.Replica.process_group.Goals as goal
 
@@ -13,8 +14,8 @@ returns-in-Ok-clause-part g c =
     group_done c.commits_are_events.ensures.process _ _ _ _ _ (running_of c.args.self.now) c.args.process c.args.cids.now c.args.links.now c.args.gaps c.requires.up c.in-Ok.ensures.commits.fuse_burnt c.is_sound.ensures c.requires.ready c.requires.only.0 c.requires.only.1 c.requires.some
     _ c.in-Ok.ensures.lasts (rw (c.done_all.ensures.queue) at c.want_links.ensures.queue) c.in-Ok.ensures.done
 
-pub returns-clause-part : goal.returns-clause-part
-returns-clause-part g c =
+pub returns-in-Err-clause-part : goal.returns-in-Err-clause-part
+returns-in-Err-clause-part g c =
     group_failed c.commits_are_events.ensures.process _ _ _ _ _ (running_of c.args.self.now) c.args.process c.args.cids.now c.args.links.now c.args.gaps c.requires.up c.in-Err.ensures.commits.fuse_burnt c.is_sound.ensures c.requires.ready c.requires.only.0 c.requires.only.1 c.requires.some
     _ c.in-Err.ensures.failed
 
@@ -37,3 +38,6 @@ invariant_of-self-in-Err-clause-sound g c =
     breaks_told (Process c.args.process.marks ∷ []) (Rose (g.K.Keeper.own c.args.self.now.keeper) (g.K.Keeper.own c.commit.new.self)) _ _ (g.K.Keeper.fuse c.args.self.now.keeper) _ _ _ (running_of c.args.self.now) _ c.in-Err.ensures.commits.silent
     (group_failed c.commits_are_events.ensures.process _ _ (g.K.Keeper.fuse c.args.self.now.keeper) _ _ (running_of c.args.self.now) c.args.process c.args.cids.now c.args.links.now c.args.gaps c.requires.up c.in-Err.ensures.commits.fuse_burnt c.is_sound.ensures c.requires.ready c.requires.only.0 c.requires.only.1 c.requires.some
     (Rose (g.K.Keeper.own c.args.self.now.keeper) (g.K.Keeper.own c.commit.new.self)) c.in-Err.ensures.failed) c.args.self.now.sound
+
+pub commit-requires-clause-fits : goal.commit-requires-clause-fits
+commit-requires-clause-fits g c = ready_fit _ _ c.args.process c.args.cids.now c.args.links.now c.args.gaps c.requires.some c.requires.ready
