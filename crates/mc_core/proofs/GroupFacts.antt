@@ -1,5 +1,5 @@
 -- Groups of blocks that a replica takes up.
-use Rattle.std.proofs.Common.{◌≡◌, ◌≢◌, ℕ, zero, suc, ◌+◌, ◌≤◌, Bool, true, false, ◌||◌, List, [], ◌∷◌, ◌++◌, drop, length, Option, Some, None, Result, Ok, Err, refl, sym, ap, ◌∙◌, subst, arith}
+use Rattle.std.proofs.Common.{◌≡◌, ◌≢◌, ℕ, zero, suc, rules, ◌-◌, ◌+◌, ◌≤◌, Bool, true, false, ◌||◌, List, [], ◌∷◌, ◌++◌, drop, length, Option, Some, None, Result, Ok, Err, refl, sym, ap, ◌∙◌, subst, arith}
 use Rattle.std.specs.Prelude.{IfErr, IfSome, ◌==◌}
 use Rattle.std.proofs.lemmas.Bool.{false≢true}
 use Rattle.std.proofs.lemmas.List.{append-nil}
@@ -11,15 +11,15 @@ use Rattle.mc_keep.specs.declared.fuse.Fuse.{Fuse}
 use Rattle.mc_keep.specs.Changes.{changed}
 use Rattle.mc_keep.specs.Tables.{ChangesFit}
 use Rattle.mc_model.specs.declared.block.Block.{Block}
-use Rattle.mc_model.specs.Events.{Event}
+use Rattle.mc_model.specs.Events.{Event, Process}
 use Rattle.mc_model.specs.Kept.{Kept, cids_of}
 use Rattle.mc_model.specs.State.{Running}
-use Rattle.mc_inbox.specs.Groups.{group_of}
+use Rattle.mc_inbox.specs.Groups.{group_of, store_events}
 use Rattle.mc_model.specs.declared.block.Stored.{Stored}
 use Rattle.mc_model.specs.Wanted.{Queue, without}
 use Rattle.mc_plan.specs.declared.error.CoreError.{CoreError}
 use Rattle.mc_plan.specs.declared.error.CoreError.TheVariants.{KeeperFault}
-use Rattle.mc_plan.specs.Refusals.{ByKind, kind_of}
+use Rattle.mc_plan.specs.Refusals.{ByKind, Is, kind_of}
 use Rattle.mc_plan.specs.Uptakes.{wants}
 use Rattle.mc_plan.specs.Calls.{Call, Faults}
 use Rattle.mc_plan.specs.Events.{ReplicaState, state_of}
@@ -27,15 +27,17 @@ use Rattle.mc_plan.proofs.EventFacts.{breaks_rose}
 use Rattle.mc_plan.proofs.KindFacts.{by_kind, kinds}
 use Rattle.mc_group.specs.declared.group.Slot.{Slot}
 use Rattle.mc_group.specs.declared.group.Slot.TheVariants.{Known, Held, New}
-use Rattle.mc_group.specs.Gathering.{IsGroup, items_of, stores_in}
+use Rattle.mc_group.specs.Gathering.{IsGroup, IsGroupOver, items_of, stores_in}
 use Rattle.mc_group.proofs.ReadyFacts.{group_new}
 use Rattle.mc_keep.specs.New.{AreNew}
-use Rattle.mc_plan.specs.Counted.{AreSound}
+use Rattle.mc_plan.specs.Counted.{AreSound, run_of}
+use Rattle.mc_plan.specs.Reads.{read_refusal}
+use Rattle.mc_plan.proofs.CallFacts.{at}
 use Rattle.mc_group.specs.Planning.{AreReady, storing}
-use Rattle.mc_group.proofs.MakeFacts.{items_count, picked_count}
+use Rattle.mc_group.proofs.MakeFacts.{group_makes, items_count, picked_count}
 use Rattle.mc_group.proofs.WithoutFacts.{without_none}
 use Rattle.mc_group.specs.declared.grouped.Grouped.{Grouped}
-use Rattle.mc_group.specs.Inboxes.{CountsGroup, GroupWants, InboxAfter}
+use Rattle.mc_group.specs.Inboxes.{CountsGroup, GroupEvents, GroupWants, InboxAfter}
 use Rattle.mc_core.specs.Groups.{InboxLeft}
 
 -- where all was put back
@@ -67,8 +69,7 @@ no_items [] e = refl
 no_items (x ∷ xs) e = absurd (false≢true (sym (not_zero (length xs)) ∙ e))
   where
     not_zero : (n : ℕ) → (suc n == 0) ≡ false
-    not_zero zero = refl
-    not_zero (suc n) = refl
+    not_zero n = search rules
 
 pub ready_fit : (told : Option Kept) (whole : Bool) (process : Changes) (cids links : List Cid) (count : ℕ) → cids ≢ [] → IfSome told (λ kept. AreReady kept whole process links count) → IfSome told (λ kept. ChangesFit kept process)
 ready_fit None whole process cids links count some ready = tt
@@ -134,3 +135,14 @@ stores_few (New s ∷ slots) = let few = stores_few slots in omega (arith, few)
 pub new_told : (told : Option Kept) (stop : Bool) (run : Running) (slots : List Slot) (blocks : List Block) (cids : List Cid) → AreSound stop told run → stop ≡ false → IsGroup run.queue.flight slots blocks cids → IfSome told (λ kept. AreNew kept blocks)
 new_told None stop run slots blocks cids sound up g = tt
 new_told (Some kept) stop run slots blocks cids sound up g = group_new kept run.queue slots blocks cids (sound.once kept refl up) g
+
+-- the events of a group whose commits are made
+pub made_told : (told : Option Kept) (fuse : Option Fuse) (run : Running) (slots : List Slot) (blocks : List Block) (cids marks : List Cid) (stores : List Stored) (grouped : Grouped) → IsGroup run.queue.flight slots blocks cids → stores ≡ stores_in slots
+    → CountsGroup run.queue (items_of slots) grouped → IfSome told (λ kept. IsGroupOver kept slots blocks) → marks ≡ cids → cids ≢ []
+    → IfSome told (λ kept. Is (read_refusal (at kept fuse (run_of false run))) None × GroupEvents (at kept fuse (run_of false run)) (items_of slots) (store_events stores ++ Process marks ∷ []) grouped)
+made_told told fuse run slots blocks cids marks stores grouped g is counts over named some =
+    subst (λ st. IfSome told (λ kept. Is (read_refusal (at kept fuse (run_of false run))) None × GroupEvents (at kept fuse (run_of false run)) (items_of slots) (store_events st ++ Process marks ∷ []) grouped)) (sym is)
+    (group_makes run slots blocks cids grouped g fuse counts told marks over named some)
+
+pub rest_counts : (q : Queue) (slots : List Slot) (blocks : List Block) (cids : List Cid) (processed all : ℕ) → IsGroup q.flight slots blocks cids → processed ≡ length cids → all ≡ length slots → CountsGroup q (items_of slots) (record { processed = processed; known = all - processed })
+rest_counts q slots blocks cids processed all g is whole = let few = g.few_cids in some_counts q slots blocks cids processed (all - processed) g is (omega (arith, few, is, whole))
