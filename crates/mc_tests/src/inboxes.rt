@@ -24,21 +24,13 @@ fn block_of(alloc: Global, priority: u64) -> Result<Verified, AllocError> {
 }
 
 // A block is heard of, and its job begins.
-fn begins<K: Keeper>(
-    replica: &mut Replica<K>,
-    alloc: Global,
-    cid: Cid,
-) -> Result<bool, CoreError> {
+fn begins<K: Keeper>(replica: &mut Replica<K>, alloc: Global, cid: Cid) -> Result<bool, CoreError> {
     hears(replica, alloc, cid)?;
     Ok(replica.next_job(alloc)?.is_some())
 }
 
 // Adds blocks of the priorities below this one to an inbox that has room, and tells how many were taken.
-fn adds<K: Keeper>(
-    replica: &mut Replica<K>,
-    alloc: Global,
-    count: u64,
-) -> Result<u64, CoreError>
+fn adds<K: Keeper>(replica: &mut Replica<K>, alloc: Global, count: u64) -> Result<u64, CoreError>
     requires room { 64 ≤ replica.old.inbox.room }
     ensures room { replica.new.inbox.room ≡ replica.old.inbox.room }
 {
@@ -68,10 +60,7 @@ fn begin_all<K: Keeper>(
 
 // Of three blocks in flight two are taken up by just two commits, and the third waits again; then the third commit
 // fails, since the fuse was set to it.
-fn takes_two<K: Keeper>(
-    replica: &mut Replica<Fused<K>>,
-    alloc: Global,
-) -> Result<bool, CoreError> {
+fn takes_two<K: Keeper>(replica: &mut Replica<Fused<K>>, alloc: Global) -> Result<bool, CoreError> {
     let begun = begin_all(replica, alloc, 3)?;
     replica.inbox_reserve()?;
     let added = adds(replica, alloc, 3)?;

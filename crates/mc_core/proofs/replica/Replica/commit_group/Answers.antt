@@ -38,13 +38,13 @@ carry_group-requires-clause-ready g c =
 
 pub returns-in-Ok-clause-call : goal.returns-in-Ok-clause-call
 returns-in-Ok-clause-call g c =
-    part_call (λ s. Is (read_refusal s)) (λ s. GroupEvents s (items_of c.args.group.slots.items)) _ _ _ _ _ (running_of c.args.self.now) _ _ _ _ (store_events c.stores_of-stores.result ++ Process c.args.plan.process.marks ∷ []) _ _ c.requires.up refl refl (omega arith)
+    part_call (λ s. Is (read_refusal s)) (λ s. GroupEvents s (items_of c.args.group.slots.items)) _ _ _ _ _ (running_of c.args.self.now) _ (g.K.Keeper.own c.args.self.now.keeper) (g.K.Keeper.own c.args.self.now.keeper) _ (store_events c.stores_of-stores.result ++ Process c.args.plan.process.marks ∷ []) _ _ c.requires.up refl refl (omega arith)
     (made_told _ (g.K.Keeper.fuse c.args.self.now.keeper) (running_of c.args.self.now) c.args.group.slots.items c.args.group.blocks.items c.args.group.cids.items c.args.plan.process.marks _ _ c.requires.group c.stores_of-stores.ensures
     (rest_counts (shown c.args.self.now.queue) c.args.group.slots.items c.args.group.blocks.items c.args.group.cids.items _ _ c.requires.group (ap length c.as_slice.ensures.value) (ap length c.as_slice-2.ensures.value)) c.requires.over (c.requires.only.1 ∙ c.requires.group.blocks_named) c.requires.some) refl tt c.in-Ok.ensures.part
 
 pub returns-clause-call : goal.returns-clause-call
 returns-clause-call g c =
-    part_call (λ s. Is (read_refusal s)) (λ s. GroupEvents s (items_of c.args.group.slots.items)) _ _ _ _ _ (running_of c.args.self.now) _ _ _ _ (store_events c.stores_of-stores.result ++ Process c.args.plan.process.marks ∷ []) _ _ c.requires.up refl refl (omega arith)
+    part_call (λ s. Is (read_refusal s)) (λ s. GroupEvents s (items_of c.args.group.slots.items)) _ _ _ _ _ (running_of c.args.self.now) _ (g.K.Keeper.own c.args.self.now.keeper) (g.K.Keeper.own c.args.self.now.keeper) _ (store_events c.stores_of-stores.result ++ Process c.args.plan.process.marks ∷ []) _ _ c.requires.up refl refl (omega arith)
     (made_told _ (g.K.Keeper.fuse c.args.self.now.keeper) (running_of c.args.self.now) c.args.group.slots.items c.args.group.blocks.items c.args.group.cids.items c.args.plan.process.marks _ _ c.requires.group c.stores_of-stores.ensures
     (rest_counts (shown c.args.self.now.queue) c.args.group.slots.items c.args.group.blocks.items c.args.group.cids.items _ _ c.requires.group (ap length c.as_slice.ensures.value) (ap length c.as_slice-2.ensures.value)) c.requires.over (c.requires.only.1 ∙ c.requires.group.blocks_named) c.requires.some) tt refl c.in-Err.ensures.part
 

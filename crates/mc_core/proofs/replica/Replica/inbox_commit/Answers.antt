@@ -5,5 +5,5 @@ use Rattle.mc_core.proofs.replica.Replica.inbox_commit.Goals as goal
 pub returns-then-self-clause-keeps : goal.returns-then-self-clause-keeps
 returns-then-self-clause-keeps g c = still_on refl refl refl
 
-pub returns-clause-keeps : goal.returns-clause-keeps
-returns-clause-keeps g c = still_on refl refl refl
+pub returns-in-Err-clause-keeps : goal.returns-in-Err-clause-keeps
+returns-in-Err-clause-keeps g c = still_on refl refl refl
