@@ -1,4 +1,4 @@
-use Rattle.std.proofs.Common.{◌≡◌, ◌∙◌, ◌≤◌, ◌∷◌, ◌++◌, [], ap, sym, refl, subst, length, arith, List}
+use Rattle.std.proofs.Common.{◌≡◌, ◌∙◌, ◌≤◌, ◌-◌, ◌∷◌, ◌++◌, [], Ok, Err, ap, sym, refl, subst, length, arith, List}
 use Rattle.std.specs.Prelude.{IfSome}
 use Rattle.mc_base.specs.declared.cid.Cid.{Cid}
 use Rattle.mc_keep.specs.Changes.{changed}
@@ -18,6 +18,7 @@ use Rattle.mc_inbox.specs.Waiting.{Waiting}
 use Rattle.mc_plan.specs.Uptakes.{wants}
 use Rattle.mc_plan.specs.Reads.{read_refusal}
 use Rattle.mc_plan.specs.Refusals.{Is}
+use Rattle.mc_plan.specs.declared.error.CoreError.TheVariants.{KeeperFault}
 use Rattle.mc_plan.proofs.CallFacts.{part_call}
 use Rattle.mc_core.proofs.GroupFacts.{made_told, rest_counts, stores_few}
 use Rattle.mc_core.specs.Replica.{running_of}
@@ -38,13 +39,13 @@ carry_group-requires-clause-ready g c =
 
 pub returns-in-Ok-clause-call : goal.returns-in-Ok-clause-call
 returns-in-Ok-clause-call g c =
-    part_call (λ s. Is (read_refusal s)) (λ s. GroupEvents s (items_of c.args.group.slots.items)) _ _ _ _ _ (running_of c.args.self.now) _ (g.K.Keeper.own c.args.self.now.keeper) (g.K.Keeper.own c.args.self.now.keeper) _ (store_events c.stores_of-stores.result ++ Process c.args.plan.process.marks ∷ []) _ _ c.requires.up refl refl (omega arith)
+    part_call (λ s. Is (read_refusal s)) (λ s. GroupEvents s (items_of c.args.group.slots.items)) _ _ _ _ _ (running_of c.args.self.now) _ (g.K.Keeper.own c.args.self.now.keeper) (g.K.Keeper.own c.args.self.now.keeper) (g.K.Keeper.own c.carry_group.new.self.keeper) (store_events c.stores_of-stores.result ++ Process c.args.plan.process.marks ∷ []) (record { processed = length c.as_slice.result.now; known = length c.as_slice-2.result.now - length c.as_slice.result.now }) (Ok (record { processed = length c.as_slice.result.now; known = length c.as_slice-2.result.now - length c.as_slice.result.now })) c.requires.up refl refl (omega arith)
     (made_told _ (g.K.Keeper.fuse c.args.self.now.keeper) (running_of c.args.self.now) c.args.group.slots.items c.args.group.blocks.items c.args.group.cids.items c.args.plan.process.marks _ _ c.requires.group c.stores_of-stores.ensures
     (rest_counts (shown c.args.self.now.queue) c.args.group.slots.items c.args.group.blocks.items c.args.group.cids.items _ _ c.requires.group (ap length c.as_slice.ensures.value) (ap length c.as_slice-2.ensures.value)) c.requires.over (c.requires.only.1 ∙ c.requires.group.blocks_named) c.requires.some) refl tt c.in-Ok.ensures.part
 
 pub returns-clause-call : goal.returns-clause-call
 returns-clause-call g c =
-    part_call (λ s. Is (read_refusal s)) (λ s. GroupEvents s (items_of c.args.group.slots.items)) _ _ _ _ _ (running_of c.args.self.now) _ (g.K.Keeper.own c.args.self.now.keeper) (g.K.Keeper.own c.args.self.now.keeper) _ (store_events c.stores_of-stores.result ++ Process c.args.plan.process.marks ∷ []) _ _ c.requires.up refl refl (omega arith)
+    part_call (λ s. Is (read_refusal s)) (λ s. GroupEvents s (items_of c.args.group.slots.items)) _ _ _ _ _ (running_of c.args.self.now) _ (g.K.Keeper.own c.args.self.now.keeper) (g.K.Keeper.own c.args.self.now.keeper) (g.K.Keeper.own c.carry_group.new.self.keeper) (store_events c.stores_of-stores.result ++ Process c.args.plan.process.marks ∷ []) (record { processed = length c.as_slice.result.now; known = length c.as_slice-2.result.now - length c.as_slice.result.now }) (Err KeeperFault) c.requires.up refl refl (omega arith)
     (made_told _ (g.K.Keeper.fuse c.args.self.now.keeper) (running_of c.args.self.now) c.args.group.slots.items c.args.group.blocks.items c.args.group.cids.items c.args.plan.process.marks _ _ c.requires.group c.stores_of-stores.ensures
     (rest_counts (shown c.args.self.now.queue) c.args.group.slots.items c.args.group.blocks.items c.args.group.cids.items _ _ c.requires.group (ap length c.as_slice.ensures.value) (ap length c.as_slice-2.ensures.value)) c.requires.over (c.requires.only.1 ∙ c.requires.group.blocks_named) c.requires.some) tt refl c.in-Err.ensures.part
 
