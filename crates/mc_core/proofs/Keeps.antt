@@ -16,9 +16,9 @@ use Rattle.mc_core.specs.declared.replica.Replica.{Replica}
 use Rattle.mc_core.specs.Exact.{RestSame}
 use Rattle.mc_core.specs.Words.{ContinuesAt, CommitKeepsAt}
 
--- the walk, the batch, and whether every gap is wanted stay over two calls
+-- the walk, the batch, the inbox, and whether every gap is wanted stay over two calls
 pub rest_more : {K D : Type 0} {g : keeper.Ghosts K D} {h : counted.Ghosts K} {i : counted.Ghosts D} {old mid new : Replica K D g h i} → RestSame old mid → RestSame mid new → RestSame old new
-rest_more before next = record { walk_same = next.walk_same ∙ before.walk_same; batch_same = next.batch_same ∙ before.batch_same; whole_same = next.whole_same ∙ before.whole_same }
+rest_more before next = record { walk_same = next.walk_same ∙ before.walk_same; batch_same = next.batch_same ∙ before.batch_same; whole_same = next.whole_same ∙ before.whole_same; inbox_same = next.inbox_same ∙ before.inbox_same }
 
 module _ {K D : Type 0} {g : keeper.Ghosts K D} {h : counted.Ghosts K} {i : counted.Ghosts D} {told : K → Option Kept} {fuse : K → Option Fuse} {own faults : K → ℕ} {quiet : K → Bool} {schedule : K → Option Schedule} where
   -- the second one is the last
@@ -60,7 +60,7 @@ module _ {K D : Type 0} {g : keeper.Ghosts K D} {h : counted.Ghosts K} {i : coun
   looks_first reads stops rest = record { rest_same = rest; continues = looks_on reads stops }
 
   pub commit_itself : (now : Replica K D g h i) → CommitKeepsAt told fuse own faults quiet schedule false now now
-  commit_itself now = record { rest_same = record { walk_same = refl; batch_same = refl; whole_same = refl }; continues = still_on refl refl refl }
+  commit_itself now = record { rest_same = record { walk_same = refl; batch_same = refl; whole_same = refl; inbox_same = refl }; continues = still_on refl refl refl }
 
 -- a replica that ran, and has stopped where the keeper failed
 pub stops_once : (error : CoreError) (stop stop_new : Bool) → stop ≡ false → stop_new ≡ stops error false → stop_new ≡ (is_fault_kind (kind_of error) || stop)

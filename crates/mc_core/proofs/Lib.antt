@@ -1,5 +1,6 @@
 pub mod AloneFacts
 pub mod AnswerFacts
+pub mod GroupFacts
 pub mod Keeps
 pub mod OpenFacts
 pub use Rattle.mc_plan.proofs.CallFacts

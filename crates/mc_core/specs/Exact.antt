@@ -31,11 +31,19 @@ abbrev pub DecidesAlone : CoreError → Type 0
 DecidesAlone error = is_block_refusal error ≡ false
 
 -- the walk, the batch, and whether every gap is wanted are as before
+pub record RunSame {K D : Type 0} {g : keeper.Ghosts K D} {h : counted.Ghosts K} {i : counted.Ghosts D}
+    (old new : Replica K D g h i) : Type 0 where
+  pub walk_same : new.walk ≡ old.walk
+  pub batch_same : new.batch ≡ old.batch
+  pub whole_same : new.whole ≡ old.whole
+
+-- and so is the inbox
 pub record RestSame {K D : Type 0} {g : keeper.Ghosts K D} {h : counted.Ghosts K} {i : counted.Ghosts D}
     (old new : Replica K D g h i) : Type 0 where
   pub walk_same : new.walk ≡ old.walk
   pub batch_same : new.batch ≡ old.batch
   pub whole_same : new.whole ≡ old.whole
+  pub inbox_same : new.inbox ≡ old.inbox
 
 -- what the keeper tells and its fuse are as before
 pub record StillTellsAt {K D : Type 0} {g : keeper.Ghosts K D} {h : counted.Ghosts K} {i : counted.Ghosts D}

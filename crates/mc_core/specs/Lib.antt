@@ -1,3 +1,4 @@
+pub use Rattle.mc_group.specs.Inboxes
 pub use Rattle.mc_plan.specs.Batches
 pub use Rattle.mc_plan.specs.Calls
 pub use Rattle.mc_plan.specs.Counted
@@ -12,8 +13,10 @@ pub use Rattle.mc_plan.specs.Reads
 pub use Rattle.mc_plan.specs.Refusals
 pub use Rattle.mc_plan.specs.Uptakes
 pub use Rattle.mc_plan.specs.Walks
+pub use Rattle.mc_inbox.specs.Waiting
 pub mod AnswersTo
 pub mod Exact
+pub mod Groups
 pub mod Replica
 pub mod Reports
 pub mod Steps

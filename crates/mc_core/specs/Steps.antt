@@ -17,6 +17,7 @@ pub record StepsAt {K D : Type 0} {g : keeper.Ghosts K D} {h : counted.Ghosts K}
   pub walk_goes : WalkGoes step old.walk new.walk
   pub whole_then : new.whole ≡ is_whole_after step
   pub batch_same : new.batch ≡ old.batch
+  pub inbox_same : new.inbox ≡ old.inbox
   pub wants_more : StepWants step (shown old.queue) (shown new.queue)
   pub told_same : commits_at step old.numbers ≡ false → told new.keeper ≡ told old.keeper
   pub fuse_same : commits_at step old.numbers ≡ false → fuse new.keeper ≡ fuse old.keeper

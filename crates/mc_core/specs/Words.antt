@@ -30,7 +30,7 @@ pub record ContinuesAt {K D : Type 0} {g : keeper.Ghosts K D} {h : counted.Ghost
   pub keeper_goes : GoesAt told fuse own faults quiet schedule failed old.keeper new.keeper
   pub stops : new.stopped ≡ (failed || old.stopped)
 
--- what commits leave besides: the walk, the batch, and whether every gap is wanted
+-- what commits leave besides: the walk, the batch, the inbox, and whether every gap is wanted
 pub record CommitKeepsAt {K D : Type 0} {g : keeper.Ghosts K D} {h : counted.Ghosts K} {i : counted.Ghosts D}
     (told : K → Option Kept) (fuse : K → Option Fuse) (own faults : K → ℕ)
     (quiet : K → Bool) (schedule : K → Option Schedule) (failed : Bool) (old new : Replica K D g h i) : Type 0 where

@@ -33,6 +33,7 @@ impl<K: Keeper> Replica<K> {
         ensures no_fault { is_fault result ≡ false }
         ensures untouched { (self.new.keeper ≡ self.old.keeper) × (self.new.queue ≡ self.old.queue)
             × (self.new.walk ≡ self.old.walk) × (self.new.whole ≡ self.old.whole) }
+        ensures inbox { self.new.inbox ≡ self.old.inbox }
         ensures begun { self.new.batch ≡ batch_once result (Some empty_batch) self.old.batch }
     {
         if self.stopped {
@@ -57,6 +58,7 @@ impl<K: Keeper> Replica<K> {
         ensures no_fault { is_fault result ≡ false }
         ensures untouched { (self.new.keeper ≡ self.old.keeper) × (self.new.queue ≡ self.old.queue)
             × (self.new.walk ≡ self.old.walk) × (self.new.whole ≡ self.old.whole) }
+        ensures inbox { self.new.inbox ≡ self.old.inbox }
         ensures added { self.new.batch
             ≡ batch_once result (option_map (batch_put key.now value.now) self.old.batch) self.old.batch }
     {
@@ -87,6 +89,7 @@ impl<K: Keeper> Replica<K> {
         ensures added { IfErr result (λ error. self.new.batch ≡ self.old.batch) }
         ensures still_open { is_some self.new.batch ≡ is_some self.old.batch }
         ensures whole_same { (self.new.walk ≡ self.old.walk) × (self.new.whole ≡ self.old.whole) }
+        ensures inbox { self.new.inbox ≡ self.old.inbox }
     {
         kept_is_durable();
         if self.stopped {
@@ -120,6 +123,7 @@ impl<K: Keeper> Replica<K> {
         ensures empty { IfOk result (λ written. IfSome self.old.batch (λ batch.
             is_some written ≡ not (is_empty_batch batch))) }
         ensures whole_same { (self.new.walk ≡ self.old.walk) × (self.new.whole ≡ self.old.whole) }
+        ensures inbox { self.new.inbox ≡ self.old.inbox }
         ensures made { IfOk result (λ written. Becomes K.Keeper (λ rose. AddsBatch written) self.old self.new) }
     {
         kept_is_durable();
@@ -159,6 +163,7 @@ impl<K: Keeper> Replica<K> {
         ensures only { IfErr result (λ error. error ≡ Refused.KeeperFault) }
         ensures closed { self.new.batch ≡ batch_once result None self.old.batch }
         ensures whole_same { (self.new.walk ≡ self.old.walk) × (self.new.whole ≡ self.old.whole) }
+        ensures inbox { self.new.inbox ≡ self.old.inbox }
         ensures keeps { Continues K.Keeper (is_fault result) self.old self.new }
     {
         match self.take_up(planned) {

@@ -8,7 +8,9 @@ mod commits;
 mod deletes;
 mod deliveries;
 mod desks;
+mod groups;
 mod hears;
+mod inboxes;
 mod jobs;
 mod reads;
 mod replica;
@@ -16,6 +18,7 @@ mod report;
 mod walks;
 mod writes;
 
+pub use mc_group::{Grouped, calls_on_an_inbox_drain};
 pub use mc_plan::{
     CoreError, Deleted, Heard, Settled, WalkStep, Written, calls_on_jobs_drain,
     clean_replicas_are_reached, replicas_only_grow, written_blocks_stand,

@@ -1,10 +1,11 @@
 // One replica.
-ghost use Rattle.std.specs.Prelude.{◌≡◌, true, false, None, IfOk, IfErr};
+ghost use Rattle.std.specs.Prelude.{◌≡◌, [], true, false, None, IfOk, IfErr};
 ghost use Rattle.mc_plan.specs.Counted.{is_counted, AreSound};
 ghost use Rattle.mc_model.specs.State.{HasSoundMark, IsSound};
 ghost use Rattle.mc_queue.specs.Views.{shown};
 
 use mc_base::Failed;
+use mc_inbox::Inbox;
 use mc_keep::Keeper;
 use mc_model::kept_is_durable;
 use mc_plan::{Numbers, is_sound, numbers_of};
@@ -14,7 +15,7 @@ use mc_write::Batch;
 use std::alloc::Global;
 
 /// One replica over its keeper: the stored blocks, the order of the processed ones and the dirty mark are the keeper's;
-/// what is lost at a stop is the replica's. What it does is a list of events of the replica; where the keeper fails,
+/// what is lost at a stop is the replica's, among it an inbox of verified blocks, which no event sees. What it does is a list of events of the replica; where the keeper fails,
 /// these are cut short, and the replica has stopped. Where it has not, its numbers are those of what its keeper tells.
 /// What its keeper tells and what would be lost at a stop are sound together.
 #[derive(Drop)]
@@ -23,6 +24,7 @@ pub struct Replica<K: Keeper> {
     pub(crate) numbers: Numbers,
     pub(crate) queue: Queue,
     pub(crate) walk: Option<Walk>,
+    pub(crate) inbox: Inbox,
     pub(crate) batch: Option<Batch>,
     pub(crate) whole: bool,
     pub(crate) stopped: bool,
@@ -65,6 +67,7 @@ impl<K: Keeper> Replica<K> {
         ensures reads { IfOk result (λ replica. Reads K.Keeper false keeper replica.keeper) }
         ensures runs { IfOk result (λ replica. (replica.stopped ≡ false) × (replica.batch ≡ None)) }
         ensures fresh { IfOk result (λ replica. (shown replica.queue ≡ no_queue) × (replica.walk ≡ None)) }
+        ensures inbox { IfOk result (λ replica. replica.inbox.items ≡ []) }
         ensures refused { IfErr result (λ error.
             (error.cause ≡ OpenCause.KeeperFault) × Reads K.Keeper true keeper error.keeper) }
     {
@@ -77,6 +80,7 @@ impl<K: Keeper> Replica<K> {
                 numbers: numbers_of(summary),
                 queue: Queue::new(alloc),
                 walk: None,
+                inbox: Inbox::new(alloc),
                 batch: None,
                 whole: !summary.mark,
                 stopped: false,

@@ -161,7 +161,7 @@ module _ {K D : Type 0} {g : keeper.Ghosts K D} {h : counted.Ghosts K} {i : coun
       → ((q : Queue) → Wants now.stopped q q) → Serves false At Call Wants (items_at told fuse own faults quiet schedule first) (items_at told fuse own faults quiet schedule log)
   serves_nothing At Call Wants limit now first log t is at call wants =
       serves_by At Call Wants limit false now now first log log t is t at (told_itself (Call (Rose (own now.keeper) (own now.keeper))) call (replica_state told fuse now)) (still_on refl refl refl)
-      (record { walk_same = refl; batch_same = refl; whole_same = refl }) (wants (shown_queue now.queue)) refl
+      (record { walk_same = refl; batch_same = refl; whole_same = refl; inbox_same = refl }) (wants (shown_queue now.queue)) refl
 
   -- one that the replica was called in
   pub job_serves : {T : Type 0} (Events : ReplicaState → List Event → T → Type 0) (Spends Short Left : ReplicaState → ReplicaState → Type 0) → ((s new : ReplicaState) → Short s new → Left s new) → (Wants : Result T ShopError → Bool → Queue → Queue → Type 0) (limit : Bounds) (cap n : ℕ) (old new : Replica K D g h i)

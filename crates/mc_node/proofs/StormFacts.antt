@@ -187,7 +187,7 @@ module _ {K D : Type 0} {g : keeper.Ghosts K D} {h : counted.Ghosts K} {i : coun
   storm_stays count writes replica left same = subst (Leaves count writes (Err storm.Memory) replica) (sym same) (record {
     leads = pauses_none count writes (replica_state told fuse replica);
     keeps = continues_itself replica;
-    rest = record { walk_same = refl; batch_same = refl; whole_same = refl };
+    rest = record { walk_same = refl; batch_same = refl; whole_same = refl; inbox_same = refl };
     unstopped = λ e. unstopped false None e;
   })
 

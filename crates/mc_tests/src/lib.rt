@@ -22,6 +22,8 @@ mod given;
 #[cfg(test)]
 mod hand_made;
 #[cfg(test)]
+mod inboxes;
+#[cfg(test)]
 mod library;
 #[cfg(test)]
 mod lists;

@@ -16,7 +16,7 @@ loop-init g c = record {
   runs = c.requires.runs;
   none = c.requires.flight;
   keeps = still_on refl refl refl;
-  rest = record { walk_same = refl; batch_same = refl; whole_same = refl };
+  rest = record { walk_same = refl; batch_same = refl; whole_same = refl; inbox_same = refl };
   asked = asks_none g.met.F.Fetch.follows_itself _;
   leads = itself_told c.order_and_store_grow.ensures c.found_drains_go_on.ensures.goes c.parts_stay_right.ensures.stay (up_to c.args.limit) (Fetched (found_by (g.F.Fetch.offers c.args.fetch.now))) _ (λ s. omega arith);
 }

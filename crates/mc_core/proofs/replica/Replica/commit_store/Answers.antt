@@ -22,7 +22,7 @@ returns-in-Err-clause-part g c =
     c.requires.only.0 c.requires.only.1 c.in-Err.ensures.failed
 
 pub returns-in-Ok-clause-keeps : goal.returns-in-Ok-clause-keeps
-returns-in-Ok-clause-keeps g c = commits_on _ _ _ c.in-Ok.ensures.commits c.in-Ok.ensures.planned refl (record { walk_same = refl; batch_same = refl; whole_same = refl })
+returns-in-Ok-clause-keeps g c = commits_on _ _ _ c.in-Ok.ensures.commits c.in-Ok.ensures.planned refl (record { walk_same = refl; batch_same = refl; whole_same = refl; inbox_same = refl })
 
 pub invariant_of-self-clause-counted : goal.invariant_of-self-clause-counted
 invariant_of-self-clause-counted g c =

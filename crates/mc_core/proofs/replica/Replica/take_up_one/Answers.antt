@@ -10,14 +10,14 @@ returns-in-Err-carry_out-clause-takes g c =
     one_failed c.kept_is_durable.ensures.back _ _ _ _ _ _ _ c.args.made c.in-Ok.uptake _ _ _ c.in-Ok.ensures.reads.told_same c.in-Ok.ensures.reads.fuse_same c.in-Ok.ensures.reads.own_goes.later c.in-Ok.ensures.uptake c.in-Err-carry_out.ensures.part
 
 pub returns-in-Ok-carry_out-clause-keeps : goal.returns-in-Ok-carry_out-clause-keeps
-returns-in-Ok-carry_out-clause-keeps g c = commit_more (looks_first c.in-Ok.ensures.reads refl (record { walk_same = refl; batch_same = refl; whole_same = refl })) c.in-Ok-carry_out.ensures.keeps
+returns-in-Ok-carry_out-clause-keeps g c = commit_more (looks_first c.in-Ok.ensures.reads refl (record { walk_same = refl; batch_same = refl; whole_same = refl; inbox_same = refl })) c.in-Ok-carry_out.ensures.keeps
 
 pub returns-in-Err-carry_out-clause-keeps : goal.returns-in-Err-carry_out-clause-keeps
-returns-in-Err-carry_out-clause-keeps g c = commit_more (looks_first c.in-Ok.ensures.reads refl (record { walk_same = refl; batch_same = refl; whole_same = refl })) c.in-Err-carry_out.ensures.keeps
+returns-in-Err-carry_out-clause-keeps g c = commit_more (looks_first c.in-Ok.ensures.reads refl (record { walk_same = refl; batch_same = refl; whole_same = refl; inbox_same = refl })) c.in-Err-carry_out.ensures.keeps
 
 pub returns-in-Err-clause-keeps : goal.returns-in-Err-clause-keeps
 returns-in-Err-clause-keeps g c = record {
-  rest_same = record { walk_same = refl; batch_same = refl; whole_same = refl };
+  rest_same = record { walk_same = refl; batch_same = refl; whole_same = refl; inbox_same = refl };
   continues = looks_on c.in-Err.ensures.reads (stops_once _ _ _ c.requires.up c.stops-self.ensures);
 }
 

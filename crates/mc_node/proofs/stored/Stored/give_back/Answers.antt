@@ -26,7 +26,7 @@ returns-then-is_stopped-clause-wants g c = back_wants c.args.job.cid _ _ _ (λ e
 pub returns-then-is_stopped-clause-does : goal.returns-then-is_stopped-clause-does
 returns-then-is_stopped-clause-does g c =
     serves_by g.K.Keeper.told g.K.Keeper.fuse g.K.Keeper.own g.K.Counted.faults g.K.Keeper.quiet g.K.Keeper.schedule (λ now. ⊤) (λ rose. GivesBack c.args.job.cid) (BackWants c.args.job.cid) _ _ c.args.self.now.replica c.args.self.now.replica c.args.self.now.log.items c.args.self.now.log.items c.args.self.now.log.items
-    c.args.self.now.tied refl c.args.self.now.tied tt (stopped_back c.args.job.cid _ _ _ _ (sym c.is_stopped.ensures ∙ c.if-is_stopped.true)) (still_on refl refl refl) (record { walk_same = refl; batch_same = refl; whole_same = refl })
+    c.args.self.now.tied refl c.args.self.now.tied tt (stopped_back c.args.job.cid _ _ _ _ (sym c.is_stopped.ensures ∙ c.if-is_stopped.true)) (still_on refl refl refl) (record { walk_same = refl; batch_same = refl; whole_same = refl; inbox_same = refl })
     (back_wants c.args.job.cid _ _ _ (λ e. refl) (λ e. absurd (false≢true (sym e ∙ sym c.is_stopped.ensures ∙ c.if-is_stopped.true)))) refl
 
 pub returns-clause-wants : goal.returns-clause-wants

@@ -1,0 +1,43 @@
+use Rattle.std.proofs.Common.{[], ◌∷◌, refl}
+use Rattle.mc_base.specs.Causes.{Rose}
+use Rattle.mc_model.specs.Events.{Process}
+use Rattle.mc_group.proofs.CommitFacts.{group_counts, group_done, group_failed}
+use Rattle.mc_plan.proofs.CountFacts.{counted_after}
+use Rattle.mc_core.proofs.Keeps.{commits_on}
+use Rattle.mc_plan.proofs.SoundFacts.{breaks_told, goes_told}
+use Rattle.mc_core.proofs.GroupFacts.{ready_fit}
+use Rattle.mc_core.specs.Replica.{running_of}
+use Rattle.mc_core.proofs.replica.Replica.process_group.Goals as goal
+
+pub returns-in-Ok-clause-part : goal.returns-in-Ok-clause-part
+returns-in-Ok-clause-part g c =
+    group_done c.commits_are_events.ensures.process _ _ _ _ _ (running_of c.args.self.now) c.args.process c.args.cids.now c.args.links.now c.args.gaps c.requires.up c.in-Ok.ensures.commits.fuse_burnt c.is_sound.ensures c.requires.ready c.requires.only.0 c.requires.only.1 c.requires.some
+    _ c.in-Ok.ensures.lasts (rw (c.done_all.ensures.queue) at c.want_links.ensures.queue) c.in-Ok.ensures.done
+
+pub returns-in-Err-clause-part : goal.returns-in-Err-clause-part
+returns-in-Err-clause-part g c =
+    group_failed c.commits_are_events.ensures.process _ _ _ _ _ (running_of c.args.self.now) c.args.process c.args.cids.now c.args.links.now c.args.gaps c.requires.up c.in-Err.ensures.commits.fuse_burnt c.is_sound.ensures c.requires.ready c.requires.only.0 c.requires.only.1 c.requires.some
+    _ c.in-Err.ensures.failed
+
+pub returns-in-Ok-clause-keeps : goal.returns-in-Ok-clause-keeps
+returns-in-Ok-clause-keeps g c = commits_on _ _ _ c.in-Ok.ensures.commits c.in-Ok.ensures.planned refl (record { walk_same = refl; batch_same = refl; whole_same = refl; inbox_same = refl })
+
+pub invariant_of-self-clause-counted : goal.invariant_of-self-clause-counted
+invariant_of-self-clause-counted g c =
+    counted_after _ _ _ c.args.process _ _ _ c.requires.up c.args.self.now.counted c.in-Ok.ensures.commits.silent c.in-Ok.ensures.done c.numbers_after-numbers.ensures
+    (group_counts _ _ c.args.process c.args.self.now.numbers c.args.cids.now c.args.links.now c.args.gaps c.requires.some c.requires.ready)
+
+pub invariant_of-self-clause-sound : goal.invariant_of-self-clause-sound
+invariant_of-self-clause-sound g c =
+    goes_told (Process c.args.process.marks ∷ []) _ _ (g.K.Keeper.fuse c.args.self.now.keeper) _ _ _ (running_of c.args.self.now) _ c.in-Ok.ensures.commits.silent
+    (group_done c.commits_are_events.ensures.process _ _ (g.K.Keeper.fuse c.args.self.now.keeper) _ _ (running_of c.args.self.now) c.args.process c.args.cids.now c.args.links.now c.args.gaps c.requires.up c.in-Ok.ensures.commits.fuse_burnt c.is_sound.ensures c.requires.ready c.requires.only.0 c.requires.only.1 c.requires.some
+    _ c.in-Ok.ensures.lasts (rw (c.done_all.ensures.queue) at c.want_links.ensures.queue) c.in-Ok.ensures.done) c.args.self.now.sound
+
+pub invariant_of-self-in-Err-clause-sound : goal.invariant_of-self-in-Err-clause-sound
+invariant_of-self-in-Err-clause-sound g c =
+    breaks_told (Process c.args.process.marks ∷ []) (Rose (g.K.Keeper.own c.args.self.now.keeper) (g.K.Keeper.own c.commit.new.self)) _ _ (g.K.Keeper.fuse c.args.self.now.keeper) _ _ _ (running_of c.args.self.now) _ c.in-Err.ensures.commits.silent
+    (group_failed c.commits_are_events.ensures.process _ _ (g.K.Keeper.fuse c.args.self.now.keeper) _ _ (running_of c.args.self.now) c.args.process c.args.cids.now c.args.links.now c.args.gaps c.requires.up c.in-Err.ensures.commits.fuse_burnt c.is_sound.ensures c.requires.ready c.requires.only.0 c.requires.only.1 c.requires.some
+    (Rose (g.K.Keeper.own c.args.self.now.keeper) (g.K.Keeper.own c.commit.new.self)) c.in-Err.ensures.failed) c.args.self.now.sound
+
+pub commit-requires-clause-fits : goal.commit-requires-clause-fits
+commit-requires-clause-fits g c = ready_fit _ _ c.args.process c.args.cids.now c.args.links.now c.args.gaps c.requires.some c.requires.ready

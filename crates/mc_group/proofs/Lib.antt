@@ -1,0 +1,7 @@
+pub mod CommitFacts
+pub mod DrainFacts
+pub mod GiveFacts
+pub mod MakeFacts
+pub mod ReadyFacts
+pub mod SlotFacts
+pub mod WithoutFacts

@@ -1,0 +1,3 @@
+pub mod InboxFacts
+pub mod GroupFacts
+pub mod OfferedFacts
