@@ -7,6 +7,7 @@ ghost use Rattle.mc_model.specs.Draining.{bytes_in, delivery};
 ghost use Rattle.mc_model.specs.Graph.{has};
 ghost use Rattle.mc_model.specs.Wanted.{give_back, recall, requeue};
 ghost use Rattle.mc_queue.specs.Views.{shown};
+ghost use Rattle.mc_core.specs.AnswersTo.{IsAnswerTo};
 ghost use Rattle.mc_core.specs.Exact.{RestSame};
 ghost use Rattle.mc_core.specs.Jobs.{DeliverEvents, DeliverShort, NextEvents, NextShort, WantsAfter, found_in};
 ghost use Rattle.mc_core.specs.Jobs.{is_known, tried_first};
@@ -89,6 +90,7 @@ pub fn deliver_job<K: Keeper>(
         WantsAfter delivered (shown replica.old.queue) (shown replica.new.queue) job.cid) }
     ensures known { IfOk result (λ delivered.
         is_known delivered ≡ not (has job.cid (shown replica.old.queue).flight)) }
+    ensures answers { IfOk result (IsAnswerTo job.cid (found_in found)) }
     ensures stuck { IfSome (replica_state K.told K.fuse replica.old) (λ s. IfOk result (λ delivered.
         IsNoBlock job.cid (found_in found) → (shown replica.new.queue).waiting ≡ (shown replica.old.queue).waiting)) }
 {

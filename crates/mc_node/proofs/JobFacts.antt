@@ -1,5 +1,5 @@
 -- A worker's call of a sealed node, from its beginning to its end.
-use Rattle.std.proofs.Common.{◌≡◌, ◌<◌, ◌≤◌, ◌^◌, ◌+◌, ℕ, Bool, true, false, List, [], ◌∷◌, length, Option, Some, None, Result, Ok, Err, refl, sym, ap, ◌∙◌, subst}
+use Rattle.std.proofs.Common.{◌≡◌, ◌<◌, ◌≤◌, ◌^◌, ◌+◌, ℕ, Bool, true, false, List, [], ◌∷◌, ◌++◌, length, Option, Some, None, Result, Ok, Err, refl, sym, ap, ◌∙◌, subst}
 use Rattle.std.specs.Prelude.{⊤, IfOk, IfSome}
 use Rattle.std.proofs.lemmas.Bool.{false≢true}
 use Rattle.mc_base.specs.Told.{Told}
@@ -9,6 +9,8 @@ use Rattle.mc_base.specs.declared.counted.Counted as counted
 use Rattle.mc_fetch.specs.Fits.{FoundHas, Map, NextFits, OwnFits}
 use Rattle.mc_worker.specs.Lookups.{FoundFits}
 use Rattle.mc_fetch.specs.Offers.{HasDigest}
+use Rattle.mc_fetch.specs.declared.job.Delivered.{Delivered}
+use Rattle.mc_fetch.specs.declared.job.Delivered.TheVariants.{Processed, Missing as Lost, Bad, Known}
 use Rattle.mc_fetch.specs.declared.job.Job.{Job}
 use Rattle.mc_fetch.specs.declared.job.Found.{Found}
 use Rattle.mc_fetch.specs.declared.job.Found.TheVariants.{Bytes, Missing}
@@ -17,6 +19,7 @@ use Rattle.mc_keep.specs.declared.keeper.Keeper as keeper
 use Rattle.mc_keep.specs.Plan.{Schedule}
 use Rattle.mc_model.specs.Draining.{bytes_in, delivery}
 use Rattle.mc_model.specs.Kept.{Kept, IsKept}
+use Rattle.mc_core.specs.AnswersTo.{IsAnswerTo}
 use Rattle.mc_core.specs.Counted.{capped, run_of}
 use Rattle.mc_core.specs.Events.{ReplicaState, state_of}
 use Rattle.mc_core.specs.Exact.{RestSame}
@@ -27,17 +30,20 @@ use Rattle.mc_core.specs.declared.replica.Replica.{Replica}
 use Rattle.mc_drain.specs.declared.end.DrainEnd.{DrainEnd}
 use Rattle.mc_drain.specs.declared.end.DrainEnd.TheVariants as drain
 use Rattle.mc_drain.specs.Leads.{Always, Leads, LeadsBy, all_processes, count}
-use Rattle.mc_drain.specs.Words.{Begins, FoundFor, TakenFor}
+use Rattle.mc_drain.specs.Words.{Begins, FoundFor, TakenFor, begin_failed}
 use Rattle.mc_model.specs.Wanted.{Queue}
 use Rattle.mc_drain.proofs.CallFacts.{own_fits, told_with}
 use Rattle.mc_drain.proofs.TurnFacts.{at_state, room_told}
 use Rattle.mc_worker.specs.declared.ends.ShopError.{ShopError}
 use Rattle.mc_worker.specs.declared.ends.ShopError.TheVariants as shop
 use Rattle.mc_node.specs.declared.entry.Entry.{Entry}
+use Rattle.mc_worker.specs.declared.handover.Handover.{Handover}
 use Rattle.mc_node.specs.declared.note.Note.{Note}
+use Rattle.mc_node.specs.declared.note.Note.TheVariants.{Fetched}
 use Rattle.mc_node.specs.Entries.{AddsEntry, is_sealed_log, items_at, shown_at}
 use Rattle.mc_node.specs.Items.{Item, is_sealed, root, state_in}
-use Rattle.mc_node.specs.Jobs.{KeepsLimit, StopsWhere, halt_if, shop_answer, shop_error}
+use Rattle.mc_node.specs.Handovers.{AddsFetched, IfCommitted, IfQueued, is_of_fetched}
+use Rattle.mc_node.specs.Jobs.{KeepsLimit, StopsWhere, hand_over, has_processed, note_if, shop_answer, shop_error}
 use Rattle.mc_node.specs.Moves.{Adds, KeepsRun}
 use Rattle.mc_node.specs.Ties.{Goes, IsTied}
 use Rattle.mc_node.specs.Works.{Bounds, IsUnder}
@@ -45,7 +51,7 @@ use Rattle.mc_node.proofs.CallFacts.{BackLaw, adds_items, longer_grown, noted_ha
 use Rattle.mc_node.proofs.FrameFacts.{shown_goes}
 use Rattle.mc_node.proofs.TieFacts.{IsLonger, told_state}
 use Rattle.mc_node.proofs.WorkFacts.{Step, deliver_step, still_step}
-use Rattle.mc_node.proofs.WorkTies.{tied_worked, value_of}
+use Rattle.mc_node.proofs.WorkTies.{tied_fetched, tied_worked, value_of}
 
 -- what the calls that process nothing lead to
 pub still_told : (limit : Bounds) (failed : Bool) (a b : Option ReplicaState) → Told a b (λ s new. Leads failed (count s) Always s new) → Told a b (Step limit failed)
@@ -75,13 +81,13 @@ module _ {K D : Type 0} {g : keeper.Ghosts K D} {h : counted.Ghosts K} {i : coun
       of_log (entry ∷ log) e = e
 
   -- the log stays tied
-  pub job_ends : (back : BackLaw) (limit : Bounds) (old new : Replica K D g h i) (first log log' : List (Entry K D g h i)) (entry : Option Note) (failed : Bool)
+  pub job_ends : (back : BackLaw) (limit : Bounds) (old new : Replica K D g h i) (first log log' : List (Entry K D g h i)) (entry : Option Note) (failed fetched : Bool)
       → IsTied limit (shown_at told fuse own faults quiet schedule old) (items_at told fuse own faults quiet schedule log) → log ≡ first → is_sealed_log first ≡ true → old.stopped ≡ false → IfSome (told old.keeper) IsKept
-      → ContinuesAt told fuse own faults quiet schedule failed old new → RestSame old new → Told (replica_state told fuse old) (replica_state told fuse new) (Step limit failed) → entry ≡ halt_if failed → AddsEntry entry new log log'
+      → ContinuesAt told fuse own faults quiet schedule failed old new → RestSame old new → Told (replica_state told fuse old) (replica_state told fuse new) (Step limit failed) → entry ≡ note_if failed fetched → AddsEntry entry new log log'
       → IsTied limit (shown_at told fuse own faults quiet schedule new) (items_at told fuse own faults quiet schedule log')
-  job_ends back limit old new first log log' entry failed tied is sealed runs sound continues rest step noted adds =
-      over failed (shown_goes told fuse own faults quiet schedule failed old new continues) step
-      (adds_items told fuse own faults quiet schedule (halt_if failed) new log log log' refl (subst (λ (n : Option Note). AddsEntry n new log log') noted adds))
+  job_ends back limit old new first log log' entry failed fetched tied is sealed runs sound continues rest step noted adds =
+      over failed fetched (shown_goes told fuse own faults quiet schedule failed old new continues) step
+      (adds_items told fuse own faults quiet schedule (note_if failed fetched) new log log log' refl (subst (λ (n : Option Note). AddsEntry n new log log') noted adds))
     where
       keeps : KeepsRun (shown_at told fuse own faults quiet schedule old) (shown_at told fuse own faults quiet schedule new)
       keeps = record { batch = rest.batch_same; walk = rest.walk_same; whole = rest.whole_same }
@@ -89,12 +95,17 @@ module _ {K D : Type 0} {g : keeper.Ghosts K D} {h : counted.Ghosts K} {i : coun
       longer : (b : Bool) → Told (replica_state told fuse old) (replica_state told fuse new) (Step limit b) → IsLonger (shown_at told fuse own faults quiet schedule old) (shown_at told fuse own faults quiet schedule new)
       longer b step = longer_grown back (told old.keeper) (told new.keeper) (fuse old.keeper) (fuse new.keeper) _ _ sound (told_weaker (Step limit b) _ (λ s new s1. s1.leads.grows) (replica_state told fuse old) (replica_state told fuse new) step)
 
-      over : (b : Bool) → Goes b (shown_at told fuse own faults quiet schedule old) (shown_at told fuse own faults quiet schedule new) → Told (replica_state told fuse old) (replica_state told fuse new) (Step limit b)
-          → Adds (halt_if b) (shown_at told fuse own faults quiet schedule new) (items_at told fuse own faults quiet schedule log) (items_at told fuse own faults quiet schedule log')
+      worked : Goes false (shown_at told fuse own faults quiet schedule old) (shown_at told fuse own faults quiet schedule new) → Told (replica_state told fuse old) (replica_state told fuse new) (Step limit false)
+          → IsTied limit (shown_at told fuse own faults quiet schedule new) (items_at told fuse own faults quiet schedule log)
+      worked goes step = tied_worked limit (items_at told fuse own faults quiet schedule log) (shown_at told fuse own faults quiet schedule old) (shown_at told fuse own faults quiet schedule new) tied (sealed_items log first is sealed) runs goes keeps (longer false step) step
+
+      over : (b f : Bool) → Goes b (shown_at told fuse own faults quiet schedule old) (shown_at told fuse own faults quiet schedule new) → Told (replica_state told fuse old) (replica_state told fuse new) (Step limit b)
+          → Adds (note_if b f) (shown_at told fuse own faults quiet schedule new) (items_at told fuse own faults quiet schedule log) (items_at told fuse own faults quiet schedule log')
           → IsTied limit (shown_at told fuse own faults quiet schedule new) (items_at told fuse own faults quiet schedule log')
-      over false goes step adds = subst (IsTied limit (shown_at told fuse own faults quiet schedule new)) (sym adds)
-          (tied_worked limit (items_at told fuse own faults quiet schedule log) (shown_at told fuse own faults quiet schedule old) (shown_at told fuse own faults quiet schedule new) tied (sealed_items log first is sealed) runs goes keeps (longer false step) step)
-      over true goes step adds = subst (IsTied limit (shown_at told fuse own faults quiet schedule new)) (sym adds)
+      over false false goes step adds = subst (IsTied limit (shown_at told fuse own faults quiet schedule new)) (sym adds) (worked goes step)
+      over false true goes step adds = subst (IsTied limit (shown_at told fuse own faults quiet schedule new)) (sym adds)
+          (tied_fetched limit (items_at told fuse own faults quiet schedule log) (shown_at told fuse own faults quiet schedule new) (worked goes step) (goes.stops ∙ runs))
+      over true f goes step adds = subst (IsTied limit (shown_at told fuse own faults quiet schedule new)) (sym adds)
           (noted_halt limit (shown_at told fuse own faults quiet schedule old) (shown_at told fuse own faults quiet schedule new) (items_at told fuse own faults quiet schedule log)
           (record { tied = tied; runs = runs; goes = goes; keeps = keeps; longer = longer true step; leads = λ s f. step }))
 
@@ -104,7 +115,7 @@ module _ {K D : Type 0} {g : keeper.Ghosts K D} {h : counted.Ghosts K} {i : coun
       → ContinuesAt told fuse own faults quiet schedule false old new → RestSame old new → Told (replica_state told fuse old) (replica_state told fuse new) (λ s new. Leads false (count s) Always s new) → log' ≡ log
       → IsTied limit (shown_at told fuse own faults quiet schedule new) (items_at told fuse own faults quiet schedule log')
   job_back back limit old new log log' tied sealed runs sound continues rest leads same =
-      job_ends back limit old new log log log' None false tied refl sealed runs sound continues rest (still_told limit false (replica_state told fuse old) (replica_state told fuse new) leads) refl same
+      job_ends back limit old new log log log' None false false tied refl sealed runs sound continues rest (still_told limit false (replica_state told fuse old) (replica_state told fuse new) leads) refl same
 
   -- a job's own bytes fit
   next_fits : (limit : Bounds) (old : Replica K D g h i) (log : List Item) → IsTied limit (shown_at told fuse own faults quiet schedule old) log → is_sealed log ≡ true → old.stopped ≡ false → (job : Job) → IfSome job.own (HasDigest job.cid)
@@ -211,3 +222,44 @@ unspent {T} result answer is e = over result (sym is ∙ e)
     over : (result : Result T DrainEnd) → shop_answer result ≡ Err shop.Spent → ⊥
     over (Ok value) e = false≢true (ap spent_in e)
     over (Err end) e = false≢true (sym (failed end) ∙ ap spent_in e)
+
+-- what is committed where the replica answers this adds the entries of its blocks, and nothing is queued
+pub processed_alike : (result : Result Delivered DrainEnd) → has_processed result ≡ has_processed (shop_answer result)
+processed_alike (Ok delivered) = refl
+processed_alike (Err end) = refl
+
+pub handed_queued : (result : Result Delivered DrainEnd) (answer : Result Delivered ShopError) (hand : Result Handover ShopError) → answer ≡ shop_answer result → hand ≡ hand_over answer → IfQueued hand (λ word. ⊥)
+handed_queued result answer hand is by = subst (λ (h : Result Handover ShopError). IfQueued h (λ word. ⊥)) (sym (by ∙ ap hand_over is)) (over result)
+  where
+    over : (result : Result Delivered DrainEnd) → IfQueued (hand_over (shop_answer result)) (λ word. ⊥)
+    over (Ok (Processed position)) = tt
+    over (Ok Lost) = tt
+    over (Ok (Bad damage)) = tt
+    over (Ok Known) = tt
+    over (Err end) = tt
+
+-- what the answer says of what was found
+pub handed_says : (cid : Cid) (found : Option (List ℕ)) (result : Result Delivered DrainEnd) (answer : Result Delivered ShopError) → answer ≡ shop_answer result → IfOk result (IsAnswerTo cid found) → IfOk answer (IsAnswerTo cid found)
+handed_says cid found result answer is says = subst (λ (a : Result Delivered ShopError). IfOk a (IsAnswerTo cid found)) (sym is) (over result says)
+  where
+    over : (result : Result Delivered DrainEnd) → IfOk result (IsAnswerTo cid found) → IfOk (shop_answer result) (IsAnswerTo cid found)
+    over (Ok delivered) s = s
+    over (Err end) s = tt
+
+module _ {K D : Type 0} {g : keeper.Ghosts K D} {h : counted.Ghosts K} {i : counted.Ghosts D} where
+  pub handed_adds : (result : Result Delivered DrainEnd) (answer : Result Delivered ShopError) (hand : Result Handover ShopError) (entry : Option Note) (replica : Replica K D g h i) (old mid new : List (Entry K D g h i))
+      → answer ≡ shop_answer result → hand ≡ hand_over answer → entry ≡ note_if (begin_failed result) (has_processed result) → mid ≡ old → AddsEntry entry replica mid new → IfCommitted hand (AddsFetched is_of_fetched old new)
+  handed_adds result answer hand entry replica old mid new is by noted m adds =
+      subst (λ (h : Result Handover ShopError). IfCommitted h (AddsFetched is_of_fetched old new)) (sym (by ∙ ap hand_over is)) (over result (subst (λ (n : Option Note). AddsEntry n replica mid new) noted adds))
+    where
+      over : (result : Result Delivered DrainEnd) → AddsEntry (note_if (begin_failed result) (has_processed result)) replica mid new → IfCommitted (hand_over (shop_answer result)) (AddsFetched is_of_fetched old new)
+      over (Ok (Processed position)) (about, shows, e) = record {
+        entries = record { note = Fetched; replica = about } ∷ [];
+        whole = e ∙ ap (λ (l : List (Entry K D g h i)). l ++ record { note = Fetched; replica = about } ∷ []) m;
+        many = refl;
+        kinds = refl;
+      }
+      over (Ok Lost) a = tt
+      over (Ok (Bad damage)) a = tt
+      over (Ok Known) a = tt
+      over (Err end) a = tt

@@ -36,7 +36,7 @@ use Rattle.mc_core.specs.Words.{ContinuesAt}
 use Rattle.mc_core.proofs.GrowthFacts.{same_goes}
 use Rattle.mc_node.specs.declared.entry.Entry.{Entry}
 use Rattle.mc_node.specs.declared.note.Note.{Note}
-use Rattle.mc_node.specs.declared.note.Note.TheVariants.{Root, Made, Heard, Walked, Cleared, Halted}
+use Rattle.mc_node.specs.declared.note.Note.TheVariants.{Root, Made, Heard, Fetched, Walked, Cleared, Halted}
 use Rattle.mc_node.specs.Entries.{AddsEntry, is_open, items_at, shown_at}
 use Rattle.mc_node.specs.Items.{is_sealed, is_sealing, is_unsealed, last}
 use Rattle.mc_node.specs.Moves.{DeleteAdds, Does, NoMore, PutAdds, SeenOver, note_of, seen_by}
@@ -64,6 +64,7 @@ module _ {K D : Type 0} {g : keeper.Ghosts K D} {h : counted.Ghosts K} {i : coun
         of_note (Root false) o = refl
         of_note Made o = refl
         of_note Heard o = refl
+        of_note Fetched o = refl
         of_note Walked o = refl
         of_note Cleared o = refl
         of_note Halted o = refl

@@ -1,15 +1,20 @@
 -- What a seat knows after a call.
-use Rattle.std.proofs.Common.{◌≡◌, ℕ, Bool, true, List, [], ◌∷◌, refl, sym, ap, ◌∙◌, subst, Option, Some, append-nil}
+use Rattle.std.proofs.Common.{◌≡◌, ℕ, ◌-◌, Bool, true, List, [], ◌∷◌, ◌++◌, length, refl, sym, ap, ◌∙◌, subst, Option, Some, append-nil, arith, length-append}
+use Rattle.std.specs.Prelude.{Result, Ok, Err}
 use Rattle.std.proofs.lemmas.Bool.{false≢true}
 use Rattle.mc_base.specs.declared.counted.Counted as counted
 use Rattle.mc_keep.specs.declared.keeper.Keeper as keeper
 use Rattle.mc_turn.specs.declared.view.View.{View}
-use Rattle.mc_turn.specs.Lists.{Begins}
+use Rattle.mc_turn.specs.Lists.{Begins, places}
 use Rattle.mc_turn.proofs.Lists.{begins_trans}
 use Rattle.mc_turn.specs.Views.{Extends, held_view, given_view, IsTaken}
+use Rattle.mc_worker.specs.declared.ends.ShopError.{ShopError}
+use Rattle.mc_worker.specs.declared.handover.Handover.{Handover}
+use Rattle.mc_worker.specs.declared.handover.Handover.TheVariants.{Delivered as NoBlock, Queued, Committed}
 use Rattle.mc_node.specs.declared.entry.Entry.{Entry}
 use Rattle.mc_node.specs.declared.note.Note.{Note}
 use Rattle.mc_node.specs.Entries.{begins_so, is_open}
+use Rattle.mc_node.specs.Handovers.{AddsFetched, HasCommitted, IfCommitted}
 use Rattle.mc_node.specs.Items.{is_unsealed}
 use Rattle.mc_node.specs.Views.{Turned}
 
@@ -22,6 +27,25 @@ module _ {E : Type 0} where
   turned before held after words old new P taken h a begins fits =
       let F : View E → View E = λ x. given_view x new in let is : after ≡ F (held_view before words old) = a ∙ ap F h in
       subst (λ (w : View E). Turned before w P) (sym is) (record { taken = old; known = taken; extends = begins; mine = refl; parts_same = refl; base_same = refl; fits = fits })
+
+  -- a commit of the value that was taken
+  pub committed_on : (is_one : E → Bool) (r : Result Handover ShopError) (before held after : View E) (words : List ℕ) (old new : List E) → IsTaken before old → held ≡ held_view before words old → after ≡ given_view held new
+      → IfCommitted r (AddsFetched is_one old new) → IfCommitted r (HasCommitted is_one before after)
+  committed_on is_one (Err e) before held after words old new taken h a made = tt
+  committed_on is_one (Ok (NoBlock d)) before held after words old new taken h a made = tt
+  committed_on is_one (Ok (Queued w)) before held after words old new taken h a made = tt
+  committed_on is_one (Ok (Committed p)) before held after words old new taken h a made =
+      let is : after ≡ given_view (held_view before words old) new = a ∙ ap (λ (v : View E). given_view v new) h in
+      let count : length new - length old ≡ p = let l = ap length made.whole ∙ length-append old made.entries in let m = made.many in omega (arith, l, m) in
+      record {
+        taken = old;
+        entries = made.entries;
+        known = taken.seen;
+        seen = ap (λ (v : View E). v.seen) is ∙ made.whole;
+        many = made.many;
+        kinds = made.kinds;
+        mine = ap (λ (v : View E). v.mine) is ∙ ap (λ n. before.mine ++ places (length old) n) count;
+      }
 
 module _ {K D : Type 0} {g : keeper.Ghosts K D} {h : counted.Ghosts K} {i : counted.Ghosts D} where
   -- what a log begins with stays

@@ -38,8 +38,8 @@ use Rattle.mc_node.specs.declared.entry.Entry.{Entry}
 use Rattle.mc_node.specs.declared.note.Note.{Note}
 use Rattle.mc_node.specs.Entries.{AddsEntry, items_at, shown_at}
 use Rattle.mc_node.specs.Items.{Item, Shown, root}
-use Rattle.mc_node.specs.Jobs.{KeepsLimit, StopsWhere, halt_if, shop_answer}
-use Rattle.mc_node.specs.Serves.{AnswersAt, BackWants, DeliverWants, NextStays, NextWants, Serves, WorkerCall, backed, keeper_fails}
+use Rattle.mc_node.specs.Jobs.{KeepsLimit, StopsWhere, note_if, shop_answer}
+use Rattle.mc_node.specs.Serves.{AnswersAt, BackWants, DeliverWants, NextStays, NextWants, ServesAt, WorkerCall, backed, keeper_fails}
 use Rattle.mc_node.specs.Ties.{IsTied}
 use Rattle.mc_node.specs.Works.{Bounds}
 use Rattle.mc_node.proofs.CallFacts.{adds_items}
@@ -132,16 +132,19 @@ pub said_of_none : {A : Type 0} (told : Option A) → IfSome told (λ x. ⊤)
 said_of_none None = tt
 said_of_none (Some x) = tt
 
+-- whether a block was processed, said in another way
+pub noted_as : (failed : Bool) (At : Shown → Type 0) (Call : Type 0 → ReplicaState → ReplicaState → Type 0) (Wants : Bool → Queue → Queue → Type 0) (old : List Item) (before : Shown) (new : List Item) (after : Shown) (fetched noted : Bool) → fetched ≡ noted
+    → ServesAt failed fetched At Call Wants old before new after → ServesAt failed noted At Call Wants old before new after
+noted_as failed At Call Wants old before new after fetched noted same serves = subst (λ (b : Bool). ServesAt failed b At Call Wants old before new after) same serves
+
 module _ {K D : Type 0} {g : keeper.Ghosts K D} {h : counted.Ghosts K} {i : counted.Ghosts D} (told : K → Option Kept) (fuse : K → Option Fuse) (own faults : K → ℕ) (quiet : K → Bool) (schedule : K → Option Schedule) where
   -- a call between what is shown before it and after it
-  pub serves_by : (At : Shown → Type 0) (Call : Type 0 → ReplicaState → ReplicaState → Type 0) (Wants : Bool → Queue → Queue → Type 0) (limit : Bounds) (failed : Bool) (old new : Replica K D g h i) (first log log' : List (Entry K D g h i))
+  pub serves_by : (At : Shown → Type 0) (Call : Type 0 → ReplicaState → ReplicaState → Type 0) (Wants : Bool → Queue → Queue → Type 0) (limit : Bounds) (failed fetched : Bool) (old new : Replica K D g h i) (first log log' : List (Entry K D g h i))
       → IsTied limit (shown_at told fuse own faults quiet schedule old) (items_at told fuse own faults quiet schedule log) → log ≡ first → IsTied limit (shown_at told fuse own faults quiet schedule new) (items_at told fuse own faults quiet schedule log')
       → At (shown_at told fuse own faults quiet schedule old) → Told (replica_state told fuse old) (replica_state told fuse new) (Call (Rose (own old.keeper) (own new.keeper))) → ContinuesAt told fuse own faults quiet schedule failed old new → RestSame old new
-      → Wants old.stopped (shown_queue old.queue) (shown_queue new.queue) → AddsEntry (halt_if failed) new log log' → Serves failed At Call Wants (items_at told fuse own faults quiet schedule first) (items_at told fuse own faults quiet schedule log')
-  serves_by At Call Wants limit failed old new first log log' t is later at call continues rest wants adds =
-      subst (λ (l : List (Entry K D g h i)). Serves failed At Call Wants (items_at told fuse own faults quiet schedule l) (items_at told fuse own faults quiet schedule log')) is (record {
-        before = shown_at told fuse own faults quiet schedule old;
-        after = shown_at told fuse own faults quiet schedule new;
+      → Wants old.stopped (shown_queue old.queue) (shown_queue new.queue) → AddsEntry (note_if failed fetched) new log log' → ServesAt failed fetched At Call Wants (items_at told fuse own faults quiet schedule first) (shown_at told fuse own faults quiet schedule old) (items_at told fuse own faults quiet schedule log') (shown_at told fuse own faults quiet schedule new)
+  serves_by At Call Wants limit failed fetched old new first log log' t is later at call continues rest wants adds =
+      subst (λ (l : List (Entry K D g h i)). ServesAt failed fetched At Call Wants (items_at told fuse own faults quiet schedule l) (shown_at told fuse own faults quiet schedule old) (items_at told fuse own faults quiet schedule log') (shown_at told fuse own faults quiet schedule new)) is (record {
         was = t.moment;
         is = later.moment;
         since = λ e. of_calm (root (items_at told fuse own faults quiet schedule log)) (shown_at told fuse own faults quiet schedule old) (t.calm e);
@@ -151,29 +154,33 @@ module _ {K D : Type 0} {g : keeper.Ghosts K D} {h : counted.Ghosts K} {i : coun
         goes = shown_goes told fuse own faults quiet schedule failed old new continues;
         keeps = record { batch = rest.batch_same; walk = rest.walk_same; whole = rest.whole_same };
         wants = wants;
-        notes = adds_items told fuse own faults quiet schedule (halt_if failed) new log log log' refl adds;
+        notes = adds_items told fuse own faults quiet schedule (note_if failed fetched) new log log log' refl adds;
         grows = t.grown;
       })
 
   -- one that did nothing
   pub serves_nothing : (At : Shown → Type 0) (Call : Type 0 → ReplicaState → ReplicaState → Type 0) (Wants : Bool → Queue → Queue → Type 0) (limit : Bounds) (now : Replica K D g h i) (first log : List (Entry K D g h i))
       → IsTied limit (shown_at told fuse own faults quiet schedule now) (items_at told fuse own faults quiet schedule log) → log ≡ first → At (shown_at told fuse own faults quiet schedule now) → ((s : ReplicaState) → Call (Rose (own now.keeper) (own now.keeper)) s s)
-      → ((q : Queue) → Wants now.stopped q q) → Serves false At Call Wants (items_at told fuse own faults quiet schedule first) (items_at told fuse own faults quiet schedule log)
+      → ((q : Queue) → Wants now.stopped q q) → ServesAt false false At Call Wants (items_at told fuse own faults quiet schedule first) (shown_at told fuse own faults quiet schedule now) (items_at told fuse own faults quiet schedule log) (shown_at told fuse own faults quiet schedule now)
   serves_nothing At Call Wants limit now first log t is at call wants =
-      serves_by At Call Wants limit false now now first log log t is t at (told_itself (Call (Rose (own now.keeper) (own now.keeper))) call (replica_state told fuse now)) (still_on refl refl refl)
+      serves_by At Call Wants limit false false now now first log log t is t at (told_itself (Call (Rose (own now.keeper) (own now.keeper))) call (replica_state told fuse now)) (still_on refl refl refl)
       (record { walk_same = refl; batch_same = refl; whole_same = refl; inbox_same = refl }) (wants (shown_queue now.queue)) refl
 
   -- one that the replica was called in
   pub job_serves : {T : Type 0} (Events : ReplicaState → List Event → T → Type 0) (Spends Short Left : ReplicaState → ReplicaState → Type 0) → ((s new : ReplicaState) → Short s new → Left s new) → (Wants : Result T ShopError → Bool → Queue → Queue → Type 0) (limit : Bounds) (cap n : ℕ) (old new : Replica K D g h i)
-      (first log log' : List (Entry K D g h i)) (entry : Option Note) (result : Result T DrainEnd) (answer : Result T ShopError) → answer ≡ shop_answer result
+      (first log log' : List (Entry K D g h i)) (entry : Option Note) (fetched : Bool) (result : Result T DrainEnd) (answer : Result T ShopError) → answer ≡ shop_answer result
       → IsTied limit (shown_at told fuse own faults quiet schedule old) (items_at told fuse own faults quiet schedule log) → log ≡ first → IsTied limit (shown_at told fuse own faults quiet schedule new) (items_at told fuse own faults quiet schedule log')
       → old.stopped ≡ false → n < cap → IfSome (told old.keeper) (λ kept. n ≡ capped (length kept.order)) → Told (replica_state told fuse old) (replica_state told fuse new) (JobCall Events Short (Rose (own old.keeper) (own new.keeper)) result)
-      → ContinuesAt told fuse own faults quiet schedule (begin_failed result) old new → RestSame old new → Wants (shop_answer result) old.stopped (shown_queue old.queue) (shown_queue new.queue) → entry ≡ halt_if (begin_failed result) → AddsEntry entry new log log'
-      → Serves (keeper_fails answer) (AnswersAt cap answer) (WorkerCall Events Spends Left answer) (Wants answer) (items_at told fuse own faults quiet schedule first) (items_at told fuse own faults quiet schedule log')
-  job_serves {T} Events Spends Short Left weaker Wants limit cap n old new first log log' entry result answer is t same later runs less count call continues rest wants noted adds =
-      subst (λ (a : Result T ShopError). Serves (keeper_fails a) (AnswersAt cap a) (WorkerCall Events Spends Left a) (Wants a) (items_at told fuse own faults quiet schedule first) (items_at told fuse own faults quiet schedule log')) (sym is)
-      (subst (λ (b : Bool). Serves b (AnswersAt cap (shop_answer result)) (WorkerCall Events Spends Left (shop_answer result)) (Wants (shop_answer result)) (items_at told fuse own faults quiet schedule first) (items_at told fuse own faults quiet schedule log')) (fails_alike result)
-      (serves_by (AnswersAt cap (shop_answer result)) (WorkerCall Events Spends Left (shop_answer result)) (Wants (shop_answer result)) limit (begin_failed result) old new first log log' t same later
+      → ContinuesAt told fuse own faults quiet schedule (begin_failed result) old new → RestSame old new → Wants (shop_answer result) old.stopped (shown_queue old.queue) (shown_queue new.queue) → entry ≡ note_if (begin_failed result) fetched → AddsEntry entry new log log'
+      → ServesAt (keeper_fails answer) fetched (AnswersAt cap answer) (WorkerCall Events Spends Left answer) (Wants answer) (items_at told fuse own faults quiet schedule first) (shown_at told fuse own faults quiet schedule old) (items_at told fuse own faults quiet schedule log') (shown_at told fuse own faults quiet schedule new)
+  job_serves {T} Events Spends Short Left weaker Wants limit cap n old new first log log' entry fetched result answer is t same later runs less count call continues rest wants noted adds =
+      subst (λ (a : Result T ShopError). ServesAt (keeper_fails a) fetched (AnswersAt cap a) (WorkerCall Events Spends Left a) (Wants a) (items_at told fuse own faults quiet schedule first) (shown_at told fuse own faults quiet schedule old) (items_at told fuse own faults quiet schedule log') (shown_at told fuse own faults quiet schedule new)) (sym is)
+      (subst (λ (b : Bool). ServesAt b fetched (AnswersAt cap (shop_answer result)) (WorkerCall Events Spends Left (shop_answer result)) (Wants (shop_answer result)) (items_at told fuse own faults quiet schedule first) (shown_at told fuse own faults quiet schedule old) (items_at told fuse own faults quiet schedule log') (shown_at told fuse own faults quiet schedule new)) (fails_alike result)
+      (serves_by (AnswersAt cap (shop_answer result)) (WorkerCall Events Spends Left (shop_answer result)) (Wants (shop_answer result)) limit (begin_failed result) fetched old new first log log' t same later
       (record { stopped = answer_runs old.stopped result (shop_answer result) refl runs; spent = answer_below (told old.keeper) cap n result (shop_answer result) refl less count })
       (call_by Events Spends Short Left weaker (Rose (own old.keeper) (own new.keeper)) result (replica_state told fuse old) (replica_state told fuse new) call) continues rest wants
       (subst (λ (e : Option Note). AddsEntry e new log log') noted adds)))
+
+  -- a call from a replica that is the first one
+  pub at_first : (P : List Item → Shown → List Item → Shown → Type 0) (old first : Replica K D g h i) (log log' : List Item) (after : Shown) → old ≡ first → P log (shown_at told fuse own faults quiet schedule old) log' after → P log (shown_at told fuse own faults quiet schedule first) log' after
+  at_first P old first log log' after is p = subst (λ (r : Replica K D g h i). P log (shown_at told fuse own faults quiet schedule r) log' after) is p

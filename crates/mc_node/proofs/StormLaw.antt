@@ -7,7 +7,7 @@ use Rattle.std.proofs.lemmas.List.{take_all}
 use Rattle.mc_turn.specs.Lists.{times}
 use Rattle.mc_core.specs.Events.{ReplicaState}
 use Rattle.mc_node.specs.declared.note.Note.{Note}
-use Rattle.mc_node.specs.declared.note.Note.TheVariants.{Root, Made, Heard, Walked, Cleared, Halted}
+use Rattle.mc_node.specs.declared.note.Note.TheVariants.{Root, Made, Heard, Fetched, Walked, Cleared, Halted}
 use Rattle.mc_storm.specs.Interleavings.{StormCall}
 use Rattle.mc_node.specs.Items.{Item, has_halted, has_note, is_halt, is_root, is_rooted, is_sealed, last_state}
 use Rattle.mc_storm.specs.Storms.{CallActs}
@@ -27,6 +27,7 @@ root_is test a b (Root true) r = a
 root_is test a b (Root false) r = b
 root_is test a b Made r = absurd (false≢true r)
 root_is test a b Heard r = absurd (false≢true r)
+root_is test a b Fetched r = absurd (false≢true r)
 root_is test a b Walked r = absurd (false≢true r)
 root_is test a b Cleared r = absurd (false≢true r)
 root_is test a b Halted r = absurd (false≢true r)

@@ -1,16 +1,19 @@
 -- The log of a sealed node stays tied to its replica over the calls of workers.
-use Rattle.std.proofs.Common.{◌≡◌, Bool, true, false, List, Option, Some, None, refl, sym, ap, ◌∙◌, subst}
+use Rattle.std.proofs.Common.{◌≡◌, Bool, true, false, List, length, take, Option, Some, None, refl, sym, ap, ◌∙◌, subst}
 use Rattle.std.specs.Prelude.{is_some}
 use Rattle.std.proofs.lemmas.Bool.{false≢true}
+use Rattle.std.proofs.Math.Seq.{take-length}
 use Rattle.mc_base.specs.Told.{Told}
 use Rattle.mc_core.specs.Events.{ReplicaState}
+use Rattle.mc_model.specs.State.{blocks_of}
+use Rattle.mc_node.specs.declared.note.Note.TheVariants.{Fetched}
 use Rattle.mc_node.specs.Items.{Item, Shown, blocks, blocks_in, has_halted, is_sealed, root, state_in}
-use Rattle.mc_node.specs.Moves.{KeepsRun}
+use Rattle.mc_node.specs.Moves.{KeepsRun, with_entry}
 use Rattle.mc_node.specs.Ties.{Goes, IsTied}
 use Rattle.mc_node.specs.Works.{Bounds, HasLed, WorkersLead}
-use Rattle.mc_node.proofs.FrameFacts.{calm_of, go_more, of_calm}
+use Rattle.mc_node.proofs.FrameFacts.{calm_of, go_more, go_nowhere, of_calm}
 use Rattle.mc_node.proofs.ItemFacts.{longer_on}
-use Rattle.mc_node.proofs.TieFacts.{IsLonger, longer_blocks, tells_on, told_state}
+use Rattle.mc_node.proofs.TieFacts.{IsLonger, longer_blocks, tells_on, tied_noted, told_state}
 use Rattle.mc_node.proofs.WorkFacts.{Step, lead_of, led_of, step_then}
 
 pub value_of : {A : Type 0} (o : Option A) → is_some o ≡ true → (x : A) × (o ≡ Some x)
@@ -72,3 +75,26 @@ tied_worked limit log now later t sealed runs goes keeps more step = record {
 
     tells_same : is_some later.told ≡ is_some now.told
     tells_same = tells_on now later goes.keeper.silent more
+
+-- what was processed comes first there too
+longer_itself : (now : Shown) → IsLonger now now
+longer_itself now = over (state_in now)
+  where
+    over : (o : Option ReplicaState) → Told o o (λ s new. take (length (blocks_of s.state.durable)) (blocks_of new.state.durable) ≡ blocks_of s.state.durable)
+    over None = tt
+    over (Some s) = take-length (blocks_of s.state.durable)
+
+-- and an entry of a fetched block more
+pub tied_fetched : (limit : Bounds) (log : List Item) (now : Shown) → IsTied limit now log → now.stopped ≡ false → IsTied limit now (with_entry log Fetched now)
+tied_fetched limit log now t runs = tied_noted limit log Fetched now now t (record {
+  runs = runs;
+  goes = go_nowhere now;
+  longer = longer_itself now;
+  no_callers = λ e. absurd (false≢true e);
+  may_walk = λ e. absurd (false≢true e);
+  batch = refl;
+  walk = λ e. refl;
+  whole = λ e. refl;
+  worked = t.worked;
+  drains = t.drains;
+})

@@ -9,7 +9,7 @@ use Rattle.mc_keep.specs.declared.fuse.Fuse.{Fuse}
 use Rattle.mc_core.specs.Counted.{run_of}
 use Rattle.mc_core.specs.Events.{ReplicaState, state_of}
 use Rattle.mc_node.specs.declared.note.Note.{Note}
-use Rattle.mc_node.specs.declared.note.Note.TheVariants.{Root, Made, Heard, Walked, Cleared, Halted}
+use Rattle.mc_node.specs.declared.note.Note.TheVariants.{Root, Made, Heard, Fetched, Walked, Cleared, Halted}
 
 -- what a replica shows: what its keeper tells and counts, and what would be lost at a stop
 pub record Shown : Type 0 where
@@ -72,6 +72,7 @@ abbrev pub is_root : Note → Bool
 is_root (Root sealed) = true
 is_root Made = false
 is_root Heard = false
+is_root Fetched = false
 is_root Walked = false
 is_root Cleared = false
 is_root Halted = false
@@ -80,6 +81,7 @@ abbrev pub is_unsealed : Note → Bool
 is_unsealed (Root sealed) = not sealed
 is_unsealed Made = false
 is_unsealed Heard = false
+is_unsealed Fetched = false
 is_unsealed Walked = false
 is_unsealed Cleared = false
 is_unsealed Halted = false
@@ -88,6 +90,7 @@ abbrev pub is_sealing : Note → Bool
 is_sealing (Root sealed) = sealed
 is_sealing Made = false
 is_sealing Heard = false
+is_sealing Fetched = false
 is_sealing Walked = false
 is_sealing Cleared = false
 is_sealing Halted = false
@@ -112,6 +115,7 @@ is_halt Halted = true
 is_halt (Root sealed) = false
 is_halt Made = false
 is_halt Heard = false
+is_halt Fetched = false
 is_halt Walked = false
 is_halt Cleared = false
 
@@ -121,16 +125,28 @@ is_walk Cleared = true
 is_walk (Root sealed) = false
 is_walk Made = false
 is_walk Heard = false
+is_walk Fetched = false
 is_walk Halted = false
 
 -- what a sealed log does not have
 abbrev pub is_callers : Note → Bool
 is_callers Made = true
 is_callers Heard = true
+is_callers Fetched = false
 is_callers (Root sealed) = false
 is_callers Walked = false
 is_callers Cleared = false
 is_callers Halted = false
+
+-- an entry of a block that workers fetched
+abbrev pub is_fetched : Note → Bool
+is_fetched Fetched = true
+is_fetched (Root sealed) = false
+is_fetched Made = false
+is_fetched Heard = false
+is_fetched Walked = false
+is_fetched Cleared = false
+is_fetched Halted = false
 
 abbrev pub has_halted : List Item → Bool
 has_halted items = has_note is_halt items

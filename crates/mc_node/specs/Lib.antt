@@ -1,6 +1,7 @@
 pub mod Crews
 pub mod Entries
 pub mod Gathers
+pub mod Handovers
 pub mod Items
 pub mod Jobs
 pub mod Moves

@@ -12,6 +12,8 @@ pub enum Note {
     Made,
     /// A message was heard.
     Heard,
+    /// A block that workers fetched was processed.
+    Fetched,
     /// A step of a walk was made.
     Walked,
     /// A walk's end was committed.

@@ -6,10 +6,14 @@ mod calls;
 mod closing;
 mod ends;
 mod making;
+mod opening;
+mod posts;
 mod relay;
 mod rule;
 mod view;
 
 pub use ends::{Giver, Taker};
+pub use opening::open_relay;
+pub use posts::{GiverEnd, TakerEnd};
 pub use relay::Relay;
 pub use view::EndView;

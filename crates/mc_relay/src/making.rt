@@ -14,7 +14,7 @@ use mc_fetch::Naming;
 use std::alloc::{AllocError, Global};
 
 // The most items that wait in a relay.
-const ROOM: usize = 64;
+pub(crate) const ROOM: usize = 64;
 
 impl<J: Naming> Relay<J> {
     /// An empty relay, its taker, and so many givers, 1 to 16, none of which has pushed anything.

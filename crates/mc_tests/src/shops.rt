@@ -10,7 +10,7 @@ use mc_core::Replica;
 use mc_fetch::{Delivered, Found};
 use mc_keep::Keeper;
 use mc_node::{Hired, Node, NodeSeat, Stored, TryError};
-use mc_worker::{HandEnd, Shop, ShopError};
+use mc_worker::{HandEnd, Handover, Shop, ShopError};
 use std::alloc::Global;
 use std::marker::Brand;
 use std::sync::Wait;
@@ -176,7 +176,13 @@ fn two_workers<K: Keeper + Drop, W: Wait>(alloc: Global, keeper: K, wait: &W) ->
     };
     let second = left.cid;
     node.give_back(&mut other, left, wait);
-    let Ok(Delivered::Missing) = node.deliver(alloc, &mut one, job, Found::Missing, wait) else {
+    let Ok(Handover::Delivered(Delivered::Missing)) = node.deliver(
+        alloc,
+        &mut one,
+        job,
+        Found::Missing,
+        wait,
+    ) else {
         return None;
     };
     let Ok(Some(job)) = node.next_job(alloc, &mut other, wait) else {

@@ -3,7 +3,7 @@ ghost use Rattle.std.specs.Prelude.{◌≡◌, All, IfOk, None};
 
 use mc_base::{Bytes, Cid, Counted};
 use mc_fetch::{Delivered, Fetch, FetchError, Found, Job};
-use mc_worker::{Gate, Hand, HandEnd, Shop, ShopError, run_workers};
+use mc_worker::{Gate, Hand, HandEnd, Handover, Shop, ShopError, run_workers};
 use std::alloc::{AllocError, Global};
 use std::sync::Wait;
 use std::sync::atomic::AtomicU64;
@@ -75,11 +75,11 @@ impl Shop for Numbered {
         _job: Job,
         _bytes: Found,
         _wait: &W,
-    ) -> Result<Delivered, ShopError> {
+    ) -> Result<Handover, ShopError> {
         let _before = self.missing.fetch_add(1, SeqCst);
         seat.last = None;
         seat.out = None;
-        Ok(Delivered::Missing)
+        Ok(Handover::Delivered(Delivered::Missing))
     }
 
     fn give_back<W: Wait>(&self, seat: &mut Place, _job: Job, _wait: &W) {

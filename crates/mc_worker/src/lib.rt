@@ -4,6 +4,7 @@
 
 mod ends;
 mod gate;
+mod handover;
 mod hands;
 mod lookup;
 mod shop;
@@ -11,6 +12,7 @@ mod turns;
 
 pub use ends::{HandEnd, ShopError, end_of};
 pub use gate::{Gate, Open};
+pub use handover::Handover;
 pub use hands::{Hand, run_workers};
 pub use lookup::look_up;
 pub use shop::Shop;

@@ -5,8 +5,8 @@ ghost use Rattle.mc_fetch.specs.Fits.{Map, NextFits};
 ghost use Rattle.mc_worker.specs.Ends.{deliver_ends, job_out, next_ends};
 ghost use Rattle.mc_worker.specs.Lookups.{FoundFits};
 
-use crate::{HandEnd, ShopError};
-use mc_fetch::{Delivered, Found, Job};
+use crate::{HandEnd, Handover, ShopError};
+use mc_fetch::{Found, Job};
 use std::alloc::Global;
 use std::sync::Wait;
 
@@ -16,11 +16,11 @@ use std::sync::Wait;
 /// A seat has at most one job out: `next_job` is called where it has none, and what is delivered or given back is the
 /// one that it has. So a worker that keeps to these conditions loses no job.
 pub trait Shop {
-    ghost use Rattle.mc_fetch.specs.declared.job.Delivered.{Delivered as Answer};
     ghost use Rattle.mc_fetch.specs.declared.job.Found.{Found as FoundOf};
     ghost use Rattle.mc_fetch.specs.declared.job.Job.{Job as JobOf};
     ghost use Rattle.mc_worker.specs.declared.ends.HandEnd.{HandEnd as End};
     ghost use Rattle.mc_worker.specs.declared.ends.ShopError.{ShopError as Error};
+    ghost use Rattle.mc_worker.specs.declared.handover.Handover.{Handover as Answer};
 
     /// What one worker calls the shop with.
     type Seat;
@@ -78,7 +78,7 @@ pub trait Shop {
         job: Job,
         bytes: Found,
         wait: &W,
-    ) -> Result<Delivered, ShopError>
+    ) -> Result<Handover, ShopError>
         requires own { owns self.now seat.old }
         requires taken { out seat.old ≡ Some job.cid }
         requires fits { FoundFits found job.cid bytes }

@@ -6,6 +6,7 @@ ghost use Rattle.mc_fetch.specs.Fits.{NextFits};
 ghost use Rattle.mc_worker.specs.Ends.{deliver_ends, job_out, next_ends};
 ghost use Rattle.mc_worker.specs.Lookups.{FoundFits};
 ghost use Rattle.mc_node.specs.Entries.{is_sealed_log, items};
+ghost use Rattle.mc_node.specs.Handovers.{HasCommitted, IfCommitted, IfQueued, is_of_fetched};
 ghost use Rattle.mc_node.specs.Seats.{knows};
 ghost use Rattle.mc_node.specs.Serves.{BackDoes, DeliverDoes, NextDoes};
 ghost use Rattle.mc_node.specs.Views.{Turned};
@@ -15,9 +16,9 @@ use super::{Node, NodeSeat};
 use crate::hired::Hired;
 use crate::stored::Stored;
 use mc_base::Cid;
-use mc_fetch::{Delivered, Found, Job, Naming};
+use mc_fetch::{Found, Job, Naming};
 use mc_keep::Keeper;
-use mc_worker::{HandEnd, Shop, ShopError, end_of};
+use mc_worker::{HandEnd, Handover, Shop, ShopError, end_of};
 use std::alloc::Global;
 use std::sync::Wait;
 
@@ -31,6 +32,7 @@ impl<K: Keeper, J: Naming> Shop for Node<Stored<K, J>> {
     ghost use Rattle.std.specs.Prelude.{◌≡◌, true};
     ghost use Rattle.mc_turn.specs.Seats.{IsSeatOf};
     ghost use Rattle.mc_node.specs.Entries.{is_sealed_log, items};
+    ghost use Rattle.mc_node.specs.Handovers.{HasCommitted, IfCommitted, IfQueued, is_of_fetched};
     ghost use Rattle.mc_node.specs.Seats.{knows};
     ghost use Rattle.mc_node.specs.Serves.{BackDoes, DeliverDoes, NextDoes};
     ghost use Rattle.mc_node.specs.Views.{Turned};
@@ -55,7 +57,9 @@ impl<K: Keeper, J: Naming> Shop for Node<Stored<K, J>> {
 
     ghost delivers = { λ cid found result before after. (after.limit ≡ before.limit)
         × Turned (knows before.seat) (knows after.seat) (λ old new.
-        DeliverDoes before.limit cid found result (items K.Keeper old) (items K.Keeper new)) };
+        DeliverDoes before.limit cid found result (items K.Keeper old) (items K.Keeper new))
+        × IfCommitted result (HasCommitted is_of_fetched (knows before.seat) (knows after.seat))
+        × IfQueued result (λ word. ⊥) };
 
     ghost returns = { λ cid before after. (after.limit ≡ before.limit)
         × Turned (knows before.seat) (knows after.seat) (λ old new.
@@ -84,7 +88,7 @@ impl<K: Keeper, J: Naming> Shop for Node<Stored<K, J>> {
         job: Job,
         bytes: Found,
         wait: &W,
-    ) -> Result<Delivered, ShopError> {
+    ) -> Result<Handover, ShopError> {
         let result = self.end_job(alloc, &mut seat.seat, seat.limit, job, bytes, wait);
         seat.last = deliver_end(&result);
         seat.out = None;
@@ -130,7 +134,7 @@ impl<K: Keeper, J: Naming> Node<Stored<K, J>> {
         job: Job,
         found: Found,
         wait: &W,
-    ) -> Result<Delivered, ShopError>
+    ) -> Result<Handover, ShopError>
         requires own { IsSeatOf self.now.turn seat.old.seat }
         requires sealed { is_sealed_log (knows seat.old).seen ≡ true }
         requires limit { IsUnder J.most limit }
@@ -140,6 +144,8 @@ impl<K: Keeper, J: Naming> Node<Stored<K, J>> {
         ensures sealed { is_sealed_log (knows seat.new).seen ≡ true }
         ensures turned { Turned (knows seat.old) (knows seat.new) (λ old new.
             DeliverDoes limit job.cid found result (items K.Keeper old) (items K.Keeper new)) }
+        ensures committed { IfCommitted result (HasCommitted is_of_fetched (knows seat.old) (knows seat.new)) }
+        ensures queued { IfQueued result (λ word. ⊥) }
     {
         let mut held = self.turn.take(&mut seat.seat, wait);
         let result = held.value.deliver(alloc, limit, job, found);
@@ -186,7 +192,7 @@ fn next_out(answer: &Result<Option<Job>, ShopError>) -> Option<Cid>
 }
 
 // How a delivery ended.
-fn deliver_end(answer: &Result<Delivered, ShopError>) -> Option<HandEnd>
+fn deliver_end(answer: &Result<Handover, ShopError>) -> Option<HandEnd>
     ensures { result ≡ deliver_ends answer.now }
 {
     match answer {

@@ -8,9 +8,10 @@ ghost use Rattle.mc_core.specs.Words.{Continues, HappensTo};
 ghost use Rattle.mc_drain.specs.JobCalls.{back_events};
 ghost use Rattle.mc_drain.specs.Words.{begin_failed};
 ghost use Rattle.mc_worker.specs.Lookups.{FoundFits};
-ghost use Rattle.mc_node.specs.Entries.{is_sealed_log, items};
-ghost use Rattle.mc_node.specs.Jobs.{halt_if, shop_answer};
-ghost use Rattle.mc_node.specs.Serves.{BackDoes, BackWants, DeliverDoes, NextDoes};
+ghost use Rattle.mc_node.specs.Entries.{is_sealed_log, items, shown as shown_of};
+ghost use Rattle.mc_node.specs.Handovers.{AddsFetched, IfCommitted, IfQueued, is_of_fetched};
+ghost use Rattle.mc_node.specs.Jobs.{hand_over, has_processed, note_if, shop_answer};
+ghost use Rattle.mc_node.specs.Serves.{BackAt, BackWants, HandsAt, NextDoes};
 ghost use Rattle.mc_node.specs.Works.{IsUnder};
 
 use super::Stored;
@@ -20,7 +21,7 @@ use mc_drain::{DrainEnd, begin_job, deliver_job, give_job_back};
 use mc_fetch::{Delivered, Found, Job, Naming};
 use mc_keep::Keeper;
 use mc_model::kept_is_durable;
-use mc_worker::ShopError;
+use mc_worker::{Handover, ShopError};
 use std::alloc::Global;
 
 impl<K: Keeper, J: Naming> Stored<K, J> {
@@ -56,13 +57,16 @@ impl<K: Keeper, J: Naming> Stored<K, J> {
         limit: u64,
         job: Job,
         found: Found,
-    ) -> Result<Delivered, ShopError>
+    ) -> Result<Handover, ShopError>
         requires sealed { is_sealed_log self.old.log.items ≡ true }
         requires limit { IsUnder J.most limit }
         requires fits { FoundFits J.found job.cid found }
         ensures extends { Begins self.old.log.items self.new.log.items }
-        ensures does { DeliverDoes limit job.cid found result (items K.Keeper self.old.log.items)
-            (items K.Keeper self.new.log.items) }
+        ensures does { HandsAt limit job.cid found result (items K.Keeper self.old.log.items)
+            (shown_of K.Keeper self.old.replica) (items K.Keeper self.new.log.items)
+            (shown_of K.Keeper self.new.replica) }
+        ensures commits { IfCommitted result (AddsFetched is_of_fetched self.old.log.items self.new.log.items) }
+        ensures queued { IfQueued result (λ word. ⊥) }
     {
         kept_is_durable();
         if self.is_stopped() {
@@ -81,9 +85,9 @@ impl<K: Keeper, J: Naming> Stored<K, J> {
         }
         self.replica.is_sound();
         let result = deliver_job(alloc, &mut self.replica, job, found);
-        let entry = halted(&result);
+        let entry = fetched(&result);
         note(&mut self.log, &self.replica, entry);
-        answered(result)
+        handed(answered(result))
     }
 
     // A job is given back. One of a replica that has stopped is gone with all that was wanted.
@@ -96,7 +100,8 @@ impl<K: Keeper, J: Naming> Stored<K, J> {
         ensures rest { RestSame self.old.replica self.new.replica }
         ensures wants { BackWants job.cid self.old.replica.stopped (shown self.old.replica.queue)
             (shown self.new.replica.queue) }
-        ensures does { BackDoes job.cid (items K.Keeper self.old.log.items) (items K.Keeper self.new.log.items) }
+        ensures does { BackAt job.cid (items K.Keeper self.old.log.items) (shown_of K.Keeper self.old.replica)
+            (items K.Keeper self.new.log.items) (shown_of K.Keeper self.new.replica) }
     {
         kept_is_durable();
         if self.is_stopped() {
@@ -117,9 +122,31 @@ impl<K: Keeper, J: Naming> Stored<K, J> {
     }
 }
 
-// The entry that an answer leaves: that of a halt for a fault, and else none.
+// The entry that a delivery leaves: that of a halt for a fault, and that of a fetched block for one that was processed.
+fn fetched(answer: &Result<Delivered, DrainEnd>) -> Option<Note>
+    ensures { result ≡ note_if (begin_failed answer.now) (has_processed answer.now) }
+{
+    match answer {
+        Ok(Delivered::Processed { position: _ }) => Some(Note::Fetched),
+        Ok(_) => None,
+        Err(_) => halted(answer),
+    }
+}
+
+// What is handed over: a block that was processed is a commit of one.
+fn handed(answer: Result<Delivered, ShopError>) -> Result<Handover, ShopError>
+    ensures { result ≡ hand_over answer }
+{
+    match answer {
+        Ok(Delivered::Processed { position: _ }) => Ok(Handover::Committed { processed: 1 }),
+        Ok(delivered) => Ok(Handover::Delivered(delivered)),
+        Err(error) => Err(error),
+    }
+}
+
+// The entry that another answer leaves: that of a halt for a fault, and else none.
 fn halted<T>(answer: &Result<T, DrainEnd>) -> Option<Note>
-    ensures { result ≡ halt_if (begin_failed answer.now) }
+    ensures { result ≡ note_if (begin_failed answer.now) false }
 {
     match answer {
         Ok(_) => None,

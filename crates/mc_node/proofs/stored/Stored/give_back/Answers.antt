@@ -1,4 +1,4 @@
-use Rattle.std.proofs.Common.{◌∙◌, refl, sym}
+use Rattle.std.proofs.Common.{◌∙◌, false, refl, sym}
 use Rattle.std.specs.Prelude.{⊤}
 use Rattle.std.proofs.lemmas.Bool.{false≢true}
 use Rattle.mc_core.proofs.Keeps.{still_on}
@@ -25,7 +25,7 @@ returns-then-is_stopped-clause-wants g c = back_wants c.args.job.cid _ _ _ (λ e
 
 pub returns-then-is_stopped-clause-does : goal.returns-then-is_stopped-clause-does
 returns-then-is_stopped-clause-does g c =
-    serves_by g.K.Keeper.told g.K.Keeper.fuse g.K.Keeper.own g.K.Counted.faults g.K.Keeper.quiet g.K.Keeper.schedule (λ now. ⊤) (λ rose. GivesBack c.args.job.cid) (BackWants c.args.job.cid) _ _ c.args.self.now.replica c.args.self.now.replica c.args.self.now.log.items c.args.self.now.log.items c.args.self.now.log.items
+    serves_by g.K.Keeper.told g.K.Keeper.fuse g.K.Keeper.own g.K.Counted.faults g.K.Keeper.quiet g.K.Keeper.schedule (λ now. ⊤) (λ rose. GivesBack c.args.job.cid) (BackWants c.args.job.cid) _ false false c.args.self.now.replica c.args.self.now.replica c.args.self.now.log.items c.args.self.now.log.items c.args.self.now.log.items
     c.args.self.now.tied refl c.args.self.now.tied tt (stopped_back c.args.job.cid _ _ _ _ (sym c.is_stopped.ensures ∙ c.if-is_stopped.true)) (still_on refl refl refl) (record { walk_same = refl; batch_same = refl; whole_same = refl; inbox_same = refl })
     (back_wants c.args.job.cid _ _ _ (λ e. refl) (λ e. absurd (false≢true (sym e ∙ sym c.is_stopped.ensures ∙ c.if-is_stopped.true)))) refl
 
@@ -36,6 +36,6 @@ pub returns-clause-does : goal.returns-clause-does
 returns-clause-does g c =
     let tied = job_back g.K.Keeper.told g.K.Keeper.fuse g.K.Keeper.own g.K.Counted.faults g.K.Keeper.quiet g.K.Keeper.schedule c.kept_is_durable.ensures.back _ c.args.self.now.replica c.give_job_back.new.replica c.args.self.now.log.items _ c.args.self.now.tied c.requires.sealed (sym c.is_stopped.ensures ∙ c.if-is_stopped.false) c.is_sound.ensures.kept
     c.give_job_back.ensures.keeps c.give_job_back.ensures.rest c.give_job_back.ensures.leads refl in
-    serves_by g.K.Keeper.told g.K.Keeper.fuse g.K.Keeper.own g.K.Counted.faults g.K.Keeper.quiet g.K.Keeper.schedule (λ now. ⊤) (λ rose. GivesBack c.args.job.cid) (BackWants c.args.job.cid) _ _ c.args.self.now.replica c.give_job_back.new.replica c.args.self.now.log.items c.args.self.now.log.items c.args.self.now.log.items
+    serves_by g.K.Keeper.told g.K.Keeper.fuse g.K.Keeper.own g.K.Counted.faults g.K.Keeper.quiet g.K.Keeper.schedule (λ now. ⊤) (λ rose. GivesBack c.args.job.cid) (BackWants c.args.job.cid) _ false false c.args.self.now.replica c.give_job_back.new.replica c.args.self.now.log.items c.args.self.now.log.items c.args.self.now.log.items
     c.args.self.now.tied refl tied tt c.give_job_back.ensures.goes c.give_job_back.ensures.keeps c.give_job_back.ensures.rest
     (back_wants c.args.job.cid _ _ _ (λ e. absurd (false≢true (sym (sym c.is_stopped.ensures ∙ c.if-is_stopped.false) ∙ e))) (λ e. c.give_job_back.ensures.wants)) refl

@@ -13,4 +13,4 @@ pub returns-clause-sealed : goal.returns-clause-sealed
 returns-clause-sealed g c = begins_given is_sealing _ _ _ _ c.take-held.ensures.taken.seen c.give_back.ensures.extends (ap (λ v. v.seen) c.give.ensures.given) c.requires.sealed
 
 pub returns-clause-turned : goal.returns-clause-turned
-returns-clause-turned g c = turned _ _ _ (c.take-held.ensures.held.0 ++ 0 ∷ []) _ _ _ c.take-held.ensures.taken c.take-held.ensures.held.2 c.give.ensures.given c.give_back.ensures.extends c.give_back.ensures.does
+returns-clause-turned g c = turned _ _ _ (c.take-held.ensures.held.0 ++ 0 ∷ []) _ _ _ c.take-held.ensures.taken c.take-held.ensures.held.2 c.give.ensures.given c.give_back.ensures.extends (_, _, c.give_back.ensures.does)

@@ -1,6 +1,6 @@
-use Rattle.std.proofs.Common.{ap}
+use Rattle.std.proofs.Common.{◌++◌, ◌∷◌, [], ap}
 use Rattle.mc_node.specs.Items.{is_sealing}
-use Rattle.mc_node.proofs.SeatFacts.{begins_given, begins_on, seen_given}
+use Rattle.mc_node.proofs.SeatFacts.{begins_given, begins_on, seen_given, turned}
 use Rattle.mc_node.proofs.node.shop.Node+Stored+K+J.take_job.Goals as goal
 
 pub next_job-result-requires : goal.next_job-result-requires
@@ -11,3 +11,6 @@ returns-clause-seen g c = seen_given _ _ _ _ c.take-held.ensures.taken.seen c.ne
 
 pub returns-clause-sealed : goal.returns-clause-sealed
 returns-clause-sealed g c = begins_given is_sealing _ _ _ _ c.take-held.ensures.taken.seen c.next_job-result.ensures.extends (ap (λ v. v.seen) c.give.ensures.given) c.requires.sealed
+
+pub returns-clause-turned : goal.returns-clause-turned
+returns-clause-turned g c = turned _ _ _ (c.take-held.ensures.held.0 ++ 0 ∷ []) _ _ _ c.take-held.ensures.taken c.take-held.ensures.held.2 c.give.ensures.given c.next_job-result.ensures.extends c.next_job-result.ensures.does
