@@ -9,11 +9,19 @@ use Rattle.mc_keep.specs.declared.keeper.Keeper as keeper
 use Rattle.mc_keep.specs.Plan.{AreMade, Schedule, CallsGo, CallsGoOn, is_planned, is_planned_commit}
 use Rattle.mc_keep.proofs.Frames.{goes_more, goes_itself}
 use Rattle.mc_core.specs.declared.replica.Replica.{Replica}
+use Rattle.mc_core.specs.Exact.{RestSame, RunSame}
 use Rattle.mc_core.specs.Words.{ContinuesAt}
 use Rattle.mc_node.specs.Entries.{shown_at}
 use Rattle.mc_node.specs.Items.{Shown}
 use Rattle.mc_node.specs.Ties.{Goes, GoesCalm, NonePlanned}
 use Rattle.mc_node.specs.Works.{GoesBroken, OnePlanned, commits_in, reads_in}
+
+-- what stays besides the inbox, of two calls and of one
+pub run_more : {K D : Type 0} {g : keeper.Ghosts K D} {h : counted.Ghosts K} {i : counted.Ghosts D} {old mid new : Replica K D g h i} → RunSame old mid → RunSame mid new → RunSame old new
+run_more before next = record { walk_same = next.walk_same ∙ before.walk_same; batch_same = next.batch_same ∙ before.batch_same; whole_same = next.whole_same ∙ before.whole_same }
+
+pub run_same : {K D : Type 0} {g : keeper.Ghosts K D} {h : counted.Ghosts K} {i : counted.Ghosts D} {old new : Replica K D g h i} → RestSame old new → RunSame old new
+run_same rest = record { walk_same = rest.walk_same; batch_same = rest.batch_same; whole_same = rest.whole_same }
 
 -- calls in turn
 pub go_more : (failed : Bool) (before mid now : Shown) → Goes false before mid → Goes failed mid now → Goes failed before now

@@ -10,7 +10,7 @@ use Rattle.mc_keep.specs.Plan.{Schedule}
 use Rattle.mc_model.specs.Kept.{Kept}
 use Rattle.mc_turn.specs.Lists.{Begins}
 use Rattle.mc_core.specs.Events.{ReplicaState}
-use Rattle.mc_core.specs.Exact.{RestSame}
+use Rattle.mc_core.specs.Exact.{RunSame}
 use Rattle.mc_core.specs.Replica.{replica_state}
 use Rattle.mc_core.specs.Words.{ContinuesAt}
 use Rattle.mc_core.specs.declared.replica.Replica.{Replica}
@@ -61,7 +61,7 @@ module _ {K D : Type 0} {g : keeper.Ghosts K D} {h : counted.Ghosts K} {i : coun
     pub record IsWorked (limit : Bounds) (replica left : Replica K D g h i) : Type 0 where
       pub leads : Told (replica_state told fuse replica) (replica_state told fuse left) (WorkersLead limit left.stopped)
       pub keeps : ContinuesAt told fuse own faults quiet schedule left.stopped replica left
-      pub rest : limit.walks ≡ false → RestSame replica left
+      pub rest : limit.walks ≡ false → RunSame replica left
 
     pub sealed_ends : (limit : Bounds) (replica left : Replica K D g h i) (seen log : List (Entry K D g h i)) → IsSealedOf replica seen → Begins seen log
         → IsTied limit (shown_at told fuse own faults quiet schedule left) (items_at told fuse own faults quiet schedule log) → IsWorked limit replica left

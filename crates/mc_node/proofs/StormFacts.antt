@@ -15,7 +15,7 @@ use Rattle.mc_keep.specs.Plan.{Schedule}
 use Rattle.mc_keep.specs.declared.fuse.Fuse.{Fuse}
 use Rattle.mc_keep.specs.declared.keeper.Keeper as keeper
 use Rattle.mc_core.specs.Events.{ReplicaState}
-use Rattle.mc_core.specs.Exact.{RestSame}
+use Rattle.mc_core.specs.Exact.{RunSame}
 use Rattle.mc_core.specs.Replica.{replica_state}
 use Rattle.mc_core.specs.Words.{ContinuesAt}
 use Rattle.mc_core.specs.declared.replica.Replica.{Replica}
@@ -118,7 +118,7 @@ module _ {K D : Type 0} {g : keeper.Ghosts K D} {h : counted.Ghosts K} {i : coun
   pub record Leaves (count writes : ℕ) (result : Result Stormed StormError) (replica left : Replica K D g h i) : Type 0 where
     pub leads : Told (replica_state told fuse replica) (replica_state told fuse left) (StormLeads count writes result (Rose (own replica.keeper) (own left.keeper)))
     pub keeps : ContinuesAt told fuse own faults quiet schedule (storm_broke result) replica left
-    pub rest : RestSame replica left
+    pub rest : RunSame replica left
     pub unstopped : result ≡ Err storm.Stopped → ⊥
 
   pub storm_leaves : (limit : Bounds) (replica left : Replica K D g h i) (opening log : List (Entry K D g h i)) (view : View (Entry K D g h i)) (count writes : ℕ) (wrote : Option Stormed) (result : Result Stormed StormError)
@@ -187,7 +187,7 @@ module _ {K D : Type 0} {g : keeper.Ghosts K D} {h : counted.Ghosts K} {i : coun
   storm_stays count writes replica left same = subst (Leaves count writes (Err storm.Memory) replica) (sym same) (record {
     leads = pauses_none count writes (replica_state told fuse replica);
     keeps = continues_itself replica;
-    rest = record { walk_same = refl; batch_same = refl; whole_same = refl; inbox_same = refl };
+    rest = record { walk_same = refl; batch_same = refl; whole_same = refl };
     unstopped = λ e. unstopped false None e;
   })
 

@@ -1,6 +1,6 @@
 // Writers that put and get beside one another, on one replica.
 ghost use Rattle.std.specs.Prelude.{◌≡◌, ◌≤◌, ◌<◌, ◌^◌, ◌↔◌, true, Err};
-ghost use Rattle.mc_core.specs.Exact.{RestSame};
+ghost use Rattle.mc_core.specs.Exact.{RunSame};
 ghost use Rattle.mc_core.specs.Words.{Becomes, Continues};
 ghost use Rattle.mc_storm.specs.Storms.{StormLeads, answer_of, storm_broke};
 ghost use Rattle.mc_storm.specs.declared.outcome.StormError.{StormError};
@@ -40,7 +40,7 @@ where
     requires short { writes < 2 ^ 32 }
     ensures leads { Becomes K.Keeper (λ rose s new. StormLeads writers writes result.1 rose s new) replica result.0 }
     ensures keeps { Continues K.Keeper (storm_broke result.1) replica result.0 }
-    ensures rest { RestSame replica result.0 }
+    ensures rest { RunSame replica result.0 }
     ensures stopped { result.1 ≡ Err StormError.Stopped ↔ replica.stopped ≡ true }
     ensures still { replica.stopped ≡ true → result.0 ≡ replica }
 {

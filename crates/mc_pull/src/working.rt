@@ -1,7 +1,7 @@
 // A work of the wanted blocks of a replica, over its peers.
 ghost use Rattle.std.specs.Prelude.{◌≡◌, ◌≤◌, ◌↔◌, true, Err};
 ghost use Rattle.mc_queue.specs.Views.{shown};
-ghost use Rattle.mc_core.specs.Exact.{RestSame};
+ghost use Rattle.mc_core.specs.Exact.{RunSame};
 ghost use Rattle.mc_core.specs.Words.{Becomes, Continues};
 ghost use Rattle.mc_drain.specs.Works.{WorkLeads, WorkWants, keeper_broke, none_broke, peer_broke};
 ghost use Rattle.mc_lend.specs.Lending.{HaveDesks, marks_of};
@@ -47,7 +47,7 @@ where
     ensures leads { Becomes K.Keeper (λ rose s new. WorkLeads budget (found_at K.told sites.now) result.1 s new)
         replica result.0 }
     ensures keeps { Continues K.Keeper (keeper_broke result.1) replica result.0 }
-    ensures rest { RestSame replica result.0 }
+    ensures rest { RunSame replica result.0 }
     ensures stopped { result.1 ≡ Err WorkError.Stopped ↔ replica.stopped ≡ true }
     ensures still { replica.stopped ≡ true → result.0 ≡ replica }
     ensures wants { WorkWants result.1 (shown result.0.queue) }

@@ -14,7 +14,7 @@ use Rattle.mc_model.specs.Kept.{Kept}
 use Rattle.mc_model.specs.State.{Running}
 use Rattle.mc_core.specs.Counted.{run_of}
 use Rattle.mc_core.specs.Events.{ReplicaState}
-use Rattle.mc_core.specs.Exact.{RestSame, stop_front}
+use Rattle.mc_core.specs.Exact.{RunSame, stop_front}
 use Rattle.mc_core.specs.Replica.{running_of}
 use Rattle.mc_core.specs.Words.{Becomes, Continues}
 use Rattle.mc_core.specs.declared.CoreError.TheVariants as core
@@ -68,7 +68,7 @@ module _ {K D : Type 0} {g : keeper.Ghosts K D} {h : counted.Ghosts K} {i : coun
   pub record Storms (result : Result Stormed StormError) (old new : Replica K D g h i) : Type 0 where
     pub leads : Becomes k (λ rose s after. StormLeads writers writes result rose s after) old new
     pub keeps : Continues k (storm_broke result) old new
-    pub rest : RestSame old new
+    pub rest : RunSame old new
     pub stopped : result ≡ Err storm.Stopped ↔ old.stopped ≡ true
     pub still : old.stopped ≡ true → new ≡ old
 

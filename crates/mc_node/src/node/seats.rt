@@ -7,7 +7,7 @@ ghost use Rattle.mc_core.specs.Replica.{replica_state};
 ghost use Rattle.mc_node.specs.Entries.{IsRootLog, IsSealedOf, StaysOpen, StaysSealed, is_open, is_sealed_log, items};
 ghost use Rattle.mc_node.specs.Entries.{shown};
 ghost use Rattle.mc_node.specs.Seats.{knows};
-ghost use Rattle.mc_core.specs.Exact.{RestSame};
+ghost use Rattle.mc_core.specs.Exact.{RunSame};
 ghost use Rattle.mc_core.specs.Words.{Becomes, Continues};
 ghost use Rattle.mc_node.specs.Ties.{IsTied, IsWithin, StoresFound};
 ghost use Rattle.mc_node.specs.Works.{WorkersLead};
@@ -109,7 +109,7 @@ impl<K: Keeper, J: Naming> Node<Stored<K, J>> {
             root result }
         ensures keeps { (root : _) → IsSealedOf root (knows seat).seen →
             Continues K.Keeper result.stopped root result }
-        ensures rest { (root : _) → J.walks ≡ false → IsSealedOf root (knows seat).seen → RestSame root result }
+        ensures rest { (root : _) → J.walks ≡ false → IsSealedOf root (knows seat).seen → RunSame root result }
     {
         let Node { turn } = self;
         let NodeSeat { seat } = seat;

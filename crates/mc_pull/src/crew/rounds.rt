@@ -5,7 +5,7 @@ ghost use Rattle.mc_fetch.specs.Calls.{Asks};
 ghost use Rattle.mc_fetch.specs.Fits.{FetchFits};
 ghost use Rattle.mc_fetch.specs.Offers.{found_by};
 ghost use Rattle.mc_queue.specs.Views.{shown};
-ghost use Rattle.mc_core.specs.Exact.{RestSame};
+ghost use Rattle.mc_core.specs.Exact.{RunSame};
 ghost use Rattle.mc_core.specs.Replica.{replica_state};
 ghost use Rattle.mc_core.specs.Words.{Becomes, Continues};
 ghost use Rattle.mc_drain.specs.Leads.{Leads, up_to};
@@ -59,7 +59,7 @@ where
         WorkersLead (record { walks = J.walks; most = J.most; found = J.found; kept = J.kept }) result.0.stopped s new)
         replica result.0 }
     ensures keeps { Continues K.Keeper result.0.stopped replica result.0 }
-    ensures rest { RestSame replica result.0 }
+    ensures rest { RunSame replica result.0 }
     ensures left { AllZip (FetchLeft F.Fetch) fetches.items result.1.items }
     ensures calm { result.2 ≡ false → AllZip (Asks F.Fetch false) fetches.items result.1.items }
     ensures peer { result.2 ≡ true → SomeRose F.faults fetches.items result.1.items }
@@ -110,7 +110,7 @@ where
     ensures leads { Becomes K.Keeper (λ rose s new. Leads result.0.stopped (up_to limit s)
         (FindsFrom (found_first F.offers fetches.items) s.state.durable.graph) s new) replica result.0 }
     ensures keeps { Continues K.Keeper result.0.stopped replica result.0 }
-    ensures rest { RestSame replica result.0 }
+    ensures rest { RunSame replica result.0 }
     ensures left { AllZip (FetchLeft F.Fetch) fetches.items result.1.items }
     ensures calm { result.2 ≡ false → AllZip (Asks F.Fetch false) fetches.items result.1.items }
     ensures peer { result.2 ≡ true → SomeRose F.faults fetches.items result.1.items }

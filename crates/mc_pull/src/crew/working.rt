@@ -4,7 +4,7 @@ ghost use Rattle.std.specs.List.{AllZip};
 ghost use Rattle.mc_fetch.specs.Calls.{Asks};
 ghost use Rattle.mc_fetch.specs.Offers.{found_by};
 ghost use Rattle.mc_queue.specs.Views.{shown};
-ghost use Rattle.mc_core.specs.Exact.{RestSame};
+ghost use Rattle.mc_core.specs.Exact.{RunSame};
 ghost use Rattle.mc_core.specs.Words.{Becomes, Continues};
 ghost use Rattle.mc_drain.specs.Works.{WorkLeads, WorkWants, keeper_broke, none_broke, peer_broke};
 ghost use Rattle.mc_pull.specs.Hands.{FetchLeft, SomeRose, found_first};
@@ -55,7 +55,7 @@ where
     ensures leads { Becomes K.Keeper (λ rose s new.
         WorkLeads budget (found_first F.offers fetches.items) result.2 s new) replica result.0 }
     ensures keeps { Continues K.Keeper (keeper_broke result.2) replica result.0 }
-    ensures rest { RestSame replica result.0 }
+    ensures rest { RunSame replica result.0 }
     ensures left { AllZip (FetchLeft F.Fetch) fetches.items result.1.items }
     ensures calm { none_broke result.2 ≡ true → AllZip (Asks F.Fetch false) fetches.items result.1.items }
     ensures peer { peer_broke result.2 ≡ true → SomeRose F.faults fetches.items result.1.items }

@@ -1,8 +1,9 @@
 use Rattle.std.proofs.Common.{◌∙◌, ap, refl, sym}
 use Rattle.mc_model.specs.Wanted.{Queue}
-use Rattle.mc_core.proofs.Keeps.{continues_more, rest_more, still_on}
+use Rattle.mc_core.proofs.Keeps.{continues_more, still_on}
 use Rattle.mc_queue.specs.Views.{shown}
 use Rattle.mc_drain.specs.declared.working.Worked.{Worked}
+use Rattle.mc_node.proofs.FrameFacts.{run_more, run_same}
 use Rattle.mc_drain.proofs.TurnFacts.{report_count}
 use Rattle.mc_drain.proofs.WorkFacts.{not_true, still_works}
 use Rattle.mc_pull.specs.Hands.{found_first}
@@ -27,7 +28,7 @@ pub returns-then-is_over-clause-keeps : goal.returns-then-is_over-clause-keeps
 returns-then-is_over-clause-keeps g c = left_keeps Worked _ c.leave_off-why.result _ _ _ c.leave_off-why.ensures.why (continues_more c.requeue.ensures.keeps c.round-replica.ensures.keeps) c.leave_off-why.ensures.keeps c.leave_off-why.ensures.still
 
 pub returns-then-is_over-clause-rest : goal.returns-then-is_over-clause-rest
-returns-then-is_over-clause-rest g c = rest_more (rest_more c.requeue.ensures.rest c.round-replica.ensures.rest) c.leave_off-why.ensures.rest
+returns-then-is_over-clause-rest g c = run_more (run_more (run_same c.requeue.ensures.rest) c.round-replica.ensures.rest) (run_same c.leave_off-why.ensures.rest)
 
 pub returns-then-is_over-clause-peer : goal.returns-then-is_over-clause-peer
 returns-then-is_over-clause-peer g c = λ e. c.round-replica.ensures.peer (left_peer Worked _ _ c.leave_off-why.result c.leave_off-why.ensures.why (sym c.is_over.ensures ∙ c.if-is_over.true) e)
@@ -53,7 +54,7 @@ returns-clause-keeps g c =
     gone_on_keeps _ _ _ _ _ both.1 (continues_more c.requeue.ensures.keeps c.round-replica.ensures.keeps) c.go_on-answer.ensures.keeps
 
 pub returns-clause-rest : goal.returns-clause-rest
-returns-clause-rest g c = rest_more (rest_more c.requeue.ensures.rest c.round-replica.ensures.rest) c.go_on-answer.ensures.rest
+returns-clause-rest g c = run_more (run_more (run_same c.requeue.ensures.rest) c.round-replica.ensures.rest) (run_same c.go_on-answer.ensures.rest)
 
 pub returns-clause-left : goal.returns-clause-left
 returns-clause-left g c =
