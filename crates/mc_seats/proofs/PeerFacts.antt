@@ -37,6 +37,7 @@ use Rattle.mc_seats.specs.StepParts.{AllDesksGo, DesksAsk, DesksGo, IsOfferedAt,
 use Rattle.mc_seats.specs.Words.{place}
 use Rattle.mc_seats.specs.Worlds.{Place, is_marked, peer_row, picked, place_with}
 use Rattle.mc_seats.proofs.BeginFacts.{never}
+use Rattle.mc_seats.proofs.StayFacts.{list_stays, list_then}
 
 -- what one peer offers
 
@@ -68,6 +69,7 @@ module _ {K D : Type 0} (k : Members K D) where
         → DesksAsk k desk_faults quiet failed (old.desk ∷ rest) (new.desk ∷ rest)
     asked_view quiet failed old new rest is goes counts = record {
       goes = record {
+        each = (record { later = goes.later; plan = goes.plan }, list_stays k desk_faults rest);
         full = λ e. e;
         later = let later = goes.later in let was = sum_by-cons desk_faults old.desk rest in let now = sum_by-cons desk_faults new.desk rest in omega (arith, later, was, now);
         calm = λ q all.
@@ -174,17 +176,18 @@ module _ (down : List Link) (r : ℕ) (cid : Cid) where
 
 module _ {K D : Type 0} (k : Members K D) (desk_faults : D → ℕ) where
   go_none : (quiet : Bool) (desks : List D) → DesksGo k desk_faults quiet desks desks
-  go_none quiet desks = record { full = λ e. e; later = omega arith; calm = λ q all. all }
+  go_none quiet desks = record { each = list_stays k desk_faults desks; full = λ e. e; later = omega arith; calm = λ q all. all }
 
   go_then : (quiet : Bool) (old mid new : List D) → DesksGo k desk_faults quiet old mid → DesksGo k desk_faults quiet mid new → DesksGo k desk_faults quiet old new
   go_then quiet old mid new p q = record {
+    each = list_then k desk_faults old mid new p.each q.each;
     full = λ e. q.full (p.full e);
     later = omega (arith, p.later, q.later);
     calm = λ e all. q.calm e (p.calm e all);
   }
 
   pub go_quiet : (quiet quiet2 : Bool) (old new : List D) → (quiet2 ≡ true → quiet ≡ true) → DesksGo k desk_faults quiet old new → DesksGo k desk_faults quiet2 old new
-  go_quiet quiet quiet2 old new more p = record { full = p.full; later = p.later; calm = λ e all. p.calm (more e) all }
+  go_quiet quiet quiet2 old new more p = record { each = p.each; full = p.full; later = p.later; calm = λ e all. p.calm (more e) all }
 
   pub all_still : (quiet : Bool) (desks : List (List D)) → AllDesksGo k desk_faults quiet desks desks
   all_still quiet [] = tt

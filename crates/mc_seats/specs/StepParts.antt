@@ -30,7 +30,7 @@ use Rattle.mc_seats.specs.declared.seat.Seat.{Seat}
 use Rattle.mc_seats.specs.declared.world.World.{World}
 use Rattle.mc_seats.specs.Desked.{is_full_list}
 use Rattle.mc_seats.specs.Fetching.{IsFound, IsFoundIn}
-use Rattle.mc_seats.specs.Keepers.{desk_count, is_calm_desk, is_calm_keeper, keeper_of}
+use Rattle.mc_seats.specs.Keepers.{DeskStays, desk_count, is_calm_desk, is_calm_keeper, keeper_of}
 use Rattle.mc_seats.specs.Record.{RoseIn}
 use Rattle.mc_seats.specs.Step.{GivesBack, ShortAt, answers_fault, is_fault}
 use Rattle.mc_seats.specs.Words.{KeeperGoes, PlaceRow}
@@ -147,9 +147,10 @@ module _ {K D : Type 0} (k : Members K D) where
       IfSome (k.told keeper) (λ kept. found ≡ first_offer cid (peer_places (offers_at planted kept cid)))
 
   module _ (desk_faults : D → ℕ) where
-    -- What calls through the desks of a replica leave of them: their counts never fall, and where its keeper is quiet
-    -- what is calm stays calm.
+    -- What calls through the desks of a replica leave of them: each stands at its place, their counts never fall, and
+    -- where its keeper is quiet what is calm stays calm.
     pub record DesksGo (quiet : Bool) (old new : List D) : Type 0 where
+      pub each : AllZip (DeskStays k desk_faults) old new
       pub full : is_full_list old ≡ true → is_full_list new ≡ true
       pub later : sum_by desk_faults old ≤ sum_by desk_faults new
       pub calm : quiet ≡ true → list_all (is_calm_desk k desk_faults) old ≡ true
