@@ -9,6 +9,7 @@ pub mod FuseFacts
 pub mod StopFacts
 pub mod ReachFacts
 pub mod CalmFacts
+pub mod OneFused
 pub mod OneFacts
 pub mod OneEvents
 pub mod OneCuts

@@ -118,7 +118,7 @@ run_of_state p s e = over p.content p.fuse p.run e
     over None fuse run e = absurd (no_some e)
     over (Some kept) fuse run e = let same : ◌≡◌ {A = ReplicaState} (record { state = record { durable = durable_of kept; run = run }; fuse = fuse }) s = some_is e in ap (λ (x : ReplicaState). x.state.run) same
 
-told_after : (p q : Place) (s : ReplicaState) (P : ReplicaState → ReplicaState → Type 0) → state_at p ≡ Some s → Told (state_at p) (state_at q) P → (n : ReplicaState) × (state_at q ≡ Some n) × P s n
+pub told_after : (p q : Place) (s : ReplicaState) (P : ReplicaState → ReplicaState → Type 0) → state_at p ≡ Some s → Told (state_at p) (state_at q) P → (n : ReplicaState) × (state_at q ≡ Some n) × P s n
 told_after p q s P is told = over (state_at q) (subst (λ (o : Option ReplicaState). Told o (state_at q) P) is told)
   where
     over : (o : Option ReplicaState) → Told (Some s) o P → (n : ReplicaState) × (o ≡ Some n) × P s n
