@@ -13,6 +13,7 @@ pub mod OneFused
 pub mod OneFacts
 pub mod OneEvents
 pub mod OneCuts
+pub mod OneBlocks
 pub mod OneClosure
 pub mod OneEnds
 pub mod LowHeights

@@ -7,7 +7,7 @@ use Rattle.mc_keep.specs.Causes.{CommitFails, burnt, fires}
 use Rattle.mc_keep.specs.declared.fuse.Fuse.{Fuse}
 use Rattle.mc_model.specs.Events.{Event, happens}
 use Rattle.mc_model.specs.State.{Durable}
-use Rattle.mc_plan.specs.Calls.{Faults}
+use Rattle.mc_core.specs.Calls.{Faults}
 use Rattle.mc_core.specs.Events.{Breaks, CommitBreaks, IsCutShort, MayHappen, ReplicaState, all_happen, commits, fires_by, goes_on, stopped_with}
 use Rattle.mc_core.specs.Exact.{seen_of}
 use Rattle.mc_core.specs.declared.CoreError.{CoreError}
