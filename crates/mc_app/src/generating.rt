@@ -54,9 +54,10 @@ where
     ensures no_usage { result ≢ Status.Usage }
     ensures no_read { result ≢ Status.ReadFault }
     ensures untouched_keepers { result ≡ Status.KeeperFault → TakesSome K.makes K.takes K.K.told
-        (AreOwnDesks K.K.schedule K.K.desk_schedule) InMemory keepers.old (starts_from (K.starts keepers.old InMemory) 0 3) keepers.new }
-    ensures handed_back { HandsBack K.makes K.takes K.K.told (AreOwnDesks K.K.schedule K.K.desk_schedule) InMemory keepers.old
+        (AreOwnDesks K.K.schedule K.K.desk_schedule) InMemory keepers.old
         (starts_from (K.starts keepers.old InMemory) 0 3) keepers.new }
+    ensures handed_back { HandsBack K.makes K.takes K.K.told (AreOwnDesks K.K.schedule K.K.desk_schedule) InMemory
+        keepers.old (starts_from (K.starts keepers.old InMemory) 0 3) keepers.new }
     ensures generated { Generates (script_text start count)
         (IsFirst (starts_from (K.starts keepers.old InMemory) 0 3))
         (MayAnswer (K.quiet keepers.old InMemory ≡ true) (K.lost keepers.old) (K.lost keepers.new))

@@ -27,8 +27,9 @@ use std::alloc::{AllocError, Global};
 impl<K: Keeper> World<K> {
     /// Opens the replicas of the parts, in order, and makes sixteen desks for each: `parts` are the keepers in order of
     /// the replicas' names, each with a sound mark, no fuse and no desks. No message is sent, all links are up, nothing
-    /// is planted, and the record is empty; and each desk has the plan that its keeper had for it. Refusals: `KeeperFault`, where a keeper failed, which has counted it, and
-    /// `Memory`. They hand the parts back in order, with the desks that were made.
+    /// is planted, and the record is empty; each desk has the plan that its keeper had for it. Refusals: `KeeperFault`,
+    /// where a keeper failed, which has counted it, and `Memory`. They hand the parts back in order, with the desks that
+    /// were made.
     pub fn new(alloc: Global, parts: List<Part<K>>) -> Result<World<K>, NoWorld<K>>
         requires fresh { AreFresh K.told K.fuse parts }
         ensures first { IfOk result (λ world.
