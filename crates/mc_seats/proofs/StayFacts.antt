@@ -1,6 +1,6 @@
 -- Desks that stay at their places, and the plans that they have.
 use Rattle.std.proofs.Common.{◌≡◌, ◌≤◌, ◌+◌, ℕ, zero, suc, Bool, true, false, true≢false, List, [], ◌∷◌, ◌++◌, length, drop, Option, Some, None, Result, Ok, refl, sym, ap, subst, ◌∙◌, arith}
-use Rattle.std.specs.Prelude.{is_some}
+use Rattle.std.specs.Prelude.{⊤, is_some}
 use Rattle.std.specs.List.{AllZip}
 use Rattle.std.proofs.Math.Seq.{drop-nil}
 use Rattle.mc_fetch.specs.Peers.{SamePlan}
@@ -117,7 +117,7 @@ module _ {D : Type 0} (desk_schedule : D → Option DeskSchedule) where
   drop_one n [] = sym (drop-nil n)
   drop_one n (x ∷ xs) = refl
 
-  one_dropped : {A : Type 0} (n : ℕ) (xs : List A) → drop 1 (drop n xs) ≡ drop (n + 1) xs
+  one_dropped : {A : Type 0} (n : ℕ) (xs : List A) → drop 1 (drop n xs) ≡ drop (suc n) xs
   one_dropped zero xs = refl
   one_dropped (suc n) [] = refl
   one_dropped (suc n) (x ∷ xs) = one_dropped n xs
@@ -130,9 +130,10 @@ module _ {D : Type 0} (desk_schedule : D → Option DeskSchedule) where
   pub made_push : (a b c : Option Schedule) (desks : List D) (desk : D) (count : ℕ) → length desks ≡ count → LeftOf a count b → HavePlansOf desk_schedule a desks → DeskAsPlanned desk_schedule b c (Ok desk) → HavePlansOf desk_schedule a (desks ++ desk ∷ []) × LeftOf a (count + 1) c
   made_push None b c desks desk count many left have planned = (tt, tt)
   made_push (Some a) b c desks desk count many left have planned =
+      let next_count : suc count ≡ count + 1 = omega arith in
       let next : DeskAsPlanned desk_schedule (Some left.0) c (Ok desk) = subst (λ (s : Option Schedule). DeskAsPlanned desk_schedule s c (Ok desk)) left.1 planned in (
         have_push a.desks desks desk have (ap reads_of next.2 ∙ ap (λ (l : List (List ℕ)). Some (first_plan l)) (left.2 ∙ ap (λ (n : ℕ). drop n a.desks) (sym many))),
-        (with_desk true left.0, next.0, ap (λ (l : List (List ℕ)). drop 1 l) left.2 ∙ one_dropped count a.desks),
+        (with_desk true left.0, next.0, ap (λ (l : List (List ℕ)). drop 1 l) left.2 ∙ one_dropped count a.desks ∙ ap (λ (n : ℕ). drop n a.desks) next_count),
       )
 
 -- the desks of a keeper that was read before it made them

@@ -116,12 +116,9 @@ fn ask_peer<K: Keeper, W: Wait>(
 }
 
 // The bytes that are planted for a block, where they have its digest.
-fn planted_match(
-    alloc: Global,
-    planted: &Plants,
-    cid: &Cid,
-) -> Result<Option<Bytes>, AllocError>
-    ensures { IfOk result (λ bytes. bytes ≡ matching cid.now (planted_at planted.now cid.now)) }
+fn planted_match(alloc: Global, planted: &Plants, cid: &Cid) -> Result<Option<Bytes>, AllocError>
+    ensures same { IfOk result (λ found. found ≡ matching cid.now (planted_at planted.now cid.now)) }
+    ensures digest { IfOk result (λ found. IfSome found (HasDigest cid.now)) }
 {
     let Some(bytes) = planted.get(cid) else {
         return Ok(None);
@@ -146,7 +143,9 @@ fn ask_desk<K: Keeper, W: Wait>(
     ensures desks { DesksAsk K.Keeper K.Desk.faults (K.quiet (keeper_of seat.now)) (is_peer_fault result)
         desks.old desks.new }
 {
-    let mut views = Vec::with_capacity(alloc, 1)?;
+    let Ok(mut views) = Vec::with_capacity(alloc, 1) else {
+        return Err(FetchError::Memory);
+    };
     let (desk, others) = take_first(alloc, desks);
     views.push_reserved(view_of(seat, desk));
     let mut fetch = PeerFetch::new(List::from_vec(views));

@@ -1,6 +1,9 @@
 use Rattle.std.proofs.Common.{arith}
-use Rattle.mc_seats.proofs.DeskFacts.{goes_on, is_running, makes_failed}
+use Rattle.mc_seats.proofs.DeskFacts.{begins, goes_on, is_running, makes_failed}
 use Rattle.mc_seats.proofs.parting.fill_desks.Goals as goal
+
+pub loop-made-init : goal.loop-made-init
+loop-made-init g c = (rw c.requires.no_desks (begins _ _ c.args.replica.now), c.requires.room)
 
 pub loop-made-preserved : goal.loop-made-preserved
 loop-made-preserved g c = (
