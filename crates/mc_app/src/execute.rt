@@ -67,7 +67,6 @@ impl From<AllocError> for ExecuteError {
 /// is no command, or names a replica or a message that isn't there, and then nothing is written and nothing changes.
 /// `Failed` comes only where the sink failed, and then some first bytes of the reply are written. Under `Memory`
 /// nothing is written, and the command was done, or nothing or a part of it.
-#[tactic(auto, using(mc_seats::proofs::StayFacts::all_stay))]
 pub fn execute_line<
     K: Keeper + Send + Sync,
     O: Sink,

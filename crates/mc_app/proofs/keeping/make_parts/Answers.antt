@@ -1,5 +1,5 @@
 use Rattle.std.proofs.Common.{arith, refl, rules, ◌∙◌}
-use Rattle.mc_app.proofs.KeepingFacts.{made_more, making_ends, making_more}
+use Rattle.mc_app.proofs.KeepingFacts.{made_more, making_ends, making_more, making_none}
 use Rattle.mc_seats.proofs.MemberWords.{members}
 use Rattle.mc_app.proofs.keeping.make_parts.Goals as goal
 
@@ -32,3 +32,6 @@ returns-clause-made g c = rw c.from_vec-2.ensures c.loop-index.invariant.made
 
 pub returns-clause-plain : goal.returns-clause-plain
 returns-clause-plain g c = rw c.from_vec-2.ensures c.loop-index.invariant.making.plain
+
+pub returns-in_default-clause-taken : goal.returns-in_default-clause-taken
+returns-in_default-clause-taken g c = making_none g.K.Keepers.makes g.K.Keepers.takes (members g.K.K.Keeper g.K.K.Counted) c.args.plan.now _ c.args.keepers.now
