@@ -87,7 +87,7 @@ many_more : {K D : Type 0} (count : ℕ) (parts : List (Part (Fused K) D)) (part
 many_more count parts part many = ap length (made_append parts part) ∙ length-append (made_of parts) (part.keeper.keeper ∷ []) ∙ ap (λ n. n + 1) many
 
 -- keepers that are made one after the other
-module _ {M K D : Type 0} (makes : M → KeeperPlan → ℕ → Result K KeepError → M → Type 0) (plan : KeeperPlan) where
+module _ {M K : Type 0} (makes : M → KeeperPlan → ℕ → Result K KeepError → M → Type 0) (plan : KeeperPlan) where
   made_next : (index : ℕ) (first mid last : M) (keepers : List K) (keeper : K) → MadeFrom makes plan index first keepers mid → makes mid plan (index + length keepers) (Ok keeper) last → MadeFrom makes plan index first (keepers ++ keeper ∷ []) last
   made_next index first mid last [] keeper made next =
       let here : index + 0 ≡ index = omega arith in (last, subst (λ (m : M). makes m plan index (Ok keeper) last) made (subst (λ (n : ℕ). makes mid plan n (Ok keeper) last) here next), refl)
@@ -95,7 +95,7 @@ module _ {M K D : Type 0} (makes : M → KeeperPlan → ℕ → Result K KeepErr
       let there : index + suc (length keepers) ≡ index + 1 + length keepers = omega arith in
       (made.0, made.1, made_next (index + 1) made.0 mid last keepers keeper made.2 (subst (λ (n : ℕ). makes mid plan n (Ok keeper) last) there next))
 
-  pub made_more : (count : ℕ) (first mid last : M) (parts : List (Part (Fused K) D)) (part : Part (Fused K) D) → MadeFrom makes plan 0 first (made_of parts) mid → length (made_of parts) ≡ count → makes mid plan count (Ok part.keeper.keeper) last → MadeFrom makes plan 0 first (made_of (parts ++ part ∷ [])) last
+  pub made_more : {D : Type 0} (count : ℕ) (first mid last : M) (parts : List (Part (Fused K) D)) (part : Part (Fused K) D) → MadeFrom makes plan 0 first (made_of parts) mid → length (made_of parts) ≡ count → makes mid plan count (Ok part.keeper.keeper) last → MadeFrom makes plan 0 first (made_of (parts ++ part ∷ [])) last
   made_more count first mid last parts part made many next =
       let here : count ≡ 0 + length (made_of parts) = omega (arith, many) in
       subst (λ (l : List K). MadeFrom makes plan 0 first l last) (sym (made_append parts part))
