@@ -41,6 +41,7 @@ use Rattle.mc_seats.specs.Words.{ActsOn, CastActs, EarlyRow, KeeperGoes, SaysHea
 use Rattle.mc_seats.specs.Worlds.{AtPlace, MovedAt, Place, WorldState, is_down, places_of, state_at}
 use Rattle.mc_seats.proofs.SeatFacts.{all_of_set, both, first, get_of_set, paid_beside, paid_none, paid_of_set, rest, set_of_get}
 use Rattle.mc_seats.proofs.WorkedFacts.{pull_by, short_from}
+use Rattle.mc_seats.proofs.StayFacts.{same_stay}
 
 -- a command of one replica
 pub record OneBy (w : WorldState) (d : Doing) (r : ℕ) : Type 0 where
@@ -225,6 +226,7 @@ module _ {K D : Type 0} {g : keeper.Ghosts K D} {h : counted.Ghosts K} {i : coun
         (subst (λ (l : List (List D)). list_all (λ (list : List D). list_all (is_calm_desk k desk_faults) list) l ≡ true) (sym desks) (rest _ _ is));
     own_later = subst (λ (l : List (Seat K D g h i)). AllLater (λ (seat : Seat K D g h i). k.own (keeper_of seat)) old.seats.items l) (sym seats) (later_same (λ (seat : Seat K D g h i). k.own (keeper_of seat)) old.seats.items);
     desks_later = subst (λ (l : List (List D)). AllLater (λ (list : List D). sum_by desk_faults list) old.desks.items l) (sym desks) (later_same (λ (list : List D). sum_by desk_faults list) old.desks.items);
+    desks_stay = same_stay k desk_faults old.desks.items new.desks.items desks;
   }
 
   -- and no fault is answered
@@ -241,6 +243,7 @@ module _ {K D : Type 0} {g : keeper.Ghosts K D} {h : counted.Ghosts K} {i : coun
     own_later = subst (λ (l : List (Seat K D g h i)). AllLater (λ (seat : Seat K D g h i). k.own (keeper_of seat)) old.seats.items l) (sym seats)
         (later_set (λ (seat : Seat K D g h i). k.own (keeper_of seat)) old.seats.items old.seats.items r x y (later_same (λ (seat : Seat K D g h i). k.own (keeper_of seat)) old.seats.items) stands goes.paid.later);
     desks_later = subst (λ (l : List (List D)). AllLater (λ (list : List D). sum_by desk_faults list) old.desks.items l) (sym desks) (later_same (λ (list : List D). sum_by desk_faults list) old.desks.items);
+    desks_stay = same_stay k desk_faults old.desks.items new.desks.items desks;
   }
     where
       desks_sum : List (List D) → ℕ

@@ -23,7 +23,7 @@ use Rattle.mc_seats.specs.declared.world.World.{World}
 use Rattle.mc_seats.specs.Asks.{among_by, arms, focus, focus_by, has_message, is_named, is_there}
 use Rattle.mc_seats.specs.Doing.{At, Doing, Hears, doing}
 use Rattle.mc_acts.specs.Counting.{HasRecord, desk_counts, entry_since, firsts, keeper_counts, risen_from, rises, seconds}
-use Rattle.mc_seats.specs.Keepers.{AllLater, IsPaid, WorldGoes, armed_in, counted_in, desk_count, desks_in, is_calm, is_calm_desk, is_calm_keeper, keeper_of, own_in}
+use Rattle.mc_seats.specs.Keepers.{AllLater, DesksStay, IsPaid, WorldGoes, armed_in, counted_in, desk_count, desks_in, is_calm, is_calm_desk, is_calm_keeper, keeper_of, own_in}
 use Rattle.mc_seats.specs.Effects.{Leaves}
 use Rattle.mc_seats.specs.Record.{NamesRisen, RoseAt, RoseIn}
 use Rattle.mc_seats.specs.Step.{LeavesStep, Row, ShortIn, is_fault}
@@ -32,6 +32,7 @@ use Rattle.mc_seats.specs.Worlds.{MovedAt, WorldState, places_of}
 use Rattle.mc_seats.proofs.SeatFacts.{both, fewer, first, paid_none, rest, set_of_get}
 use Rattle.mc_acts.proofs.LiftFacts.{later_same, short_self}
 use Rattle.mc_seats.proofs.WorkedFacts.{cut_map, short_still}
+use Rattle.mc_seats.proofs.StayFacts.{all_stay}
 
 -- whether the counts at a place rose
 
@@ -209,6 +210,7 @@ module _ {K D : Type 0} {g : keeper.Ghosts K D} {h : counted.Ghosts K} {i : coun
     calm = λ is. subst (λ b. b ≡ true) (sym calms) (goes.calm is);
     own_later = subst (λ (l : List (Seat K D g h i)). AllLater (λ (seat : Seat K D g h i). k.own (keeper_of seat)) w0.seats.items l) (λ t. (sym same.seats_same t).items) goes.own_later;
     desks_later = subst (λ (l : List (List D)). AllLater (λ (list : List D). sum_by desk_faults list) w0.desks.items l) (λ t. (sym same.desks_same t).items) goes.desks_later;
+    desks_stay = subst (DesksStay k desk_faults w0.desks.items) (λ t. (sym same.desks_same t).items) goes.desks_stay;
   }
     where
       counts : counted_in k desk_faults w2 ≡ counted_in k desk_faults w1
@@ -300,7 +302,7 @@ module _ {K D : Type 0} {g : keeper.Ghosts K D} {h : counted.Ghosts K} {i : coun
   act_goes w0 w1 w2 command reply entries acts same = goes_on _ _ w0 w1 w2 entries same acts.goes
 
   pub fewer_faults : (faults arming : ℕ) (w0 w1 : World K D g h i) → WorldGoes k desk_faults faults arming w0 w1 → WorldGoes k desk_faults 0 arming w0 w1
-  fewer_faults faults arming w0 w1 goes = record { paid = fewer faults arming _ _ _ _ goes.paid; calm = goes.calm; own_later = goes.own_later; desks_later = goes.desks_later }
+  fewer_faults faults arming w0 w1 goes = record { paid = fewer faults arming _ _ _ _ goes.paid; calm = goes.calm; own_later = goes.own_later; desks_later = goes.desks_later; desks_stay = goes.desks_stay }
 
   pub nothing_goes : (arming : ℕ) (w : World K D g h i) → WorldGoes k desk_faults 0 arming w w
   nothing_goes arming w = record {
@@ -308,4 +310,5 @@ module _ {K D : Type 0} {g : keeper.Ghosts K D} {h : counted.Ghosts K} {i : coun
     calm = λ is. is;
     own_later = later_same (λ (seat : Seat K D g h i). k.own (keeper_of seat)) w.seats.items;
     desks_later = later_same (λ (list : List D). sum_by desk_faults list) w.desks.items;
+    desks_stay = all_stay k desk_faults w.desks.items;
   }

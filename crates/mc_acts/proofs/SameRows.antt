@@ -42,6 +42,7 @@ use Rattle.mc_acts.proofs.LiftFacts.{around_goes, at_place, later_same, later_se
 use Rattle.mc_acts.proofs.RecordFacts.{get_within}
 use Rattle.mc_acts.proofs.SameFacts.{length_stays, places_stay, up_read}
 use Rattle.mc_seats.proofs.SeatFacts.{all_of_set, both, first, get_of_set, paid_beside, paid_none, paid_of_set, rest}
+use Rattle.mc_seats.proofs.StayFacts.{same_stay}
 
 -- two lists with the same members
 
@@ -170,6 +171,7 @@ module _ {K D : Type 0} {g : keeper.Ghosts K D} {h : counted.Ghosts K} {i : coun
     calm = λ is. both _ _ (calm (first _ _ is)) (subst (λ (l : List (List D)). list_all (λ (list : List D). list_all (is_calm_desk k desk_faults) list) l ≡ true) (sym same.desks) (rest _ _ is));
     own_later = later;
     desks_later = subst (λ (l : List (List D)). AllLater (λ (list : List D). sum_by desk_faults list) old.desks.items l) (sym same.desks) (later_same (λ (list : List D). sum_by desk_faults list) old.desks.items);
+    desks_stay = same_stay k desk_faults old.desks.items new.desks.items same.desks;
   }
 
   goes_read : (old new : World K D g h i) → OnlyRead old new → AllStay k old.seats.items new.seats.items → WorldGoes k desk_faults 0 0 old new

@@ -48,6 +48,7 @@ use Rattle.mc_seats.proofs.BeginFacts.{allowed_at, is_no_error, never, short_is_
 use Rattle.mc_seats.proofs.DeliverFacts.{in_flight}
 use Rattle.mc_seats.proofs.GoesFacts.{keeper_same, keeper_then}
 use Rattle.mc_seats.proofs.PeerFacts.{all_still}
+use Rattle.mc_seats.proofs.StayFacts.{all_go}
 use Rattle.mc_acts.proofs.LiftFacts.{later_same, later_set}
 
 -- what is found is the first with the digest
@@ -321,6 +322,7 @@ module _ {K D : Type 0} {g : keeper.Ghosts K D} {h : counted.Ghosts K} {i : coun
       calm = calm_in goes;
       own_later = own_later_in goes;
       desks_later = each_desks_later k desk_faults quiet old.desks.items new.desks.items desks;
+      desks_stay = all_go k desk_faults quiet old.desks.items new.desks.items desks;
     }
 
     pub goes_failed : (row : List Bool) → PeerFailed desk_faults row old.desks.items new.desks.items → KeeperGoes k 0 0 (keeper_of x) (keeper_of y) → WorldGoes k desk_faults 1 0 old new
@@ -331,6 +333,7 @@ module _ {K D : Type 0} {g : keeper.Ghosts K D} {h : counted.Ghosts K} {i : coun
           calm = calm_in goes;
           own_later = own_later_in goes;
           desks_later = each_desks_later k desk_faults quiet old.desks.items new.desks.items desks;
+          desks_stay = all_go k desk_faults quiet old.desks.items new.desks.items desks;
         }
 
 -- a job that has begun is in flight

@@ -1,11 +1,12 @@
 -- The keepers of a run, made and given back one after another.
-use Rattle.std.proofs.Common.{◌≡◌, ◌≤◌, ◌<◌, ◌+◌, ◌-◌, ◌^◌, ℕ, zero, suc, Bool, true, List, [], ◌∷◌, ◌++◌, length, take, Option, Result, Ok, Err, refl, sym, ap, subst, ◌∙◌, inl, inr, arith, append_assoc}
-use Rattle.std.specs.Prelude.{min}
-use Rattle.std.specs.List.{sum_by}
+use Rattle.std.proofs.Common.{◌≡◌, ◌≤◌, ◌<◌, ◌+◌, ◌-◌, ◌^◌, ℕ, zero, suc, Bool, true, List, [], ◌∷◌, ◌++◌, length, length-append, take, Option, Result, Ok, Err, refl, sym, ap, subst, ◌∙◌, inl, inr, arith, append_assoc}
+use Rattle.std.specs.Prelude.{map, min}
+use Rattle.std.specs.List.{AllByRecursion, AllZip, sum_by}
 use Rattle.std.proofs.lemmas.List.{append-nil}
 use Rattle.std.proofs.lemmas.List.Folds.{list_all-append}
 use Rattle.std.proofs.lemmas.List.Sums.{sum_by-append, sum_by-cons}
 use Rattle.mc_keep.specs.Calls.{Members}
+use Rattle.mc_keep.specs.Plan.{Schedule}
 use Rattle.mc_keep.specs.Fused.{faults_in, quiet_in, schedule_in}
 use Rattle.mc_keep.specs.declared.error.KeepError.{KeepError}
 use Rattle.mc_keep.specs.declared.fuse.Fuse.{Fuse}
@@ -15,10 +16,10 @@ use Rattle.mc_model.specs.Kept.{Kept}
 use Rattle.mc_seats.specs.declared.world.Part.{Part}
 use Rattle.mc_seats.specs.Keepers.{is_calm_keeper}
 use Rattle.mc_seats.specs.Openings.{AreFresh, IsFresh, are_calm, owns_of, starts_of}
-use Rattle.mc_app.specs.Keeping.{HaveDesks, HaveSome, TakesParts}
-use Rattle.mc_app.specs.Outcome.{MadeFrom, TakenFrom, TakesSome, starts_from}
-use Rattle.mc_seats.specs.Desked.{desks_each}
+use Rattle.mc_app.specs.Keeping.{ArePlain, TakesParts, made_of}
+use Rattle.mc_app.specs.Outcome.{AreOwnDesks, HasSome, MadeFrom, TakenFrom, TakesSome, starts_from}
 use Rattle.mc_seats.proofs.OpeningFacts.{both_true}
+use Rattle.mc_seats.proofs.StayFacts.{of_none}
 
 -- what a fused keeper tells, by the one inside
 abbrev pub told_in : {K : Type 0} → (K → Option Kept) → Fused K → Option Kept
@@ -70,29 +71,35 @@ module _ {M K D : Type 0} (takes : M → K → List D → M → Type 0) where
     back_lost first last all [] back none = omega (arith, back.later, back.total)
     back_lost first last all (part ∷ parts) back none = absurd (omega (arith, none))
 
-  -- what they tell, and how many desks each has
-  pub taken_told : (told : K → Option Kept) (Many : ℕ → Type 0) (first last : M) (parts : List (Part (Fused K) D)) → TakesParts takes first parts last → HaveDesks Many parts → TakenFrom takes told Many first (starts_of (told_in told) parts) last
-  taken_told told Many first last [] taken have = taken
-  taken_told told Many first last (part ∷ parts) taken have = (part.keeper.keeper, part.desks, taken.0, taken.1, refl, have.0, taken_told told Many taken.0 last parts taken.2 have.1)
+  -- each is taken back for one that was made
+  pub taken_told : (told : K → Option Kept) (Fits : K → List D → Type 0) (keepers : List K) (first last : M) (backs : List (Part (Fused K) D)) → AllZip (λ (made : K) (back : Part (Fused K) D). Fits made back.desks) keepers backs → TakesParts takes first backs last
+      → TakenFrom takes told Fits first keepers (starts_of (told_in told) backs) last
+  taken_told told Fits [] first last [] fit taken = taken
+  taken_told told Fits [] first last (back ∷ backs) fit taken = absurd fit
+  taken_told told Fits (made ∷ keepers) first last [] fit taken = absurd fit
+  taken_told told Fits (made ∷ keepers) first last (back ∷ backs) fit taken = (back.keeper.keeper, back.desks, taken.0, taken.1, refl, fit.0, taken_told told Fits keepers taken.0 last backs fit.1 taken.2)
+
+made_append : {K D : Type 0} (parts : List (Part (Fused K) D)) (part : Part (Fused K) D) → made_of (parts ++ part ∷ []) ≡ made_of parts ++ part.keeper.keeper ∷ []
+made_append [] part = refl
+made_append (front ∷ parts) part = ap (λ l. front.keeper.keeper ∷ l) (made_append parts part)
+
+many_more : {K D : Type 0} (count : ℕ) (parts : List (Part (Fused K) D)) (part : Part (Fused K) D) → length (made_of parts) ≡ count → length (made_of (parts ++ part ∷ [])) ≡ count + 1
+many_more count parts part many = ap length (made_append parts part) ∙ length-append (made_of parts) (part.keeper.keeper ∷ []) ∙ ap (λ n. n + 1) many
 
 -- keepers that are made one after the other
-module _ {M K : Type 0} (makes : M → KeeperPlan → ℕ → Result K KeepError → M → Type 0) (told : K → Option Kept) (plan : KeeperPlan) where
-  made_next : (start : ℕ → Option Kept) (number count : ℕ) (first mid last : M) (keeper : K) → MadeFrom makes told plan number first (starts_from start number count) mid → makes mid plan (number + count) (Ok keeper) last → told keeper ≡ start (number + count)
-      → MadeFrom makes told plan number first (starts_from start number (suc count)) last
-  made_next start number zero first mid last keeper made next is =
-      let here : number + 0 ≡ number = omega arith in
-      (keeper, last, subst (λ (m : M). makes m plan number (Ok keeper) last) made (subst (λ (n : ℕ). makes mid plan n (Ok keeper) last) here next), is ∙ ap start here, refl)
-  made_next start number (suc count) first mid last keeper made next is =
-      let there : number + suc count ≡ number + 1 + count = omega arith in
-      (made.0, made.1, made.2, made.3, made_next start (number + 1) count made.1 mid last keeper made.4 (subst (λ (n : ℕ). makes mid plan n (Ok keeper) last) there next) (is ∙ ap start there))
+module _ {M K : Type 0} (makes : M → KeeperPlan → ℕ → Result K KeepError → M → Type 0) (plan : KeeperPlan) where
+  made_next : (index : ℕ) (first mid last : M) (keepers : List K) (keeper : K) → MadeFrom makes plan index first keepers mid → makes mid plan (index + length keepers) (Ok keeper) last → MadeFrom makes plan index first (keepers ++ keeper ∷ []) last
+  made_next index first mid last [] keeper made next =
+      let here : index + 0 ≡ index = omega arith in (last, subst (λ (m : M). makes m plan index (Ok keeper) last) made (subst (λ (n : ℕ). makes mid plan n (Ok keeper) last) here next), refl)
+  made_next index first mid last (front ∷ keepers) keeper made next =
+      let there : index + suc (length keepers) ≡ index + 1 + length keepers = omega arith in
+      (made.0, made.1, made_next (index + 1) made.0 mid last keepers keeper made.2 (subst (λ (n : ℕ). makes mid plan n (Ok keeper) last) there next))
 
-  pub made_more : (start start_now : ℕ → Option Kept) (count : ℕ) (first mid last : M) (keeper : K) → MadeFrom makes told plan 0 first (starts_from start 0 count) mid → ((index : ℕ) → start_now index ≡ start index) → makes mid plan count (Ok keeper) last → told keeper ≡ start_now count
-      → MadeFrom makes told plan 0 first (starts_from start 0 (count + 1)) last
-  made_more start start_now count first mid last keeper made same next is =
-      let here : count ≡ 0 + count = omega arith in
-      let next_count : suc count ≡ count + 1 = omega arith in
-      subst (λ (n : ℕ). MadeFrom makes told plan 0 first (starts_from start 0 n) last) next_count
-      (made_next start 0 count first mid last keeper made (subst (λ (n : ℕ). makes mid plan n (Ok keeper) last) here next) (is ∙ same count ∙ ap start here))
+  pub made_more : {D : Type 0} (count : ℕ) (first mid last : M) (parts : List (Part (Fused K) D)) (part : Part (Fused K) D) → MadeFrom makes plan 0 first (made_of parts) mid → length (made_of parts) ≡ count → makes mid plan count (Ok part.keeper.keeper) last → MadeFrom makes plan 0 first (made_of (parts ++ part ∷ [])) last
+  made_more count first mid last parts part made many next =
+      let here : count ≡ 0 + length (made_of parts) = omega (arith, many) in
+      subst (λ (l : List K). MadeFrom makes plan 0 first l last) (sym (made_append parts part))
+      (made_next 0 first mid last (made_of parts) part.keeper.keeper made (subst (λ (n : ℕ). makes mid plan n (Ok part.keeper.keeper) last) here next))
 
 -- the members of a fused keeper, by those of the one inside
 abbrev pub fused_members : {K D : Type 0} → Members K D → Members (Fused K) D
@@ -131,51 +138,73 @@ fresh_append : {K D : Type 0} (told : K → Option Kept) (fuse : K → Option Fu
 fresh_append told fuse [] part all one = (one, tt)
 fresh_append told fuse (first ∷ parts) part all one = (all.0, fresh_append told fuse parts part all.1 one)
 
-module _ {K D : Type 0} (k : Members (Fused K) D) where
+plain_push : {K D : Type 0} (planned : Fused K → Option Schedule) (schedule : K → Option Schedule) (parts : List (Part (Fused K) D)) (part : Part (Fused K) D) → AllByRecursion (λ (p : Part (Fused K) D). planned p.keeper ≡ schedule p.keeper.keeper) parts → planned part.keeper ≡ schedule part.keeper.keeper
+    → AllByRecursion (λ (p : Part (Fused K) D). planned p.keeper ≡ schedule p.keeper.keeper) (parts ++ part ∷ [])
+plain_push planned schedule [] part all one = (one, tt)
+plain_push planned schedule (front ∷ parts) part all one = (all.0, plain_push planned schedule parts part all.1 one)
+
+module _ {K D : Type 0} (k : Members (Fused K) D) (schedule : K → Option Schedule) where
   -- where the loop stands that makes keepers
   pub record IsMaking (start : ℕ → Option Kept) (quiet : Bool) (parts : List (Part (Fused K) D)) (count : ℕ) : Type 0 where
     pub starts : starts_of k.told parts ≡ starts_from start 0 count
     pub fresh : AreFresh k.told k.fuse parts
     pub counted : owns_of k parts ≡ 0
     pub calm : quiet ≡ true → are_calm k parts ≡ true
+    pub plain : ArePlain k.schedule schedule parts
+    pub many : length (made_of parts) ≡ count
 
   pub making_begins : (start : ℕ → Option Kept) (quiet : Bool) (parts : List (Part (Fused K) D)) → parts ≡ [] → IsMaking start quiet parts 0
-  making_begins start quiet parts none = subst (λ (l : List (Part (Fused K) D)). IsMaking start quiet l 0) (sym none) (record { starts = refl; fresh = tt; counted = refl; calm = λ e. refl })
+  making_begins start quiet parts none = subst (λ (l : List (Part (Fused K) D)). IsMaking start quiet l 0) (sym none) (record { starts = refl; fresh = tt; counted = refl; calm = λ e. refl; plain = record { each = tt }; many = refl })
 
   pub making_more : (start start_now : ℕ → Option Kept) (quiet quiet_now : Bool) (parts : List (Part (Fused K) D)) (count : ℕ) (part : Part (Fused K) D) → IsMaking start quiet parts count → ((index : ℕ) → start_now index ≡ start index) → quiet_now ≡ quiet
-      → k.told part.keeper ≡ start_now count → IsFresh k.told k.fuse part → k.own part.keeper ≡ 0 → (quiet_now ≡ true → is_calm_keeper k part.keeper ≡ true) → IsMaking start quiet (parts ++ part ∷ []) (count + 1)
-  making_more start start_now quiet quiet_now parts count part making same same_quiet told fresh own calm = record {
+      → k.told part.keeper ≡ start_now count → IsFresh k.told k.fuse part → k.own part.keeper ≡ 0 → (quiet_now ≡ true → is_calm_keeper k part.keeper ≡ true) → k.schedule part.keeper ≡ schedule part.keeper.keeper → IsMaking start quiet (parts ++ part ∷ []) (count + 1)
+  making_more start start_now quiet quiet_now parts count part making same same_quiet told fresh own calm plain = record {
     starts = starts_append k.told parts part ∙ ap (λ l. l ++ k.told part.keeper ∷ []) making.starts ∙ ap (λ t. starts_from start 0 count ++ t ∷ []) (told ∙ same count) ∙ sym (starts_one_more start count);
     fresh = fresh_append k.told k.fuse parts part making.fresh fresh;
     counted = sum_by-append (λ (p : Part (Fused K) D). k.own p.keeper) parts (part ∷ []) ∙ omega (arith, making.counted, own, sum_by-cons (λ (p : Part (Fused K) D). k.own p.keeper) part []);
     calm = λ e. list_all-append (λ (p : Part (Fused K) D). is_calm_keeper k p.keeper) parts (part ∷ []) ∙ both_true (making.calm e) (both_true (calm (same_quiet ∙ e)) refl);
+    plain = record { each = plain_push k.schedule schedule parts part making.plain.each plain };
+    many = many_more count parts part making.many;
   }
-
--- those that were made are given back, and have no desks yet
-fresh_few : {K D : Type 0} (told : K → Option Kept) (fuse : K → Option Fuse) (parts : List (Part K D)) → AreFresh told fuse parts → HaveSome parts
-fresh_few told fuse [] fresh = tt
-fresh_few told fuse (part ∷ parts) fresh = let none = ap length fresh.0.no_desks in (omega (arith, none), fresh_few told fuse parts fresh.1)
 
 starts_many : (start : ℕ → Option Kept) (number count : ℕ) → length (starts_from start number count) ≡ count
 starts_many start number zero = refl
 starts_many start number (suc count) = let rest = starts_many start (number + 1) count in omega (arith, rest)
 
-module _ {M K D : Type 0} (makes : M → KeeperPlan → ℕ → Result K KeepError → M → Type 0) (takes : M → K → List D → M → Type 0) (told : K → Option Kept) (plan : KeeperPlan) where
+-- those that were made tell what their parts do
+pub told_of : {K D : Type 0} (told : K → Option Kept) (parts : List (Part (Fused K) D)) → map told (made_of parts) ≡ starts_of (told_in told) parts
+told_of told [] = refl
+told_of told (part ∷ parts) = ap (λ l. told part.keeper.keeper ∷ l) (told_of told parts)
+
+module _ {M K D : Type 0} (makes : M → KeeperPlan → ℕ → Result K KeepError → M → Type 0) (takes : M → K → List D → M → Type 0) (k : Members K D) (plan : KeeperPlan) where
+  abbrev pub OwnDesks : K → List D → Type 0
+  OwnDesks = AreOwnDesks k.schedule k.desk_schedule
+
+  -- those that were made are given back, and have no desks yet
+  fresh_fit : (parts : List (Part (Fused K) D)) → AreFresh (fused_members k).told (fused_members k).fuse parts → AllZip (λ (made : K) (back : Part (Fused K) D). HasSome OwnDesks made back.desks) (made_of parts) parts
+  fresh_fit [] fresh = tt
+  fresh_fit (part ∷ parts) fresh = let none = ap length fresh.0.no_desks in ((omega (arith, none), of_none k.desk_schedule (k.schedule part.keeper.keeper) part.desks fresh.0.no_desks), fresh_fit parts fresh.1)
+
   -- the keeper behind so many was not made, and these are taken back
-  pub making_ends : (k : Members (Fused K) D) (start : ℕ → Option Kept) (quiet : Bool) (parts : List (Part (Fused K) D)) (count many : ℕ) (first made before last : M) → k.told ≡ told_in told → IsMaking k start quiet parts count → count < many
-      → MadeFrom makes told plan 0 first (starts_from start 0 count) made → (error : KeepError) × makes made plan count (Err error) before → TakesParts takes before parts last → TakesSome makes takes told plan first (starts_from start 0 many) last
-  making_ends k start quiet parts count many first made before last same making few so_far unmade taken =
-      let some : take count (starts_from start 0 many) ≡ starts_from start 0 count = take_starts start 0 many count (omega (arith, few)) in (
-        count,
-        made,
-        before,
-        subst (λ (l : List (Option Kept)). MadeFrom makes told plan 0 first l made) (sym some) so_far,
-        inr (subst (λ (n : ℕ). count < n) (sym (starts_many start 0 many)) few, unmade.0, unmade.1),
-        subst (λ (l : List (Option Kept)). TakenFrom takes told (λ many. many ≤ desks_each) before l last)
-            (ap (λ (f : Fused K → Option Kept). starts_of f parts) (sym same) ∙ making.starts ∙ sym some)
-            (taken_told takes told (λ many. many ≤ desks_each) before last parts taken (fresh_few k.told k.fuse parts making.fresh)),
+  pub making_ends : (start : ℕ → Option Kept) (quiet : Bool) (parts : List (Part (Fused K) D)) (count many : ℕ) (first made before last : M) → IsMaking (fused_members k) k.schedule start quiet parts count → count < many
+      → MadeFrom makes plan 0 first (made_of parts) made → (error : KeepError) × makes made plan count (Err error) before → TakesParts takes before parts last → TakesSome makes takes k.told OwnDesks plan first (starts_from start 0 many) last
+  making_ends start quiet parts count many first made before last making few so_far unmade taken =
+      let told_is : map k.told (made_of parts) ≡ starts_from start 0 count = told_of k.told parts ∙ making.starts in (
+        made_of parts,
+        (
+          made,
+          before,
+          so_far,
+          told_is ∙ sym (take_starts start 0 many count (omega (arith, few))) ∙ ap (λ n. take n (starts_from start 0 many)) (sym making.many),
+          inr (
+            omega (arith, few, making.many, starts_many start 0 many),
+            unmade.0,
+            subst (λ (n : ℕ). makes made plan n (Err unmade.0) before) (sym making.many) unmade.1,
+          ),
+          subst (λ (l : List (Option Kept)). TakenFrom takes k.told (HasSome OwnDesks) before (made_of parts) l last) (sym (told_of k.told parts)) (taken_told takes k.told (HasSome OwnDesks) (made_of parts) before last parts (fresh_fit parts making.fresh) taken),
+        ),
       )
 
   -- no keeper was made
-  pub making_none : (starts : List (Option Kept)) (last : M) → TakesSome makes takes told plan last starts last
-  making_none starts last = (0, last, last, refl, inl refl, refl)
+  pub making_none : (starts : List (Option Kept)) (last : M) → TakesSome makes takes k.told OwnDesks plan last starts last
+  making_none starts last = ([], (last, last, refl, refl, inl refl, refl))

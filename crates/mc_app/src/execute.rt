@@ -7,6 +7,7 @@ ghost use Rattle.mc_script.specs.Limits.{IsInLimits};
 ghost use Rattle.mc_script.specs.Line.{line_of};
 ghost use Rattle.mc_script.specs.ReplyText.{reply_text};
 ghost use Rattle.mc_seats.specs.Asks.{is_there};
+ghost use Rattle.mc_seats.specs.Keepers.{DesksStay};
 ghost use Rattle.mc_app.specs.LineWords.{
   AnswersIn,
   CutsShortIn,
@@ -94,6 +95,7 @@ where
     ensures memory { IsErrOf result ExecuteError.Memory → Keeps (O.written out.old) (O.written out.new) }
     ensures short { IsErrOf result ExecuteError.Memory →
         LineShortIn ⟦<Fused<K> as Keeper>⟧ K.Desk.faults (line_of line.now) world.old world.new }
+    ensures desks { DesksStay ⟦<Fused<K> as Keeper>⟧ K.Desk.faults world.old.desks.items world.new.desks.items }
     ensures entries { IsLonger world.old.entries world.new.entries }
     ensures cause { Counts (O.faults out.old) (O.faults out.new) (IsErrOf result ExecuteError.Failed) }
 {
@@ -136,6 +138,7 @@ where
     ensures memory { IsErrOf result ExecuteError.Memory → Keeps (O.written out.old) (O.written out.new) }
     ensures short { IsErrOf result ExecuteError.Memory →
         LineShortIn ⟦<Fused<K> as Keeper>⟧ K.Desk.faults (line_of line.now) world.old world.new }
+    ensures desks { DesksStay ⟦<Fused<K> as Keeper>⟧ K.Desk.faults world.old.desks.items world.new.desks.items }
     ensures entries { world.new.entries ≡ [] }
     ensures cause { Counts (O.faults out.old) (O.faults out.new) (IsErrOf result ExecuteError.Failed) }
 {
@@ -177,6 +180,7 @@ where
     ensures memory { IsErrOf result ExecuteError.Memory → Keeps (O.written out.old) (O.written out.new) }
     ensures short { IsErrOf result ExecuteError.Memory →
         CutsShortIn ⟦<Fused<K> as Keeper>⟧ K.Desk.faults command.now world.old world.new }
+    ensures desks { DesksStay ⟦<Fused<K> as Keeper>⟧ K.Desk.faults world.old.desks.items world.new.desks.items }
     ensures entries { IsLonger world.old.entries world.new.entries }
     ensures cause { Counts (O.faults out.old) (O.faults out.new) (IsErrOf result ExecuteError.Failed) }
 {
@@ -226,6 +230,7 @@ where
         × (world.new ≡ world.old) }
     ensures short { IsErrOf result ActError.Memory →
         CutsShortIn ⟦<Fused<K> as Keeper>⟧ K.Desk.faults command.now world.old world.new }
+    ensures desks { DesksStay ⟦<Fused<K> as Keeper>⟧ K.Desk.faults world.old.desks.items world.new.desks.items }
     ensures entries { IsLonger world.old.entries world.new.entries }
 {
     act(world, alloc, command, gate, threads, wait)

@@ -6,11 +6,12 @@ ghost use Rattle.mc_gen.specs.Script.{script_text};
 ghost use Rattle.mc_gen.specs.Summary.{Sums, summary_text};
 ghost use Rattle.mc_keepers.specs.declared.keepers.KeeperPlan.TheVariants.{Memory as InMemory};
 ghost use Rattle.mc_app.specs.Generating.{EndsSummary, Generates};
-ghost use Rattle.mc_seats.specs.Keepers.{armed_in, counted_in, is_calm};
-ghost use Rattle.mc_app.specs.Keeping.{EndsParts, HaveAll, HaveSome};
+ghost use Rattle.mc_seats.specs.Keepers.{DesksStay, armed_in, counted_in, is_calm};
+ghost use Rattle.mc_app.specs.Keeping.{AreOwnParts, EndsParts, HaveAll, desks_of};
 ghost use Rattle.mc_app.specs.LineWords.{MayEnd};
 ghost use Rattle.mc_seats.specs.Openings.{AreFresh, are_calm, counted_of, owns_of, starts_of};
-ghost use Rattle.mc_app.specs.Outcome.{CountsKeepers, EndsAt, HandsBack, TakesSome, contents_of, starts_from};
+ghost use Rattle.mc_app.specs.Outcome.{AreOwnDesks, CountsKeepers, EndsAt, HandsBack, TakesSome, contents_of};
+ghost use Rattle.mc_app.specs.Outcome.{starts_from};
 ghost use Rattle.mc_runs.specs.Runs.{MayAnswer};
 ghost use Rattle.mc_seats.specs.Words.{state, tally};
 ghost use Rattle.mc_seats.specs.Starts.{IsFirst};
@@ -52,14 +53,15 @@ where
     requires { count ≤ 100000 }
     ensures no_usage { result ≢ Status.Usage }
     ensures no_read { result ≢ Status.ReadFault }
-    ensures untouched_keepers { result ≡ Status.KeeperFault → TakesSome K.makes K.takes K.K.told InMemory keepers.old
+    ensures untouched_keepers { result ≡ Status.KeeperFault → TakesSome K.makes K.takes K.K.told
+        (AreOwnDesks K.K.schedule K.K.desk_schedule) InMemory keepers.old
         (starts_from (K.starts keepers.old InMemory) 0 3) keepers.new }
-    ensures handed_back { HandsBack K.makes K.takes K.K.told InMemory keepers.old
-        (starts_from (K.starts keepers.old InMemory) 0 3) keepers.new }
+    ensures handed_back { HandsBack K.makes K.takes K.K.told (AreOwnDesks K.K.schedule K.K.desk_schedule) InMemory
+        keepers.old (starts_from (K.starts keepers.old InMemory) 0 3) keepers.new }
     ensures generated { Generates (script_text start count)
         (IsFirst (starts_from (K.starts keepers.old InMemory) 0 3))
         (MayAnswer (K.quiet keepers.old InMemory ≡ true) (K.lost keepers.old) (K.lost keepers.new))
-        (EndsAt K.makes K.takes K.K.told InMemory keepers.old result
+        (EndsAt K.makes K.takes K.K.told (AreOwnDesks K.K.schedule K.K.desk_schedule) InMemory keepers.old result
         (starts_from (K.starts keepers.old InMemory) 0 3) keepers.new)
         result count (O.written out.old) (O.written out.new) }
     ensures write_cause { Counts (O.faults out.old) (O.faults out.new) (result ≡ Status.WriteFault) }
@@ -101,7 +103,7 @@ where
         (counted_of ⟦<Fused<K> as Keeper>⟧ K.Desk.faults result.1))
         (EndsParts ⟦<Fused<K> as Keeper>⟧.told result.0 (starts_of ⟦<Fused<K> as Keeper>⟧.told parts) result.1)
         result.0 count (O.written out.old) (O.written out.new) }
-    ensures few { HaveSome result.1 }
+    ensures own { AreOwnParts ⟦<Fused<K> as Keeper>⟧ parts result.1 }
     ensures same { result.0 ≡ Status.KeeperFault →
         starts_of ⟦<Fused<K> as Keeper>⟧.told result.1 ≡ starts_of ⟦<Fused<K> as Keeper>⟧.told parts }
     ensures write_cause { Counts (O.faults out.old) (O.faults out.new) (result.0 ≡ Status.WriteFault) }
@@ -150,6 +152,7 @@ where
         (λ w. contents_of w ≡ starts_of ⟦<Fused<K> as Keeper>⟧.told result.1)
         result.0 count (O.written out.old) (O.written out.new) }
     ensures full { HaveAll result.1 }
+    ensures desks { DesksStay ⟦<Fused<K> as Keeper>⟧ K.Desk.faults world.desks.items (desks_of result.1) }
     ensures write_cause { Counts (O.faults out.old) (O.faults out.new) (result.0 ≡ Status.WriteFault) }
 {
     let mut world = world;
@@ -180,6 +183,7 @@ where
         (counted_in ⟦<Fused<K> as Keeper>⟧ K.Desk.faults world.new))
         (λ w. w ≡ state ⟦<Fused<K> as Keeper>⟧ K.Desk.faults world.new)
         result count (O.written out.old) (O.written out.new) }
+    ensures desks { DesksStay ⟦<Fused<K> as Keeper>⟧ K.Desk.faults world.old.desks.items world.new.desks.items }
     ensures write_cause { Counts (O.faults out.old) (O.faults out.new) (result ≡ Status.WriteFault) }
 {
     let mut summary = Summary::new(alloc, count);

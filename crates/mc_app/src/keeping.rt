@@ -8,8 +8,8 @@ ghost use Rattle.mc_keep.specs.declared.error.KeepError.{KeepError as MakeError}
 ghost use Rattle.mc_keepers.specs.declared.keepers.KeeperPlan.{KeeperPlan as MadeBy};
 ghost use Rattle.mc_seats.specs.Keepers.{is_calm_keeper};
 ghost use Rattle.mc_seats.specs.Openings.{AreFresh, IsFresh, are_calm, counted_of, owns_of, starts_of};
-ghost use Rattle.mc_app.specs.Outcome.{MadeFrom, TakesSome, starts_from};
-ghost use Rattle.mc_app.specs.Keeping.{TakesParts};
+ghost use Rattle.mc_app.specs.Outcome.{AreOwnDesks, MadeFrom, TakesSome, starts_from};
+ghost use Rattle.mc_app.specs.Keeping.{ArePlain, TakesParts, made_of};
 
 use mc_base::List;
 use mc_core::OpenCause;
@@ -34,10 +34,11 @@ pub(crate) fn make_parts<K: Keepers>(
     ensures calm { K.quiet keepers.old plan.now ≡ true →
         IfOk result (λ parts. are_calm ⟦<Fused<K::K> as Keeper>⟧ parts ≡ true) }
     ensures lost_same { IfOk result (λ _. K.lost keepers.new ≡ K.lost keepers.old) }
-    ensures made { IfOk result (λ _. MadeFrom K.makes K.K.told plan.now 0 keepers.old
-        (starts_from (K.starts keepers.old plan.now) 0 count) keepers.new) }
-    ensures taken { OnErr result (TakesSome K.makes K.takes K.K.told plan.now keepers.old
-        (starts_from (K.starts keepers.old plan.now) 0 count) keepers.new) }
+    ensures made { IfOk result (λ parts.
+        MadeFrom K.makes plan.now 0 keepers.old (made_of parts) keepers.new) }
+    ensures plain { IfOk result (ArePlain ⟦<Fused<K::K> as Keeper>⟧.schedule K.K.schedule) }
+    ensures taken { OnErr result (TakesSome K.makes K.takes K.K.told (AreOwnDesks K.K.schedule K.K.desk_schedule)
+        plan.now keepers.old (starts_from (K.starts keepers.old plan.now) 0 count) keepers.new) }
     ensures lost { OnErr result (min (K.lost keepers.old) (2 ^ 64 - 1) ≤ K.lost keepers.new) }
     ensures fault { IsErrOf result OpenCause.KeeperFault → Rose (K.faults keepers.old) (K.faults keepers.new) }
     ensures later { K.faults keepers.old ≤ K.faults keepers.new }
@@ -73,6 +74,8 @@ fn make_part<K: Keepers>(
         IfOk result (λ part. is_calm_keeper ⟦<Fused<K::K> as Keeper>⟧ part.keeper ≡ true) }
     ensures made { IfOk result (λ part.
         K.makes keepers.old plan.now index (Ok part.keeper.keeper) keepers.new) }
+    ensures plain { IfOk result (λ part.
+        ⟦<Fused<K::K> as Keeper>⟧.schedule part.keeper ≡ K.K.schedule part.keeper.keeper) }
     ensures unmade { OnErr result ((error : MakeError) ×
         K.makes keepers.old plan.now index (Err error) keepers.new) }
     ensures starts_same { (plan : MadeBy) (index : ℕ) →

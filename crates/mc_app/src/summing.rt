@@ -2,7 +2,7 @@
 ghost use Rattle.std.specs.Prelude.{◌≡◌, ℕ, [], OnOk, IsErrOf};
 ghost use Rattle.mc_gen.specs.Summary.{Sums};
 ghost use Rattle.mc_script.specs.Line.{line_of};
-ghost use Rattle.mc_seats.specs.Keepers.{counted_in};
+ghost use Rattle.mc_seats.specs.Keepers.{DesksStay, counted_in};
 ghost use Rattle.mc_app.specs.LineWords.{MayEnd, SameWorld};
 ghost use Rattle.mc_app.specs.Progress.{IsBadCommand};
 ghost use Rattle.mc_app.specs.Summing.{SumsLine, SumsShort, SumsUp};
@@ -48,6 +48,7 @@ where
         (MayEnd (tally ⟦<Fused<K> as Keeper>⟧ K.Desk.faults world.old)
         (counted_in ⟦<Fused<K> as Keeper>⟧ K.Desk.faults world.new))
         (λ w. w ≡ state ⟦<Fused<K> as Keeper>⟧ K.Desk.faults world.new) result count summary.new }
+    ensures desks { DesksStay ⟦<Fused<K> as Keeper>⟧ K.Desk.faults world.old.desks.items world.new.desks.items }
 {
     let mut source = MemorySource::new(script, 0, List::new(alloc));
     let Ok(mut reader) = LineReader::new(alloc) else {
@@ -113,6 +114,7 @@ where
     ensures bad { IsErrOf result ExecuteError.Bad →
         IsBadCommand (state ⟦<Fused<K> as Keeper>⟧ K.Desk.faults world.old) (line_of line.now)
         × SameWorld ⟦<Fused<K> as Keeper>⟧ K.Desk.faults world.old world.new }
+    ensures desks { DesksStay ⟦<Fused<K> as Keeper>⟧ K.Desk.faults world.old.desks.items world.new.desks.items }
     ensures entries { world.new.entries ≡ [] }
 {
     let mut reply = MemorySink::new(Bytes::new(alloc), 0, List::new(alloc));

@@ -9,9 +9,11 @@ pub mod FuseFacts
 pub mod StopFacts
 pub mod ReachFacts
 pub mod CalmFacts
+pub mod OneFused
 pub mod OneFacts
 pub mod OneEvents
 pub mod OneCuts
+pub mod OneBlocks
 pub mod OneClosure
 pub mod OneEnds
 pub mod LowHeights

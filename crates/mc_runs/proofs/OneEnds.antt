@@ -15,20 +15,24 @@ use Rattle.mc_model.specs.Draining as draining
 use Rattle.mc_model.specs.Found.{PeerOffers}
 use Rattle.mc_model.specs.Graph.{cids_in, has, times}
 use Rattle.mc_model.specs.Kept.{Kept}
-use Rattle.mc_model.specs.State.{IsSound, Running, durable_of, wanted_in}
+use Rattle.mc_model.specs.State.{IsSound, Running, blocks_of, durable_of, kept_of, wanted_in}
 use Rattle.mc_model.specs.Wanted.{Queue, bad_cids, held, wanted}
 use Rattle.mc_model.proofs.Counts.{cid_itself, has-append, times-append}
 use Rattle.mc_model.proofs.Drains.{once_in}
 use Rattle.mc_model.proofs.Takings.{taken_so_far}
 use Rattle.mc_model.specs.Drain.{IsSoFar}
-use Rattle.mc_model.specs.Front.{same_cid}
+use Rattle.mc_model.specs.declared.block.Block.{Block}
+use Rattle.mc_model.specs.Front.{gaps, same_cid}
+use Rattle.mc_model.specs.SameMembers.{SameMembers}
 use Rattle.mc_core.specs.Counted.{capped}
 use Rattle.mc_core.specs.Events.{ReplicaState, state_of}
+use Rattle.mc_core.specs.Walks.{gap_count, settled_with}
+use Rattle.mc_core.specs.declared.Settled.{Settled}
 use Rattle.mc_core.specs.declared.CoreError.{CoreError}
 use Rattle.mc_core.specs.declared.CoreError.TheVariants as core
 use Rattle.mc_drain.specs.Finds.{first_bytes, found_from}
 use Rattle.mc_drain.specs.Leads.{count}
-use Rattle.mc_drain.specs.Repairs.{RepairLeads, repair_start}
+use Rattle.mc_drain.specs.Repairs.{RepairLeads, repair_start, repaired_of}
 use Rattle.mc_drain.specs.Works.{IsAtEnd, IsBefore, WorkLeads, came_between, limit_of}
 use Rattle.mc_drain.specs.declared.repairing.Repaired.{Repaired}
 use Rattle.mc_drain.specs.declared.repairing.Repaired.TheVariants as repaired
@@ -43,11 +47,12 @@ use Rattle.mc_seats.specs.Asks.{is_named}
 use Rattle.mc_seats.specs.Effects.{IsReply, RefusedAt}
 use Rattle.mc_seats.specs.Step.{IsDone, Row, Step}
 use Rattle.mc_seats.specs.Works.{RepairDone, RepairsTo, WorkDone, WorksTo, budget_of, offered_by, repair_budget, repaired_reply, worked_reply}
-use Rattle.mc_seats.specs.Worlds.{Place, WorldState, peer_row, peers_of, state_at}
-use Rattle.mc_runs.specs.OneEnd.{AreSame, AreSameAt, AreTold, HasRoom, is_end, is_worked}
+use Rattle.mc_seats.specs.Worlds.{AtPlace, Place, WorldState, peer_row, peers_of, state_at}
+use Rattle.mc_runs.specs.OneEnd.{AreSame, AreSameAt, AreTold, HasRoom, HaveSameBytes, SameBytes, is_end, is_worked}
+use Rattle.mc_runs.proofs.OneBlocks.{same_blocks}
 use Rattle.mc_runs.proofs.OneClosure.{IsStill, bad_one, before_end, closed_one, coming_one, length_one, missing_one, or_first}
 use Rattle.mc_runs.proofs.OneEvents.{all_picked, no_some, offers_told, some_is}
-use Rattle.mc_runs.proofs.WrittenFacts.{at_there, moved_stands}
+use Rattle.mc_runs.proofs.WrittenFacts.{at_there, moved_stands, of_place}
 
 -- two states that a drain has come to at its end
 
@@ -118,7 +123,7 @@ run_of_state p s e = over p.content p.fuse p.run e
     over None fuse run e = absurd (no_some e)
     over (Some kept) fuse run e = let same : ◌≡◌ {A = ReplicaState} (record { state = record { durable = durable_of kept; run = run }; fuse = fuse }) s = some_is e in ap (λ (x : ReplicaState). x.state.run) same
 
-told_after : (p q : Place) (s : ReplicaState) (P : ReplicaState → ReplicaState → Type 0) → state_at p ≡ Some s → Told (state_at p) (state_at q) P → (n : ReplicaState) × (state_at q ≡ Some n) × P s n
+pub told_after : (p q : Place) (s : ReplicaState) (P : ReplicaState → ReplicaState → Type 0) → state_at p ≡ Some s → Told (state_at p) (state_at q) P → (n : ReplicaState) × (state_at q ≡ Some n) × P s n
 told_after p q s P is told = over (state_at q) (subst (λ (o : Option ReplicaState). Told o (state_at q) P) is told)
   where
     over : (o : Option ReplicaState) → Told (Some s) o P → (n : ReplicaState) × (o ≡ Some n) × P s n
@@ -243,15 +248,20 @@ spent_says map budget s q q2 reply reply2 room a b =
     let same : count a.state ≡ count b.state = omega (arith, a.within, a.limit, b.within, b.limit, room) in
     a.says ∙ ap (λ (n : ℕ). replies.Again (capped n - capped (count s))) same ∙ sym b.says
 
-record IsRepaired (map : Map) (s : ReplicaState) (q : Place) : Type 0 where
+-- what is answered for this many gaps
+abbrev settled_reply : ReplicaState → Reply
+settled_reply n = repaired_reply (repaired_of (settled_with (gap_count (kept_of n.state.durable))))
+
+record IsRepaired (map : Map) (s : ReplicaState) (q : Place) (reply : Reply) : Type 0 where
   pub state : ReplicaState
   pub is_state : state_at q ≡ Some state
   pub end : IsEnd map (repair_start s) s state
+  pub says : reply ≡ settled_reply state
 
-repair_end : (map : Map) (peers : List Place) (p q : Place) (s : ReplicaState) (reply : Reply) → is_end reply ≡ true → state_at p ≡ Some s → found_from s.state.durable.graph (offered_by peers) ≡ Some map → RepairDone peers p q reply → IsRepaired map s q
+repair_end : (map : Map) (peers : List Place) (p q : Place) (s : ReplicaState) (reply : Reply) → is_end reply ≡ true → state_at p ≡ Some s → found_from s.state.durable.graph (offered_by peers) ≡ Some map → RepairDone peers p q reply → IsRepaired map s q reply
 repair_end map peers p q s reply end is known done = over done.value done.says done.repairs
   where
-    over : (value : Repaired) → reply ≡ repaired_reply value → RepairsTo peers (Ok value) p q → IsRepaired map s q
+    over : (value : Repaired) → reply ≡ repaired_reply value → RepairsTo peers (Ok value) p q → IsRepaired map s q reply
     over (repaired.Again processed) says repairs = absurd (true≢false (sym end ∙ ap is_end says))
     over repaired.Clean says repairs =
         let after = told_after p q s (RepairLeads repair_budget (offered_by peers) (Ok repaired.Clean)) is repairs.told in
@@ -260,6 +270,7 @@ repair_end map peers p q s reply end is known done = over done.value done.says d
           state = after.0;
           is_state = after.1;
           end = record { at_end = after.2.is map known; sound = after.2.sound; still = subst (λ (x : Option Running). IsStill (queue_in x)) run (repairs.wants.0, repairs.wants.1) };
+          says = says ∙ ap (λ (is : Settled). repaired_reply (repaired_of is)) (sym after.2.counts);
         }
     over (repaired.Open gaps) says repairs =
         let after = told_after p q s (RepairLeads repair_budget (offered_by peers) (Ok (repaired.Open gaps))) is repairs.told in
@@ -268,6 +279,7 @@ repair_end map peers p q s reply end is known done = over done.value done.says d
           state = after.0;
           is_state = after.1;
           end = record { at_end = after.2.is map known; sound = after.2.sound; still = subst (λ (x : Option Running). IsStill (queue_in x)) run (repairs.wants.0, repairs.wants.1) };
+          says = says ∙ ap (λ (is : Settled). repaired_reply (repaired_of is)) (sym after.2.counts);
         }
 
 -- two of one world
@@ -310,18 +322,23 @@ works_one w r workers workers2 budget budget2 entry entry2 reply reply2 w2 w3 al
     b : IsWorked map (budget_of budget2) s.0 second.moved.new reply2
     b = work_end map (peers_of w r) (budget_of budget2) first.moved.old second.moved.new s.0 reply2 end2 s.1 (found_told w r s.0 all).1 (subst (λ (p : Place). WorkDone (peers_of w r) (budget_of budget2) p second.moved.new reply2) old second.moved.holds)
 
-pub repairs_one : (w : WorldState) (r workers workers2 : ℕ) (entry entry2 : LineEntry) (reply reply2 : Reply) (w2 w3 : WorldState) → AreTold w → is_end reply ≡ true → is_end reply2 ≡ true → Step w (Repair r workers) entry reply w2 → Step w (Repair r workers2) entry2 reply2 w3 → AreSameAt r w2 w3
-repairs_one w r workers workers2 entry entry2 reply reply2 w2 w3 all end end2 step step2 = record {
-  place = first.moved.new;
-  place_too = second.moved.new;
-  stands = moved_stands r w.places w2.places _ first.moved;
-  stands_too = moved_stands r w.places w3.places _ second.moved;
-  state = a.state;
-  state_too = b.state;
-  is_state = a.is_state;
-  is_state_too = b.is_state;
-  same = ends_same map (repair_start s.0) s.0 a.state b.state a.end b.end;
-}
+-- as many gaps are left where the same blocks are processed
+abbrev pub GapLaw : Type 0
+GapLaw = (xs ys : List Block) → SameMembers xs ys → length (gaps xs) ≡ length (gaps ys)
+
+settled_one : GapLaw → (w2 w3 : WorldState) (r : ℕ) (reply reply2 : Reply) (same : AreSameAt r w2 w3) → reply ≡ settled_reply same.state → reply2 ≡ settled_reply same.state_too → HaveSameBytes r w2 w3 → reply ≡ reply2
+settled_one law w2 w3 r reply reply2 same says says2 have =
+    let s = same.state in
+    let t = same.state_too in
+    let at : AtPlace w3 r (λ q. IfSome (state_at same.place) (λ s. IfSome (state_at q) (SameBytes s))) = of_place w2 r (λ p. AtPlace w3 r (λ q. IfSome (state_at p) (λ s. IfSome (state_at q) (SameBytes s)))) same.place same.stands have in
+    let both : IfSome (state_at same.place) (λ s. IfSome (state_at same.place_too) (SameBytes s)) = of_place w3 r (λ q. IfSome (state_at same.place) (λ s. IfSome (state_at q) (SameBytes s))) same.place_too same.stands_too at in
+    let bytes : SameBytes s t = subst (λ (o : Option ReplicaState). IfSome o (SameBytes s)) same.is_state_too (subst (λ (o : Option ReplicaState). IfSome o (λ s. IfSome (state_at same.place_too) (SameBytes s))) same.is_state both) in
+    let many : gap_count (kept_of s.state.durable) ≡ gap_count (kept_of t.state.durable) = law (blocks_of s.state.durable) (blocks_of t.state.durable) (same_blocks s t same.same.processed bytes) in
+    says ∙ ap (λ (n : ℕ). repaired_reply (repaired_of (settled_with n))) many ∙ sym says2
+
+pub repairs_one : GapLaw → (w : WorldState) (r workers workers2 : ℕ) (entry entry2 : LineEntry) (reply reply2 : Reply) (w2 w3 : WorldState) → AreTold w → is_end reply ≡ true → is_end reply2 ≡ true → Step w (Repair r workers) entry reply w2 → Step w (Repair r workers2) entry2 reply2 w3
+    → AreSameAt r w2 w3 × (HaveSameBytes r w2 w3 → reply ≡ reply2)
+repairs_one law w r workers workers2 entry entry2 reply reply2 w2 w3 all end end2 step step2 = (both, settled_one law w2 w3 r reply reply2 both a.says b.says)
   where
     first : IsDone w (Repair r workers) reply w2
     first = repair_done w r workers entry reply w2 end step
@@ -338,11 +355,24 @@ repairs_one w r workers workers2 entry entry2 reply reply2 w2 w3 all end end2 st
     map : Map
     map = (found_told w r s.0 all).0
 
-    a : IsRepaired map s.0 first.moved.new
+    a : IsRepaired map s.0 first.moved.new reply
     a = repair_end map (peers_of w r) first.moved.old first.moved.new s.0 reply end s.1 (found_told w r s.0 all).1 first.moved.holds
 
-    b : IsRepaired map s.0 second.moved.new
+    b : IsRepaired map s.0 second.moved.new reply2
     b = repair_end map (peers_of w r) first.moved.old second.moved.new s.0 reply2 end2 s.1 (found_told w r s.0 all).1 (subst (λ (p : Place). RepairDone (peers_of w r) p second.moved.new reply2) old second.moved.holds)
+
+    both : AreSameAt r w2 w3
+    both = record {
+      place = first.moved.new;
+      place_too = second.moved.new;
+      stands = moved_stands r w.places w2.places _ first.moved;
+      stands_too = moved_stands r w.places w3.places _ second.moved;
+      state = a.state;
+      state_too = b.state;
+      is_state = a.is_state;
+      is_state_too = b.is_state;
+      same = ends_same map (repair_start s.0) s.0 a.state b.state a.end b.end;
+    }
 
 -- and of one budget
 

@@ -62,10 +62,10 @@ no_some e = true≢false (sym (ap is_some e))
 abbrev pub BackLaw : Type 0
 BackLaw = (kept : Kept) → kept_of (durable_of kept) ≡ kept
 
-pub told_state : (p : Place) → IsOpen p → (s : ReplicaState) × (state_at p ≡ Some s) × (s.fuse ≡ None)
-told_state p open_p = over p.content p.fuse p.run open_p.told open_p.no_fuse
+pub told_state : (armed : Bool) → (p : Place) → IsOpen armed p → (s : ReplicaState) × (state_at p ≡ Some s) × (armed ≡ false → s.fuse ≡ None)
+told_state armed p open_p = over p.content p.fuse p.run open_p.told open_p.no_fuse
   where
-    over : (content : Option Kept) (fuse : Option Fuse) (run : Option Running) → is_some content ≡ true → fuse ≡ None → (s : ReplicaState) × (state_of content fuse run ≡ Some s) × (s.fuse ≡ None)
+    over : (content : Option Kept) (fuse : Option Fuse) (run : Option Running) → is_some content ≡ true → (armed ≡ false → fuse ≡ None) → (s : ReplicaState) × (state_of content fuse run ≡ Some s) × (armed ≡ false → s.fuse ≡ None)
     over None fuse run told none = absurd (true≢false (sym told))
     over (Some kept) fuse run told none = (record { state = record { durable = durable_of kept; run = run }; fuse = fuse }, refl, none)
 
@@ -78,14 +78,14 @@ module _ (back : BackLaw) where
       let content : kept ≡ kept_of n.state.durable = sym (back kept) ∙ ap (λ (x : ReplicaState). kept_of x.state.durable) same in
       λ i. record { content = Some (content i); fuse = (same i).fuse; run = (same i).state.run; planted = planted }
 
-  same_place : (q q2 : Place) (n : ReplicaState) → state_at q ≡ Some n → state_at q2 ≡ Some n → q.planted ≡ q2.planted → q ≡ q2
+  pub same_place : (q q2 : Place) (n : ReplicaState) → state_at q ≡ Some n → state_at q2 ≡ Some n → q.planted ≡ q2.planted → q ≡ q2
   same_place q q2 n e e2 planted =
       place_of q.content q.fuse q.run q.planted n e ∙ (λ i. record { content = Some (kept_of n.state.durable); fuse = n.fuse; run = n.state.run; planted = planted i }) ∙ sym (place_of q2.content q2.fuse q2.run q2.planted n e2)
 
-  open_still : (q : Place) (n : ReplicaState) → state_at q ≡ Some n → n.fuse ≡ None → IsOpen q
-  open_still q n e none =
+  pub open_still : (armed : Bool) (q : Place) (n : ReplicaState) → state_at q ≡ Some n → (armed ≡ false → n.fuse ≡ None) → IsOpen armed q
+  open_still armed q n e none =
       let is = place_of q.content q.fuse q.run q.planted n e in
-      record { told = ap (λ (p : Place). is_some p.content) is; no_fuse = ap (λ (p : Place). p.fuse) is ∙ none }
+      record { told = ap (λ (p : Place). is_some p.content) is; no_fuse = λ off. ap (λ (p : Place). p.fuse) is ∙ none off }
 
 -- events over a keeper without a fuse
 
@@ -103,10 +103,10 @@ abbrev pub Made : WorldState → ReplicaState → Doing → Type 0
 Made w s d = (events events2 : List Event) (reply reply2 : Reply) → events_by w s d events reply → events_by w s d events2 reply2 → (events ≡ events2) × (reply ≡ reply2)
 
 -- two places after one are one, and so are the replies
-pub record IsOnePlace (q q2 : Place) (reply reply2 : Reply) : Type 0 where
+pub record IsOnePlace (armed : Bool) (q q2 : Place) (reply reply2 : Reply) : Type 0 where
   pub same : q ≡ q2
   pub says : reply ≡ reply2
-  pub still : IsOpen q
+  pub still : IsOpen armed q
 
 told_end : (w : WorldState) (d : Doing) (reply : Reply) (s : ReplicaState) (p q : Place) → state_at p ≡ Some s → happens_by w d p q reply → (events : List Event) × events_by w s d events reply × (state_at q ≡ Some (all_happen s events))
 told_end w d reply s p q is happens = over (state_at q) (subst (λ (o : Option ReplicaState). Told o (state_at q) (λ s new. (events : List Event) × events_by w s d events reply × Goes events s new)) is happens)
@@ -115,16 +115,16 @@ told_end w d reply s p q is happens = over (state_at q) (subst (λ (o : Option R
     over None told = absurd told
     over (Some new) told = (told.0, told.1, ap Some told.2.ends)
 
-pub both_happen : (back : BackLaw) (w : WorldState) (d : Doing) (p q q2 : Place) (reply reply2 : Reply) → IsOpen p → ((s : ReplicaState) → Made w s d) → q.planted ≡ p.planted → q2.planted ≡ p.planted → happens_by w d p q reply → happens_by w d p q2 reply2 → IsOnePlace q q2 reply reply2
-both_happen back w d p q q2 reply reply2 open_p made planted planted2 happens happens2 =
-    let s = told_state p open_p in
+pub both_happen : (armed : Bool) → (back : BackLaw) (w : WorldState) (d : Doing) (p q q2 : Place) (reply reply2 : Reply) → IsOpen armed p → ((s : ReplicaState) → Made w s d) → q.planted ≡ p.planted → q2.planted ≡ p.planted → happens_by w d p q reply → happens_by w d p q2 reply2 → IsOnePlace armed q q2 reply reply2
+both_happen armed back w d p q q2 reply reply2 open_p made planted planted2 happens happens2 =
+    let s = told_state armed p open_p in
     let first = told_end w d reply s.0 p q s.1 happens in
     let second = told_end w d reply2 s.0 p q2 s.1 happens2 in
     let one = made s.0 first.0 second.0 reply reply2 first.1 second.1 in
     record {
       same = same_place back q q2 (all_happen s.0 first.0) first.2 (second.2 ∙ ap (λ (events : List Event). Some (all_happen s.0 events)) (sym one.0)) (planted ∙ sym planted2);
       says = one.1;
-      still = open_still back q (all_happen s.0 first.0) first.2 (no_fuse_still first.0 s.0 s.2);
+      still = open_still back armed q (all_happen s.0 first.0) first.2 (λ off. no_fuse_still first.0 s.0 (s.2 off));
     }
 
 -- which events are made
@@ -171,9 +171,9 @@ all_picked P (mark ∷ marks) [] all = tt
 all_picked P (true ∷ marks) (p ∷ places) all = (all.0, all_picked P marks places all.1)
 all_picked P (false ∷ marks) (p ∷ places) all = all_picked P marks places all.1
 
-all_told : (places : List Place) → AllByRecursion IsOpen places → all_tell places ≡ true
-all_told [] all = refl
-all_told (p ∷ places) all = ap (λ b. b && all_tell places) all.0.told ∙ all_told places all.1
+all_told : (armed : Bool) → (places : List Place) → AllByRecursion (IsOpen armed) places → all_tell places ≡ true
+all_told armed [] all = refl
+all_told armed (p ∷ places) all = ap (λ b. b && all_tell places) all.0.told ∙ all_told armed places all.1
 
 place_told : (planted : List Planted) (content : Option Kept) → is_some content ≡ true → (first : Cid → PeerOffers) × (option_map (offers_at planted) content ≡ Some first)
 place_told planted None told = absurd (true≢false (sym told))
@@ -190,10 +190,10 @@ decides_one : (front found found2 : Option (List ℕ)) → Decides front true fo
 decides_one None found found2 is is2 = is ∙ sym is2
 decides_one (Some bytes) found found2 is is2 = is ∙ sym is2
 
-found_one : (kept : Kept) (places : List Place) (cid : Cid) (found found2 : Option (List ℕ)) → AllByRecursion IsOpen places → IsFound kept places cid found → IsFound kept places cid found2 → found ≡ found2
-found_one kept places cid found found2 all is is2 =
+found_one : (armed : Bool) → (kept : Kept) (places : List Place) (cid : Cid) (found found2 : Option (List ℕ)) → AllByRecursion (IsOpen armed) places → IsFound kept places cid found → IsFound kept places cid found2 → found ≡ found2
+found_one armed kept places cid found found2 all is is2 =
     let front = first_in_front (bytes_at kept.graph cid) places cid in
-    let told = all_told places all in
+    let told = all_told armed places all in
     decides_one front found found2 (subst (λ b. Decides front b found) told is) (subst (λ b. Decides front b found2) told is2)
 
 -- what is answered for a job
@@ -223,8 +223,8 @@ delivered_one durable cid found (delivered.Processed position) delivered.Known r
 delivered_one durable cid found delivered.Missing delivered.Known reply reply2 is is2 says says2 = absurd is2
 delivered_one durable cid found (delivered.Bad damage) delivered.Known reply reply2 is is2 says says2 = absurd is2
 
-step_with : (peers : List Place) (s : ReplicaState) (events events2 : List Event) (reply reply2 : Reply) → AllByRecursion IsOpen peers → StepsWith peers s events reply → StepsWith peers s events2 reply2 → (events ≡ events2) × (reply ≡ reply2)
-step_with peers s events events2 reply reply2 all a b = (
+step_with : (armed : Bool) → (peers : List Place) (s : ReplicaState) (events events2 : List Event) (reply reply2 : Reply) → AllByRecursion (IsOpen armed) peers → StepsWith peers s events reply → StepsWith peers s events2 reply2 → (events ≡ events2) × (reply ≡ reply2)
+step_with armed peers s events events2 reply reply2 all a b = (
   a.job ∙ (λ i. Want ∷ delivery s.state.durable.graph (cid i) (found i)) ∙ sym b.job,
   delivered_one s.state.durable a.cid a.found a.delivered b.delivered reply reply2 a.becomes (subst (λ (f : Option (List ℕ)). IsDelivered s.state.durable a.cid f b.delivered) (sym found) (subst (λ (c : Cid). IsDelivered s.state.durable c b.found b.delivered) (sym cid) b.becomes)) a.says b.says,
 )
@@ -233,20 +233,20 @@ step_with peers s events events2 reply reply2 all a b = (
     cid = some_is (sym a.first ∙ b.first)
 
     found : a.found ≡ b.found
-    found = found_one (kept_of s.state.durable) peers a.cid a.found b.found all a.is_found (subst (λ (c : Cid). IsFound (kept_of s.state.durable) peers c b.found) (sym cid) b.is_found)
+    found = found_one armed (kept_of s.state.durable) peers a.cid a.found b.found all a.is_found (subst (λ (c : Cid). IsFound (kept_of s.state.durable) peers c b.found) (sym cid) b.is_found)
 
 step_cases : (peers : List Place) (s : ReplicaState) (events : List Event) (reply : Reply) → StepEvents peers s events reply → ((reply ≡ Idle) × (first_waiting s ≡ None) × (events ≡ [])) ⊎ StepsWith peers s events reply
 step_cases peers s events Idle h = inl (refl, h.0, h.1)
 step_cases peers s events reply h = inr h
 
-step_made : (peers : List Place) (s : ReplicaState) (events events2 : List Event) (reply reply2 : Reply) → AllByRecursion IsOpen peers → StepEvents peers s events reply → StepEvents peers s events2 reply2 → (events ≡ events2) × (reply ≡ reply2)
-step_made peers s events events2 reply reply2 all h h2 = over (step_cases peers s events reply h) (step_cases peers s events2 reply2 h2)
+step_made : (armed : Bool) → (peers : List Place) (s : ReplicaState) (events events2 : List Event) (reply reply2 : Reply) → AllByRecursion (IsOpen armed) peers → StepEvents peers s events reply → StepEvents peers s events2 reply2 → (events ≡ events2) × (reply ≡ reply2)
+step_made armed peers s events events2 reply reply2 all h h2 = over (step_cases peers s events reply h) (step_cases peers s events2 reply2 h2)
   where
     over : ((reply ≡ Idle) × (first_waiting s ≡ None) × (events ≡ [])) ⊎ StepsWith peers s events reply → ((reply2 ≡ Idle) × (first_waiting s ≡ None) × (events2 ≡ [])) ⊎ StepsWith peers s events2 reply2 → (events ≡ events2) × (reply ≡ reply2)
     over (inl (is, none, empty)) (inl (is2, none2, empty2)) = (empty ∙ sym empty2, is ∙ sym is2)
     over (inl (is, none, empty)) (inr b) = absurd (no_some (sym none ∙ b.first))
     over (inr a) (inl (is2, none2, empty2)) = absurd (no_some (sym none2 ∙ a.first))
-    over (inr a) (inr b) = step_with peers s events events2 reply reply2 all a b
+    over (inr a) (inr b) = step_with armed peers s events events2 reply reply2 all a b
 
 -- a message that is heard
 
@@ -289,22 +289,22 @@ reading_one w s (At r (Hears message)) made found = absurd (true≢false (sym fo
 reading_one w s (At r Steps) made found = absurd (true≢false (sym found))
 reading_one w s d made found = absurd (true≢false (sym made))
 
-pub made_one : (w : WorldState) (s : ReplicaState) (command : Command) → AreOpen w → has_one_outcome command ≡ true → made_by (doing command) ≡ true → Made w s (doing command)
-made_one w s (Put r key bytes) all one made = λ events events2 reply reply2 h h2. (h.1.0 ∙ sym h2.1.0, h.2 ∙ ap (λ (x : Written). Priority x.priority) (h.1.1 ∙ sym h2.1.1) ∙ sym h2.2)
-made_one w s (Del r key) all one made = λ events events2 reply reply2 h h2.
+pub made_one : (armed : Bool) → (w : WorldState) (s : ReplicaState) (command : Command) → AreOpen armed w → has_one_outcome armed command ≡ true → made_by (doing command) ≡ true → Made w s (doing command)
+made_one armed w s (Put r key bytes) all one made = λ events events2 reply reply2 h h2. (h.1.0 ∙ sym h2.1.0, h.2 ∙ ap (λ (x : Written). Priority x.priority) (h.1.1 ∙ sym h2.1.1) ∙ sym h2.2)
+made_one armed w s (Del r key) all one made = λ events events2 reply reply2 h h2.
     let kept = kept_of s.state.durable in
     let deltas : h.1.0 ≡ h2.1.0 = deltas_one kept key h.1.0 h2.1.0 h.1.1 h2.1.1 in (
       h.1.2 ∙ ap (chain_events kept (next_links kept)) deltas ∙ sym h2.1.2,
       h.2 ∙ ap Deleted (h.1.3 ∙ ap (λ (l : List Delta). length l) deltas ∙ sym h2.1.3) ∙ sym h2.2,
     )
-made_one w s (Begin r) all one made = λ events events2 reply reply2 h h2. (h.1 ∙ sym h2.1, h.2 ∙ sym h2.2)
-made_one w s (BatchPut r key bytes) all one made = λ events events2 reply reply2 h h2. (of_run s.state.run _ _ (events ≡ events2) (λ b p q. p ∙ sym q) h.1 h2.1, h.2 ∙ sym h2.2)
-made_one w s (BatchDel r key) all one made = λ events events2 reply reply2 h h2. (of_run s.state.run _ _ (events ≡ events2) (λ b p q. p ∙ sym q) h.1 h2.1, h.2 ∙ sym h2.2)
-made_one w s (Commit r) all one made = λ events events2 reply reply2 h h2.
+made_one armed w s (Begin r) all one made = λ events events2 reply reply2 h h2. (h.1 ∙ sym h2.1, h.2 ∙ sym h2.2)
+made_one armed w s (BatchPut r key bytes) all one made = λ events events2 reply reply2 h h2. (of_run s.state.run _ _ (events ≡ events2) (λ b p q. p ∙ sym q) h.1 h2.1, h.2 ∙ sym h2.2)
+made_one armed w s (BatchDel r key) all one made = λ events events2 reply reply2 h h2. (of_run s.state.run _ _ (events ≡ events2) (λ b p q. p ∙ sym q) h.1 h2.1, h.2 ∙ sym h2.2)
+made_one armed w s (Commit r) all one made = λ events events2 reply reply2 h h2.
     let both = of_run s.state.run (λ batch. BatchBecomes (kept_of s.state.durable) batch (is_empty_batch batch) events h.0) (λ batch. BatchBecomes (kept_of s.state.durable) batch (is_empty_batch batch) events2 h2.0) ((events ≡ events2) × (h.0 ≡ h2.0))
     (λ b p q. becomes_one (kept_of s.state.durable) b (is_empty_batch b) events events2 h.0 h2.0 p q) h.1 h2.1 in
     (both.0, h.2 ∙ ap (λ (x : Option Written). Priority (batch_priority x)) both.1 ∙ sym h2.2)
-made_one w s (Hear r message) all one made = λ events events2 reply reply2 h h2.
+made_one armed w s (Hear r message) all one made = λ events events2 reply reply2 h h2.
     let both = heard_one s (message_at w.around.bag message) events events2 h.0 h2.0 h.1 h2.1 in (both.0, h.2 ∙ ap Queued both.1 ∙ sym h2.2)
-made_one w s (StepOf r) all one made = λ events events2 reply reply2 h h2. step_made (peers_of w r) s events events2 reply reply2 (all_picked IsOpen (peer_row w.around.down r 0 w.places) w.places all) h h2
-made_one w s command all one made = reading_one w s (doing command) made refl
+made_one armed w s (StepOf r) all one made = λ events events2 reply reply2 h h2. step_made armed (peers_of w r) s events events2 reply reply2 (all_picked (IsOpen armed) (peer_row w.around.down r 0 w.places) w.places all) h h2
+made_one armed w s command all one made = reading_one w s (doing command) made refl

@@ -4,6 +4,8 @@ use Rattle.std.specs.List.{AllByRecursion}
 use Rattle.mc_base.specs.declared.cid.Cid.{Cid}
 use Rattle.mc_model.specs.Draining.{queue_in}
 use Rattle.mc_model.specs.Graph.{has}
+use Rattle.mc_model.specs.Kept.{bytes_at}
+use Rattle.mc_model.specs.State.{kept_of}
 use Rattle.mc_model.specs.Wanted.{bad_cids}
 use Rattle.mc_core.specs.Events.{ReplicaState}
 use Rattle.mc_drain.specs.Leads.{count}
@@ -11,7 +13,7 @@ use Rattle.mc_script.specs.declared.reply.Reply.{Reply}
 use Rattle.mc_script.specs.declared.reply.Reply.TheVariants.{Again, Clean, OpenGaps, Worked}
 use Rattle.mc_seats.specs.Step.{SameProcessed}
 use Rattle.mc_seats.specs.Works.{budget_of}
-use Rattle.mc_seats.specs.Worlds.{Place, WorldState, state_at}
+use Rattle.mc_seats.specs.Worlds.{AtPlace, Place, WorldState, state_at}
 
 -- the content of each replica is told
 abbrev pub AreTold : WorldState → Type 0
@@ -52,3 +54,13 @@ pub record AreSameAt (r : ℕ) (w w2 : WorldState) : Type 0 where
   pub is_state : state_at place ≡ Some state
   pub is_state_too : state_at place_too ≡ Some state_too
   pub same : AreSame state state_too
+
+-- what is stored under each block that is processed is the same in both
+abbrev pub SameBytes : ReplicaState → ReplicaState → Type 0
+SameBytes s t = (c : Cid) → has c s.state.durable.order ≡ true
+    → bytes_at (kept_of s.state.durable).graph c ≡ bytes_at (kept_of t.state.durable).graph c
+
+-- so it is at the replica with this number of two worlds, as it is unless two different texts have one digest
+abbrev pub HaveSameBytes : ℕ → WorldState → WorldState → Type 0
+HaveSameBytes r w w2 =
+    AtPlace w r (λ p. AtPlace w2 r (λ q. IfSome (state_at p) (λ s. IfSome (state_at q) (SameBytes s))))

@@ -21,8 +21,8 @@ ghost use Rattle.mc_runs.specs.Promises.{DoneElsewhere, asks_running, fired_at, 
 ghost use Rattle.mc_runs.specs.Promises.{some_stopped, tells_at};
 ghost use Rattle.std.specs.List.{AllByRecursion};
 ghost use Rattle.mc_script.specs.Line.{line_of};
-ghost use Rattle.mc_runs.specs.OneEnd.{AreSameAt, AreTold, HasRoom, is_end, is_worked};
-ghost use Rattle.mc_runs.specs.OneText.{AreOpen, IsOne, replies_in};
+ghost use Rattle.mc_runs.specs.OneEnd.{AreSameAt, AreTold, HasRoom, HaveSameBytes, is_end, is_worked};
+ghost use Rattle.mc_runs.specs.OneText.{AreOpen, IsOne, NoneRefused, replies_in};
 ghost use Rattle.mc_runs.specs.Runs.{Answer, IsWithin, Runs, own_free, owns_in};
 ghost use Rattle.mc_seats.specs.Step.{Step, with_link};
 ghost use Rattle.mc_seats.specs.Worlds.{Place, WorldState, is_linked, state_at};
@@ -188,12 +188,16 @@ pub fn clean_repairs_are_reached()
 }
 
 /// The text of a run is one: two runs of the same lines from the same first world give equal replies and come to equal
-/// worlds, where each replica tells its content, no fuse is armed, and no keeper and no desk failed by itself. The
-/// commands whose workers or writers take turns are not among these lines, nor are those that arm a fuse.
+/// worlds, where each replica tells its content, and no keeper and no desk failed by itself. The commands whose workers
+/// or writers take turns are not among these lines. Either no fuse is armed, at first or by a line; or fuses may be
+/// `armed`, and then no reply refuses a block for its size, its priority or its identifier: a put whose block has the
+/// identifier of other stored bytes may be refused, and its fuse may fire.
 pub fn runs_are_one()
-    ensures { (lines : List (List ℕ)) (answers answers2 : List (Option Answer)) (first last last2 : WorldState) →
-        AreOpen first → AllByRecursion (λ line. IsOne (line_of line)) lines → own_free answers ≡ true →
-        own_free answers2 ≡ true → Runs first lines answers last → Runs first lines answers2 last2 →
+    ensures { (armed : Bool) (lines : List (List ℕ)) (answers answers2 : List (Option Answer))
+        (first last last2 : WorldState) → AreOpen armed first →
+        AllByRecursion (λ line. IsOne armed (line_of line)) lines → own_free answers ≡ true →
+        own_free answers2 ≡ true → NoneRefused armed answers → NoneRefused armed answers2 →
+        Runs first lines answers last → Runs first lines answers2 last2 →
         (replies_in answers ≡ replies_in answers2) × (last ≡ last2) }
 {
     kept_is_durable();
@@ -201,8 +205,9 @@ pub fn runs_are_one()
 
 /// What a work comes to does not depend on its workers, nor on their turns: two works of one replica of one world, whose
 /// contents are told, that have come to their ends, by whatever budgets, are answered equally, have processed the same
-/// blocks, as many, and leave the same ones missing and bad. So do two repairs, but that no clause says that their
-/// answers are equal. Two works by one budget are answered equally also where it is used, with a number below 2^64.
+/// blocks, as many, and leave the same ones missing and bad. So do two repairs, which are answered equally where the
+/// processed blocks have the same bytes in both, as they have unless two different texts have one digest. Two works by
+/// one budget are answered equally also where it is used, with a number below 2^64.
 pub fn works_are_one()
     ensures works { (w : WorldState) (r workers workers2 : ℕ) (budget budget2 : Option ℕ) (entry entry2 : Entry)
         (reply reply2 : Said) (w2 w3 : WorldState) → AreTold w → is_end reply ≡ true → is_end reply2 ≡ true →
@@ -215,5 +220,7 @@ pub fn works_are_one()
     ensures repairs { (w : WorldState) (r workers workers2 : ℕ) (entry entry2 : Entry) (reply reply2 : Said)
         (w2 w3 : WorldState) → AreTold w → is_end reply ≡ true → is_end reply2 ≡ true →
         Step w (Repair r workers) entry reply w2 → Step w (Repair r workers2) entry2 reply2 w3 →
-        AreSameAt r w2 w3 }
-{}
+        AreSameAt r w2 w3 × (HaveSameBytes r w2 w3 → reply ≡ reply2) }
+{
+    same_blocks_same_answers();
+}

@@ -12,3 +12,4 @@ pub mod DeskFacts
 pub mod DeskedFacts
 pub mod OpeningFacts
 pub mod SeatFacts
+pub mod StayFacts

@@ -15,11 +15,12 @@ use Rattle.mc_core.specs.declared.replica.OpenCause.TheVariants.{Memory}
 use Rattle.mc_seats.specs.declared.seat.Seat.{Seat}
 use Rattle.mc_seats.specs.declared.world.Part.{Part}
 use Rattle.mc_seats.specs.declared.world.World.{World}
-use Rattle.mc_seats.specs.Desked.{desks_each, is_desked, is_full_list}
+use Rattle.mc_seats.specs.Desked.{AreDesksOf, desks_each, is_desked, is_full_list}
 use Rattle.mc_seats.specs.Keepers.{armed_at, armed_in, counted_in, desks_in, is_calm, is_calm_desk, is_calm_keeper, keeper_of, own_in}
-use Rattle.mc_seats.specs.Openings.{AreFresh, AreLeft, AreOpened, AreRefused, IsBack, IsOpened, are_calm, have_desks, owns_of, parts_of, starts_of}
+use Rattle.mc_seats.specs.Openings.{AreFresh, AreLeft, AreOpened, AreRefused, HaveOwnDesks, IsBack, IsOpened, are_calm, owns_of, parts_of, starts_of}
 use Rattle.mc_seats.specs.Words.{place, state}
 use Rattle.mc_seats.specs.Starts.{AreStarts, IsFirst}
+use Rattle.mc_seats.proofs.StayFacts.{of_none}
 
 pub both_true : {a b : Bool} → a ≡ true → b ≡ true → (a && b) ≡ true
 both_true {a = true} e f = f
@@ -71,7 +72,7 @@ module _ {K D : Type 0} {g : keeper.Ghosts K D} {h : counted.Ghosts K} {i : coun
 module _ {K D : Type 0} (k : Members K D) where
   left_self : (parts : List (Part K D)) → AreFresh k.told k.fuse parts → AreLeft k parts parts
   left_self [] fresh = tt
-  left_self (part ∷ parts) fresh = let none = ap length fresh.0.no_desks in (record { told_same = refl; no_fuse = fresh.0.no_fuse; own_later = omega arith; few = omega (arith, none) }, left_self parts fresh.1)
+  left_self (part ∷ parts) fresh = let none = ap length fresh.0.no_desks in (record { told_same = refl; no_fuse = fresh.0.no_fuse; own_later = omega arith; few = omega (arith, none); of_keeper = of_none k.desk_schedule (k.schedule part.keeper) part.desks fresh.0.no_desks }, left_self parts fresh.1)
 
   left_append : (parts lefts more more_left : List (Part K D)) → AreLeft k parts lefts → AreLeft k more more_left → AreLeft k (parts ++ more) (lefts ++ more_left)
   left_append [] [] more more_left first second = second
@@ -109,7 +110,7 @@ module _ {K D : Type 0} {g : keeper.Ghosts K D} {h : counted.Ghosts K} {i : coun
   opened_left : (parts : List (Part K D)) (seats : List (Seat K D g h i)) (desks : List (List D)) → AreOpened k desk_faults parts seats desks → AreLeft k parts (parts_of seats desks)
   opened_left [] [] [] all = tt
   opened_left (first ∷ parts) (next ∷ seats) (front ∷ desks) all =
-      (record { told_same = all.0.told_same; no_fuse = all.0.no_fuse; own_later = omega (arith, all.0.own_same); few = omega (arith, all.0.many) }, opened_left parts seats desks all.1)
+      (record { told_same = all.0.told_same; no_fuse = all.0.no_fuse; own_later = omega (arith, all.0.own_same); few = omega (arith, all.0.many); of_keeper = all.0.of_keeper }, opened_left parts seats desks all.1)
   opened_left [] [] (front ∷ desks) all = absurd all
   opened_left [] (next ∷ seats) desks all = absurd all
   opened_left (first ∷ parts) [] desks all = absurd all
@@ -138,13 +139,14 @@ module _ {K D : Type 0} {g : keeper.Ghosts K D} {h : counted.Ghosts K} {i : coun
       each (first ∷ parts) [] desks all = absurd all
       each (first ∷ parts) (next ∷ seats) [] all = absurd all
 
-  pub opened_desks : (parts : List (Part K D)) (seats : List (Seat K D g h i)) (desks : List (List D)) → AreOpened k desk_faults parts seats desks → have_desks desks ≡ true
-  opened_desks [] [] [] all = refl
-  opened_desks (first ∷ parts) (next ∷ seats) (front ∷ desks) all = both_true (ap (λ n. nat_eq n desks_each) all.0.many) (opened_desks parts seats desks all.1)
-  opened_desks [] [] (front ∷ desks) all = absurd all
-  opened_desks [] (next ∷ seats) desks all = absurd all
-  opened_desks (first ∷ parts) [] desks all = absurd all
-  opened_desks (first ∷ parts) (next ∷ seats) [] all = absurd all
+  -- made by its keeper
+  pub opened_own : (parts : List (Part K D)) (seats : List (Seat K D g h i)) (desks : List (List D)) → AreOpened k desk_faults parts seats desks → HaveOwnDesks k parts desks
+  opened_own [] [] [] all = tt
+  opened_own (first ∷ parts) (next ∷ seats) (front ∷ desks) all = (all.0.of_keeper, opened_own parts seats desks all.1)
+  opened_own [] [] (front ∷ desks) all = absurd all
+  opened_own [] (next ∷ seats) desks all = absurd all
+  opened_own (first ∷ parts) [] desks all = absurd all
+  opened_own (first ∷ parts) (next ∷ seats) [] all = absurd all
 
   -- what a world of them stands for, and counts
   pub opened_starts : (parts : List (Part K D)) (seats : List (Seat K D g h i)) (desks : List (List D)) → AreOpened k desk_faults parts seats desks → AreStarts (starts_of k.told parts) (map (place k) seats)
@@ -218,11 +220,11 @@ module _ {K D : Type 0} {g : keeper.Ghosts K D} {h : counted.Ghosts K} {i : coun
   opening_done all (part ∷ parts) seats desks opening none = absurd (omega (arith, none))
 
   pub opening_refused : (cause : OpenCause) (all parts rest : List (Part K D)) (seats : List (Seat K D g h i)) (desks : List (List D)) (part left : Part K D) → IsOpening all parts seats desks → parts ≡ part ∷ rest → IsBack k cause part.keeper left.keeper → length left.desks ≤ desks_each
-      → AreRefused k cause all (parts_of seats desks ++ left ∷ rest)
-  opening_refused cause all parts rest seats desks part left opening out back few = record {
+      → AreDesksOf k.desk_schedule (k.schedule part.keeper) left.desks → AreRefused k cause all (parts_of seats desks ++ left ∷ rest)
+  opening_refused cause all parts rest seats desks part left opening out back few of_keeper = record {
     left = subst (λ (l : List (Part K D)). AreLeft k l (parts_of seats desks ++ left ∷ rest)) (sym split)
         (left_append k opening.taken (parts_of seats desks) (part ∷ rest) (left ∷ rest) (opened_left opening.taken seats desks opening.opened)
-        (record { told_same = back.told_same; no_fuse = back.no_fuse; own_later = back.own_later; few = few }, left_self k rest fresh.1));
+        (record { told_same = back.told_same; no_fuse = back.no_fuse; own_later = back.own_later; few = few; of_keeper = of_keeper }, left_self k rest fresh.1));
     rose = λ e. subst (λ (l : List (Part K D)). Rose (owns_of k l) (owns_of k (parts_of seats desks ++ left ∷ rest))) (sym split)
         (rose_in (λ (p : Part K D). k.own p.keeper) opening.taken (parts_of seats desks) part left rest (opened_owns opening.taken seats desks opening.opened) (back.rose e));
     calm = λ e f. back.calm (first_true _ _ (sym (ap (are_calm k) out) ∙ opening.calm e)) f;
@@ -255,6 +257,6 @@ module _ {K D : Type 0} {g : keeper.Ghosts K D} {h : counted.Ghosts K} {i : coun
   world_calm (Ok world) made = λ calm. let both = opened_calm k desk_faults parts world.seats.items world.desks.items made (ap (are_calm k) same ∙ calm) in both_true both.0 both.1
   world_calm (Err refused) made = tt
 
-  pub world_desks : {E : Type 0} (result : Result (World K D g h i) E) → IfOk result (λ world. AreOpened k desk_faults parts world.seats.items world.desks.items) → IfOk result (λ world. have_desks world.desks.items ≡ true)
-  world_desks (Ok world) made = opened_desks k desk_faults parts world.seats.items world.desks.items made
-  world_desks (Err refused) made = tt
+  pub world_own : {E : Type 0} (result : Result (World K D g h i) E) → IfOk result (λ world. AreOpened k desk_faults parts world.seats.items world.desks.items) → IfOk result (λ world. HaveOwnDesks k all world.desks.items)
+  world_own (Ok world) made = subst (λ (l : List (Part K D)). HaveOwnDesks k l world.desks.items) same (opened_own k desk_faults parts world.seats.items world.desks.items made)
+  world_own (Err refused) made = tt

@@ -1,5 +1,5 @@
 -- What is asked of peers, one after another.
-use Rattle.std.proofs.Common.{◌≡◌, ℕ, zero, suc, ◌+◌, ◌-◌, ◌^◌, ◌≤◌, ◌<◌, arith, Bool, true, false, ◌&&◌, List, [], ◌∷◌, ◌++◌, append-nil, get_or, length, map, set, drop, Option, Some, None, Result, Ok, Err, refl, sym, ap, ◌∙◌, subst}
+use Rattle.std.proofs.Common.{◌≡◌, ℕ, zero, suc, ◌+◌, ◌-◌, ◌^◌, ◌≤◌, ◌<◌, arith, Bool, true, false, cond, ◌&&◌, List, [], ◌∷◌, ◌++◌, append-nil, get_or, length, map, set, drop, Option, Some, None, Result, Ok, Err, refl, sym, ap, ◌∙◌, subst}
 use Rattle.std.specs.Prelude.{IfOk, IfSome, is_some, min, nat_eq, slice_get, unwrap_or, find}
 use Rattle.std.specs.List.{AllZip, flat_map, list_all, sum_by}
 use Rattle.std.specs.Str.{bytes_eq}
@@ -18,25 +18,27 @@ use Rattle.mc_base.specs.declared.counted.Counted as counted
 use Rattle.mc_fetch.specs.declared.error.FetchError.{FetchError}
 use Rattle.mc_fetch.specs.declared.peers.PeerView.{PeerView}
 use Rattle.mc_fetch.specs.declared.plants.Planted.{Planted}
-use Rattle.mc_fetch.specs.Offers.{first_offer, listed}
+use Rattle.mc_fetch.specs.Offers.{first_offer, listed, matching}
+use Rattle.mc_fetch.specs.Plants.{planted_at}
 use Rattle.mc_fetch.specs.Peers.{ViewGoes, faults_of, offers_at, offers_told, onto_peers, peer_places, places_of}
 use Rattle.mc_keep.specs.Calls.{Members}
 use Rattle.mc_keep.specs.Causes.{CountGoes}
 use Rattle.mc_keep.specs.declared.keeper.Keeper as keeper
 use Rattle.mc_model.specs.Found.{PeerOffers, found_bytes, offers_from, option_list, peer_list}
-use Rattle.mc_model.specs.Kept.{Kept}
+use Rattle.mc_model.specs.Kept.{Kept, bytes_at}
 use Rattle.mc_seats.specs.declared.links.Link.{Link}
 use Rattle.mc_seats.specs.declared.seat.Held.{Held}
 use Rattle.mc_seats.specs.declared.seat.Held.TheVariants.{Up, Down}
 use Rattle.mc_seats.specs.declared.seat.Seat.{Seat}
 use Rattle.mc_seats.specs.Desked.{is_desked, is_full_list}
-use Rattle.mc_seats.specs.Fetching.{Decides, IsFoundIn, all_tell, first_in_front, front_offers, onto_front}
+use Rattle.mc_seats.specs.Fetching.{Decides, IsFoundIn, all_tell, first_in_front, front_offers, onto_front, planted_alone}
 use Rattle.mc_seats.specs.Keepers.{desk_count, is_calm_desk, is_calm_keeper, keeper_in, keeper_of}
 use Rattle.mc_seats.specs.Record.{RoseIn}
-use Rattle.mc_seats.specs.StepParts.{AllDesksGo, DesksAsk, DesksGo, IsOfferedAt, IsOfferedBy, PeerFailed, are_calm, desks_in_views, is_peer_at, peers_among}
+use Rattle.mc_seats.specs.StepParts.{AllDesksGo, DesksAsk, DesksGo, IsOffered, IsOfferedAt, IsOfferedBy, IsToldAt, PeerFailed, are_calm, desks_in_views, is_peer_at, peers_among}
 use Rattle.mc_seats.specs.Words.{place}
 use Rattle.mc_seats.specs.Worlds.{Place, is_marked, peer_row, picked, place_with}
 use Rattle.mc_seats.proofs.BeginFacts.{never}
+use Rattle.mc_seats.proofs.StayFacts.{list_stays, list_then}
 
 -- what one peer offers
 
@@ -47,7 +49,7 @@ offered_alone (Some kept) planted cid bytes is = is
 
 module _ {K D : Type 0} (k : Members K D) where
   pub offered_one : (keeper : K) (planted : List Planted) (cid : Cid) (views : List (PeerView K D)) (view : PeerView K D) (result : Result (Option (List ℕ)) FetchError) → views ≡ view ∷ [] → view.keeper.now ≡ keeper → view.planted.now ≡ planted
-      → IfSome (offers_told k.told views) (λ offered. IfOk result (λ bytes. bytes ≡ first_offer cid (offered cid))) → IfOk result (IsOfferedAt k keeper planted cid)
+      → IfSome (offers_told k.told views) (λ offered. IfOk result (λ bytes. bytes ≡ first_offer cid (offered cid))) → IfOk result (IsToldAt k keeper planted cid)
   offered_one keeper planted cid views view (Err error) is at there found = tt
   offered_one keeper planted cid views view (Ok bytes) is at there found =
       offered_alone (k.told keeper) planted cid bytes
@@ -68,6 +70,7 @@ module _ {K D : Type 0} (k : Members K D) where
         → DesksAsk k desk_faults quiet failed (old.desk ∷ rest) (new.desk ∷ rest)
     asked_view quiet failed old new rest is goes counts = record {
       goes = record {
+        each = (record { later = goes.later; plan = goes.plan }, list_stays k desk_faults rest);
         full = λ e. e;
         later = let later = goes.later in let was = sum_by-cons desk_faults old.desk rest in let now = sum_by-cons desk_faults new.desk rest in omega (arith, later, was, now);
         calm = λ q all.
@@ -93,6 +96,10 @@ module _ {K D : Type 0} (k : Members K D) where
         (subst (λ (l : List D). DesksAsk k desk_faults (k.quiet keeper) failed (view.desk ∷ rest) l) (sym new)
         (asked_all (k.quiet keeper) failed view left desk rest (ap k.quiet at) (subst (λ vs. AllZip Goes vs left) is goes) (subst (λ vs. CountGoes failed (faults_of desk_faults vs) (faults_of desk_faults left)) is counts) desks))
 
+    -- no call was made
+    pub ask_none : (quiet : Bool) (desks : List D) → DesksAsk k desk_faults quiet false desks desks
+    ask_none quiet desks = record { goes = record { each = list_stays k desk_faults desks; full = λ e. e; later = omega arith; calm = λ q all. all }; rose = λ f. never (sym f) }
+
 -- What is found among the places from this number on.
 abbrev pub Finds : List Link → ℕ → ℕ → Cid → List Place → Option (List ℕ) → Type 0
 Finds down r number cid places found = IsFoundIn None (picked (peer_row down r number places) places) cid found
@@ -107,6 +114,29 @@ first_then : (cid : Cid) (peer : PeerOffers) (peers : List PeerOffers) → found
 first_then cid peer peers =
     find-append (with_digest cid) (peer_list peer) (flat_map peer_list peers) ∙ ap (λ l. option_or (find (with_digest cid) l) (find (with_digest cid) (flat_map peer_list peers))) (sym (same_list peer))
 
+-- what is planted is asked for first
+
+first_is : (cid : Cid) (bytes : List ℕ) (more : List (Option (List ℕ))) → first_offer cid (Some bytes ∷ more) ≡ option_or (matching cid (Some bytes)) (first_offer cid more)
+first_is cid bytes more = elim (with_digest cid bytes) as (λ t. cond t (Some bytes) (first_offer cid more) ≡ option_or (cond t (Some bytes) None) (first_offer cid more)) [
+  | true ↦ refl
+  | false ↦ refl
+]
+
+planted_first : (cid : Cid) (planted : Option (List ℕ)) (more : List (Option (List ℕ))) → first_offer cid (planted ∷ more) ≡ option_or (matching cid planted) (first_offer cid more)
+planted_first cid None more = refl
+planted_first cid (Some bytes) more = first_is cid bytes more
+
+pub offered_planted : (content : Option Kept) (planted : List Planted) (cid : Cid) (bytes : List ℕ) → Some bytes ≡ matching cid (planted_at planted cid) → IsOffered planted content cid (Some bytes)
+offered_planted None planted cid bytes is =
+    subst (λ (o : Option (List ℕ)). Decides o false (Some bytes)) (ap (λ (o : Option (List ℕ)). option_or o None) is ∙ sym (planted_first cid (planted_at planted cid) (None ∷ []))) refl
+offered_planted (Some kept) planted cid bytes is = let stored = bytes_at kept.graph cid in
+    ap (λ (o : Option (List ℕ)). option_or o (first_offer cid (stored ∷ []))) is ∙ sym (planted_first cid (planted_at planted cid) (stored ∷ []))
+
+pub asks_unplanted : {E : Type 0} (content : Option Kept) (planted : List Planted) (cid : Cid) (result : Result (Option (List ℕ)) E) → matching cid (planted_at planted cid) ≡ None → IfOk result (λ found. IfSome content (λ kept. found ≡ first_offer cid (peer_places (offers_at planted kept cid)))) → IfOk result (λ found. IsOffered planted content cid found)
+asks_unplanted content planted cid (Err error) none offered = tt
+asks_unplanted None planted cid (Ok found) none offered = subst (λ (o : Option (List ℕ)). Decides o false found) (ap (λ (o : Option (List ℕ)). option_or o None) (sym none) ∙ sym (planted_first cid (planted_at planted cid) (None ∷ []))) tt
+asks_unplanted (Some kept) planted cid (Ok found) none offered = offered
+
 module _ (down : List Link) (r : ℕ) (cid : Cid) where
   -- one that r doesn't fetch from
   finds_past : (number : ℕ) (p : Place) (places : List Place) (found : Option (List ℕ)) → is_peer_at down r number p ≡ false → Finds down r (number + 1) cid places found → Finds down r number cid (p ∷ places) found
@@ -119,13 +149,19 @@ module _ (down : List Link) (r : ℕ) (cid : Cid) where
       subst (λ (mark : Bool). IsFoundIn None (picked (mark ∷ peer_row down r (number + 1) places) (p ∷ places)) cid found) (sym is) found_is
 
   abbrev Offers : Place → Option (List ℕ) → Type 0
-  Offers p bytes = IfSome p.content (λ kept. bytes ≡ first_offer cid (peer_places (offers_at p.planted kept cid)))
+  Offers p bytes = IsOffered p.planted p.content cid bytes
 
   -- in front of others, one that tells decides where it offers the block, and else they do
-  offers_in : (planted : List Planted) (content : Option Kept) (peers : List Place) (bytes found : Option (List ℕ)) → IfSome content (λ kept. bytes ≡ first_offer cid (peer_places (offers_at planted kept cid)))
-      → Decides (option_or bytes (first_in_front None peers cid)) (all_tell peers) found
-      → Decides (found_bytes (offers_from None (map (λ (offers : Cid → PeerOffers). offers cid) (onto_front (option_map (offers_at planted) content) (front_offers peers)))) cid) (is_some content && all_tell peers) found
-  offers_in planted None peers bytes found offered is = tt
+  -- what is planted at one that is silent is found where it has the digest, and else anything may be
+  silent_in : (front bytes rest found : Option (List ℕ)) (tell : Bool) → Decides front false bytes → Decides (option_or bytes rest) tell found → Decides (option_or front None) false found
+  silent_in None bytes rest found tell offered is = tt
+  silent_in (Some front) bytes rest found tell offered is = subst (λ (o : Option (List ℕ)). Decides (option_or o rest) tell found) offered is
+
+  offers_in : (planted : List Planted) (content : Option Kept) (peers : List Place) (bytes found : Option (List ℕ)) → IsOffered planted content cid bytes → Decides (option_or bytes (first_in_front None peers cid)) (all_tell peers) found
+      → Decides (found_bytes (offers_from None (map (λ (offers : Cid → PeerOffers). offers cid) (onto_front planted content (front_offers peers)))) cid) (is_some content && all_tell peers) found
+  offers_in planted None peers bytes found offered is =
+      subst (λ (x : Option (List ℕ)). Decides x false found) (sym (first_then cid (planted_alone planted cid) []))
+      (silent_in (first_offer cid (peer_places (planted_alone planted cid))) bytes (first_in_front None peers cid) found (all_tell peers) offered is)
   offers_in planted (Some kept) peers bytes found offered is =
       subst (λ (x : Option (List ℕ)). Decides x (all_tell peers) found)
       (ap (λ (o : Option (List ℕ)). option_or o (first_in_front None peers cid)) offered ∙ sym (first_then cid (offers_at planted kept cid) (map (λ (offers : Cid → PeerOffers). offers cid) (front_offers peers)))) is
@@ -174,17 +210,18 @@ module _ (down : List Link) (r : ℕ) (cid : Cid) where
 
 module _ {K D : Type 0} (k : Members K D) (desk_faults : D → ℕ) where
   go_none : (quiet : Bool) (desks : List D) → DesksGo k desk_faults quiet desks desks
-  go_none quiet desks = record { full = λ e. e; later = omega arith; calm = λ q all. all }
+  go_none quiet desks = record { each = list_stays k desk_faults desks; full = λ e. e; later = omega arith; calm = λ q all. all }
 
   go_then : (quiet : Bool) (old mid new : List D) → DesksGo k desk_faults quiet old mid → DesksGo k desk_faults quiet mid new → DesksGo k desk_faults quiet old new
   go_then quiet old mid new p q = record {
+    each = list_then k desk_faults old mid new p.each q.each;
     full = λ e. q.full (p.full e);
     later = omega (arith, p.later, q.later);
     calm = λ e all. q.calm e (p.calm e all);
   }
 
   pub go_quiet : (quiet quiet2 : Bool) (old new : List D) → (quiet2 ≡ true → quiet ≡ true) → DesksGo k desk_faults quiet old new → DesksGo k desk_faults quiet2 old new
-  go_quiet quiet quiet2 old new more p = record { full = p.full; later = p.later; calm = λ e all. p.calm (more e) all }
+  go_quiet quiet quiet2 old new more p = record { each = p.each; full = p.full; later = p.later; calm = λ e all. p.calm (more e) all }
 
   pub all_still : (quiet : Bool) (desks : List (List D)) → AllDesksGo k desk_faults quiet desks desks
   all_still quiet [] = tt
@@ -283,10 +320,10 @@ module _ {K D : Type 0} {g : keeper.Ghosts K D} {h : counted.Ghosts K} {i : coun
       pub asking_past : (after : List (List D)) → after ≡ news → (peer : Bool) → peer ≡ is_peer_at down r at (place k seat) → peer ≡ false → Asking after (at + 1)
       asking_past after is peer same none = subst (λ (l : List (List D)). Asking l (at + 1)) (sym is) (record { goes = asking.goes; desked = asking.desked; so_far = so_far_past down r cid Places at (place k seat) there (sym same ∙ none) asking.so_far })
 
-      offers_there : (bytes : Option (List ℕ)) → IsOfferedAt k (keeper_of seat) seat.planted cid bytes → IfSome (place k seat).content (λ kept. bytes ≡ first_offer cid (peer_places (offers_at (place k seat).planted kept cid)))
+      offers_there : (bytes : Option (List ℕ)) → IsOfferedAt k (keeper_of seat) seat.planted cid bytes → IsOffered (place k seat).planted (place k seat).content cid bytes
       offers_there bytes offered =
-          subst (λ (ps : List Planted). IfSome (place k seat).content (λ kept. bytes ≡ first_offer cid (peer_places (offers_at ps kept cid)))) (sym (planted_of k seat.planted seat.held))
-          (subst (λ (told : Option Kept). IfSome told (λ kept. bytes ≡ first_offer cid (peer_places (offers_at seat.planted kept cid)))) (sym (content_of k seat.planted seat.held)) offered)
+          subst (λ (ps : List Planted). IsOffered ps (place k seat).content cid bytes) (sym (planted_of k seat.planted seat.held))
+          (subst (λ (told : Option Kept). IsOffered seat.planted told cid bytes) (sym (content_of k seat.planted seat.held)) offered)
 
       module _ (mid new : List D) (failed : Bool) (mid_is : slice_get news at ≡ Some mid) (asks : DesksAsk k desk_faults (k.quiet (keeper_of seat)) failed mid new) where
         pub asking_desks : AllDesksGo k desk_faults (are_calm k seats) olds (set news at new)

@@ -5,7 +5,9 @@ use Rattle.std.specs.Option.{option_map}
 use Rattle.mc_base.specs.declared.cid.Cid.{Cid}
 use Rattle.mc_fetch.specs.declared.job.Delivered.{Delivered}
 use Rattle.mc_fetch.specs.declared.job.Delivered.TheVariants as delivered
+use Rattle.mc_fetch.specs.declared.plants.Planted.{Planted}
 use Rattle.mc_fetch.specs.Peers.{offers_at, onto_peers}
+use Rattle.mc_fetch.specs.Plants.{planted_at}
 use Rattle.mc_model.specs.Draining.{delivery}
 use Rattle.mc_model.specs.Events.{Event, Want}
 use Rattle.mc_model.specs.Found.{PeerOffers, found_bytes, offers_from}
@@ -26,15 +28,19 @@ abbrev pub offers_of : List Place → Option (List (Cid → PeerOffers))
 offers_of [] = Some []
 offers_of (place ∷ places) = onto_peers (offers_of_place place) (offers_of places)
 
--- one more in front, where its content is told
-abbrev pub onto_front : Option (Cid → PeerOffers) → List (Cid → PeerOffers) → List (Cid → PeerOffers)
-onto_front None offers = []
-onto_front (Some first) offers = first ∷ offers
+-- what is planted for a block, and nothing that is stored
+abbrev pub planted_alone : List Planted → Cid → PeerOffers
+planted_alone planted c = record { planted = planted_at planted c; stored = None }
 
--- what those offer that stand in front of the first whose content isn't told
+-- one more in front: where its content isn't told it offers what is planted there, and those behind it count no more
+abbrev pub onto_front : List Planted → Option Kept → List (Cid → PeerOffers) → List (Cid → PeerOffers)
+onto_front planted None offers = planted_alone planted ∷ []
+onto_front planted (Some kept) offers = offers_at planted kept ∷ offers
+
+-- what those offer that stand in front of the first whose content isn't told, and what is planted at that one
 abbrev pub front_offers : List Place → List (Cid → PeerOffers)
 front_offers [] = []
-front_offers (place ∷ places) = onto_front (offers_of_place place) (front_offers places)
+front_offers (place ∷ places) = onto_front place.planted place.content (front_offers places)
 
 -- whether all their contents are told
 abbrev pub all_tell : List Place → Bool
@@ -51,8 +57,8 @@ Decides (Some bytes) told found = found ≡ Some bytes
 Decides None true found = found ≡ None
 Decides None false found = ⊤
 
--- these bytes, or none, are found for a block with these own ones among its peers. One that is silent silences its own
--- offers and those behind it alone.
+-- these bytes, or none, are found for a block with these own ones among its peers. One that is silent silences what it
+-- has stored and those behind it alone.
 abbrev pub IsFoundIn : Option (List ℕ) → List Place → Cid → Option (List ℕ) → Type 0
 IsFoundIn own peers c found = Decides (first_in_front own peers c) (all_tell peers) found
 

@@ -2,6 +2,7 @@
 use Rattle.std.specs.Prelude.{◌≡◌, ◌≤◌, ◌⊎◌, ℕ, ◌+◌, ◌-◌, ◌^◌, min, nat_eq, Bool, true, ◌&&◌, cond, List, is_some}
 use Rattle.std.specs.List.{AllZip, list_all, sum_by}
 use Rattle.mc_base.specs.declared.counted.Counted as counted
+use Rattle.mc_fetch.specs.Peers.{SamePlan}
 use Rattle.mc_keep.specs.Calls.{Members}
 use Rattle.mc_keep.specs.declared.keeper.Keeper as keeper
 use Rattle.mc_seats.specs.declared.seat.Held.{Held}
@@ -52,6 +53,15 @@ module _ {K D : Type 0} (k : Members K D) where
   abbrev pub is_calm_desk : (D → ℕ) → D → Bool
   is_calm_desk desk_faults desk = k.quiet_desk desk && nat_eq (desk_faults desk) 0
 
+  -- What calls leave of a desk: its count never falls, and the reads that are planned to fail are the same.
+  pub record DeskStays (desk_faults : D → ℕ) (old new : D) : Type 0 where
+    pub later : desk_faults old ≤ desk_faults new
+    pub plan : SamePlan (k.desk_schedule old) (k.desk_schedule new)
+
+  -- and of the desks of some replicas: each stands at its place
+  pub record DesksStay (desk_faults : D → ℕ) (olds news : List (List D)) : Type 0 where
+    pub each : AllZip (AllZip (DeskStays desk_faults)) olds news
+
   -- 1 where the fuse of a keeper is armed
   abbrev pub armed_at : K → ℕ
   armed_at keeper = cond (is_some (k.fuse keeper)) 1 0
@@ -75,11 +85,12 @@ module _ {K D : Type 0} {g : keeper.Ghosts K D} {h : counted.Ghosts K} {i : coun
   is_calm world = list_all (λ (seat : Seat K D g h i). is_calm_keeper k (keeper_of seat)) world.seats.items
       && list_all (λ (list : List D). list_all (is_calm_desk k desk_faults) list) world.desks.items
 
-  -- What every call leaves of a world: each fault that it answers is paid, and what is calm stays calm; and no count of
-  -- a keeper by itself, or of a replica's desks together, falls.
+  -- What every call leaves of a world: each fault that it answers is paid, and what is calm stays calm; no count of a
+  -- keeper by itself, or of a replica's desks together, falls; and each desk stands at its place.
   pub record WorldGoes (faults arms : ℕ) (old new : World K D g h i) : Type 0 where
     pub paid : IsPaid faults arms (counted_in old) (armed_in k old.seats.items) (counted_in new)
         (armed_in k new.seats.items)
     pub calm : is_calm old ≡ true → is_calm new ≡ true
     pub own_later : AllLater (λ (seat : Seat K D g h i). k.own (keeper_of seat)) old.seats.items new.seats.items
     pub desks_later : AllLater (λ (list : List D). sum_by desk_faults list) old.desks.items new.desks.items
+    pub desks_stay : DesksStay k desk_faults old.desks.items new.desks.items

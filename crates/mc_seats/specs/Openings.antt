@@ -1,7 +1,7 @@
 -- How a world is made of its parts, and what is handed back.
-use Rattle.std.specs.Prelude.{◌≡◌, ◌≤◌, ⊤, ℕ, ◌+◌, nat_eq, Bool, true, false, List, [], ◌∷◌, length, Option, None}
+use Rattle.std.specs.Prelude.{◌≡◌, ◌≤◌, ⊤, ℕ, ◌+◌, Bool, true, false, List, [], ◌∷◌, length, Option, None}
 use Rattle.std.specs.Prelude.{Result, Ok, Err, IfSome}
-use Rattle.std.specs.List.{list_all, sum_by}
+use Rattle.std.specs.List.{AllZip, list_all, sum_by}
 use Rattle.mc_base.specs.Causes.{Rose}
 use Rattle.mc_base.specs.declared.counted.Counted as counted
 use Rattle.mc_model.specs.Kept.{Kept}
@@ -15,7 +15,7 @@ use Rattle.mc_core.specs.declared.replica.Replica.{Replica}
 use Rattle.mc_seats.specs.declared.seat.Held.TheVariants.{Up}
 use Rattle.mc_seats.specs.declared.seat.Seat.{Seat}
 use Rattle.mc_seats.specs.declared.world.Part.{Part}
-use Rattle.mc_seats.specs.Desked.{desks_each}
+use Rattle.mc_seats.specs.Desked.{AreDesksOf, desks_each}
 use Rattle.mc_seats.specs.Keepers.{is_calm_desk, is_calm_keeper, keeper_of}
 use Rattle.mc_seats.specs.Starts.{IsStart}
 use Rattle.mc_seats.specs.Words.{place}
@@ -35,10 +35,6 @@ pub record IsFresh {K D : Type 0} (told : K → Option Kept) (fuse : K → Optio
 abbrev pub AreFresh : {K D : Type 0} → (K → Option Kept) → (K → Option Fuse) → List (Part K D) → Type 0
 AreFresh told fuse [] = ⊤
 AreFresh told fuse (part ∷ parts) = IsFresh told fuse part × AreFresh told fuse parts
-
--- whether each of some replicas has so many
-abbrev pub have_desks : {D : Type 0} → List (List D) → Bool
-have_desks desks = list_all (λ list. nat_eq (length list) desks_each) desks
 
 -- the parts of some replicas and their desks, in order
 abbrev pub parts_of : {K D : Type 0} {g : keeper.Ghosts K D} {h : counted.Ghosts K} {i : counted.Ghosts D}
@@ -64,6 +60,11 @@ module _ {K D : Type 0} (k : Members K D) where
   abbrev pub are_calm : List (Part K D) → Bool
   are_calm parts = list_all (λ (part : Part K D). is_calm_keeper k part.keeper) parts
 
+  -- each replica has the desks that its keeper made
+  abbrev pub HaveOwnDesks : List (Part K D) → List (List D) → Type 0
+  HaveOwnDesks parts desks =
+      AllZip (λ (part : Part K D) (list : List D). AreDesksOf k.desk_schedule (k.schedule part.keeper) list) parts desks
+
   -- A keeper of which no replica was opened, for this cause: it tells what it told, has no fuse, and has failed by
   -- itself where that is the cause.
   pub record IsBack (cause : OpenCause) (old new : K) : Type 0 where
@@ -73,13 +74,14 @@ module _ {K D : Type 0} (k : Members K D) where
     pub rose : cause ≡ KeeperFault → Rose (k.own old) (k.own new)
     pub calm : is_calm_keeper k old ≡ true → cause ≡ KeeperFault → ⊥
 
-  -- A part that is handed back: its keeper tells what it told, has no fuse, and its own count has not fallen; of its desks
-  -- those that were made are with it.
+  -- A part that is handed back: its keeper tells what it told, has no fuse, and its own count has not fallen; the desks
+  -- that it made are with it.
   pub record IsLeft (part left : Part K D) : Type 0 where
     pub told_same : k.told left.keeper ≡ k.told part.keeper
     pub no_fuse : k.fuse left.keeper ≡ None
     pub own_later : k.own part.keeper ≤ k.own left.keeper
     pub few : length left.desks ≤ desks_each
+    pub of_keeper : AreDesksOf k.desk_schedule (k.schedule part.keeper) left.desks
 
   abbrev pub AreLeft : List (Part K D) → List (Part K D) → Type 0
   AreLeft [] [] = ⊤
@@ -124,6 +126,7 @@ module _ {K D : Type 0} {g : keeper.Ghosts K D} {h : counted.Ghosts K} {i : coun
       pub own_same : k.own (keeper_of seat) ≡ k.own replica.keeper
       pub still_quiet : k.quiet replica.keeper ≡ true → k.quiet (keeper_of seat) ≡ true
       pub new_desks : AreNewDesks k desk_faults replica.keeper desks
+      pub of_keeper : AreDesksOf k.desk_schedule (k.schedule replica.keeper) desks
       pub many : length desks ≡ desks_each
 
     -- the same of one that was opened of a part
@@ -134,6 +137,7 @@ module _ {K D : Type 0} {g : keeper.Ghosts K D} {h : counted.Ghosts K} {i : coun
       pub own_same : k.own (keeper_of seat) ≡ k.own part.keeper
       pub still_quiet : k.quiet part.keeper ≡ true → k.quiet (keeper_of seat) ≡ true
       pub new_desks : AreNewDesks k desk_faults part.keeper desks
+      pub of_keeper : AreDesksOf k.desk_schedule (k.schedule part.keeper) desks
       pub many : length desks ≡ desks_each
 
     -- the same of all the parts

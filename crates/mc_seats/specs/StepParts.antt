@@ -29,8 +29,8 @@ use Rattle.mc_seats.specs.declared.seat.Held.TheVariants.{Up}
 use Rattle.mc_seats.specs.declared.seat.Seat.{Seat}
 use Rattle.mc_seats.specs.declared.world.World.{World}
 use Rattle.mc_seats.specs.Desked.{is_full_list}
-use Rattle.mc_seats.specs.Fetching.{IsFound, IsFoundIn}
-use Rattle.mc_seats.specs.Keepers.{desk_count, is_calm_desk, is_calm_keeper, keeper_of}
+use Rattle.mc_seats.specs.Fetching.{Decides, IsFound, IsFoundIn, planted_alone}
+use Rattle.mc_seats.specs.Keepers.{DeskStays, desk_count, is_calm_desk, is_calm_keeper, keeper_of}
 use Rattle.mc_seats.specs.Record.{RoseIn}
 use Rattle.mc_seats.specs.Step.{GivesBack, ShortAt, answers_fault, is_fault}
 use Rattle.mc_seats.specs.Words.{KeeperGoes, PlaceRow}
@@ -75,6 +75,12 @@ is_peer_at down r number p = is_linked down r number && is_up p.run
 -- the desks of views
 abbrev pub desks_in_views : {K D : Type 0} → List (PeerView K D) → List D
 desks_in_views {K} {D} views = map (λ (view : PeerView K D). view.desk) views
+
+-- what is offered for a block by a replica with these planted offers and this content: where that isn't told, what is
+-- planted, where this has the digest, and else anything
+abbrev pub IsOffered : List Planted → Option Kept → Cid → Option (List ℕ) → Type 0
+IsOffered planted None cid found = Decides (first_offer cid (peer_places (planted_alone planted cid))) false found
+IsOffered planted (Some kept) cid found = found ≡ first_offer cid (peer_places (offers_at planted kept cid))
 
 -- what peers are found to offer for a block, as far as they tell
 abbrev pub IsOfferedBy : List Place → Cid → Option (List ℕ) → Type 0
@@ -142,14 +148,19 @@ module _ {K D : Type 0} (k : Members K D) where
     pub same : y ≡ x
 
   -- what is offered by a replica with these planted offers, where its keeper tells
-  abbrev pub IsOfferedAt : K → List Planted → Cid → Option (List ℕ) → Type 0
-  IsOfferedAt keeper planted cid found =
+  abbrev pub IsToldAt : K → List Planted → Cid → Option (List ℕ) → Type 0
+  IsToldAt keeper planted cid found =
       IfSome (k.told keeper) (λ kept. found ≡ first_offer cid (peer_places (offers_at planted kept cid)))
 
+  -- and what is planted, also where it doesn't
+  abbrev pub IsOfferedAt : K → List Planted → Cid → Option (List ℕ) → Type 0
+  IsOfferedAt keeper planted cid found = IsOffered planted (k.told keeper) cid found
+
   module _ (desk_faults : D → ℕ) where
-    -- What calls through the desks of a replica leave of them: their counts never fall, and where its keeper is quiet
-    -- what is calm stays calm.
+    -- What calls through the desks of a replica leave of them: each stands at its place, their counts never fall, and
+    -- where its keeper is quiet what is calm stays calm.
     pub record DesksGo (quiet : Bool) (old new : List D) : Type 0 where
+      pub each : AllZip (DeskStays k desk_faults) old new
       pub full : is_full_list old ≡ true → is_full_list new ≡ true
       pub later : sum_by desk_faults old ≤ sum_by desk_faults new
       pub calm : quiet ≡ true → list_all (is_calm_desk k desk_faults) old ≡ true

@@ -5,8 +5,8 @@ ghost use Rattle.mc_seats.specs.Openings.{
   AreFresh,
   AreOpened,
   AreRefused,
+  HaveOwnDesks,
   are_calm,
-  have_desks,
   owns_of,
   parts_of,
   starts_of,
@@ -27,8 +27,9 @@ use std::alloc::{AllocError, Global};
 impl<K: Keeper> World<K> {
     /// Opens the replicas of the parts, in order, and makes sixteen desks for each: `parts` are the keepers in order of
     /// the replicas' names, each with a sound mark, no fuse and no desks. No message is sent, all links are up, nothing
-    /// is planted, and the record is empty. Refusals: `KeeperFault`, where a keeper failed, which has counted it, and
-    /// `Memory`. They hand the parts back in order, with the desks that were made.
+    /// is planted, and the record is empty; each desk has the plan that its keeper had for it. Refusals: `KeeperFault`,
+    /// where a keeper failed, which has counted it, and `Memory`. They hand the parts back in order, with the desks that
+    /// were made.
     pub fn new(alloc: Global, parts: List<Part<K>>) -> Result<World<K>, NoWorld<K>>
         requires fresh { AreFresh K.told K.fuse parts }
         ensures first { IfOk result (λ world.
@@ -38,7 +39,7 @@ impl<K: Keeper> World<K> {
         ensures unarmed { IfOk result (λ world. armed_in K.Keeper world.seats.items ≡ 0) }
         ensures calm { IfOk result (λ world.
             are_calm K.Keeper parts ≡ true → is_calm K.Keeper K.Desk.faults world ≡ true) }
-        ensures desks { IfOk result (λ world. have_desks world.desks.items ≡ true) }
+        ensures own { IfOk result (λ world. HaveOwnDesks K.Keeper parts world.desks.items) }
         ensures refused { IfErr result (λ refused. AreRefused K.Keeper refused.cause parts refused.parts) }
     {
         let parts = parts.into_vec();

@@ -2,7 +2,7 @@
 ghost use Rattle.std.specs.Prelude.{◌≡◌, ◌≤◌, ◌+◌, [], None, IfOk, IfErr, OnOk, vec_len, vec_capacity, length};
 ghost use Rattle.mc_keep.specs.Causes.{is_fault_kind};
 ghost use Rattle.mc_core.specs.Refusals.{kind_of};
-ghost use Rattle.mc_seats.specs.Desked.{desks_each};
+ghost use Rattle.mc_seats.specs.Desked.{AreDesksOf, desks_each};
 ghost use Rattle.mc_seats.specs.Openings.{
   AreNewDesks,
   IsBack,
@@ -38,11 +38,14 @@ pub(crate) struct NoPart<K: Keeper> {
 }
 
 // Opens the replica of a part, and makes its desks.
+#[tactic(auto, using(crate::proofs::StayFacts::of_before, crate::proofs::StayFacts::of_none))]
 pub(crate) fn open_part<K: Keeper>(alloc: Global, part: Part<K>) -> Result<Opened<K>, NoPart<K>>
     requires fresh { IsFresh K.told K.fuse part }
     ensures opened { IfOk result (λ opened. IsOpened K.Keeper K.Desk.faults part opened.seat opened.desks) }
     ensures back { IfErr result (λ refused. IsBack K.Keeper refused.cause part.keeper refused.part.keeper) }
     ensures few { IfErr result (λ refused. length refused.part.desks ≤ desks_each) }
+    ensures own { IfErr result (λ refused.
+        AreDesksOf K.desk_schedule (K.schedule part.keeper) refused.part.desks) }
 {
     let Part { keeper, desks } = part;
     match Replica::open(alloc, keeper) {
@@ -66,6 +69,8 @@ fn add_desks<K: Keeper>(
     ensures seated { IfOk result (λ opened. IsSeated K.Keeper K.Desk.faults replica opened.seat opened.desks) }
     ensures back { IfErr result (λ refused. IsBack K.Keeper refused.cause replica.keeper refused.part.keeper) }
     ensures few { IfErr result (λ refused. length refused.part.desks ≤ desks_each) }
+    ensures own { IfErr result (λ refused.
+        AreDesksOf K.desk_schedule (K.schedule replica.keeper) refused.part.desks) }
 {
     let mut replica = replica;
     let mut desks = desks.into_vec();
@@ -87,6 +92,7 @@ fn add_desks<K: Keeper>(
 }
 
 // Makes the desks of a replica in a list, which has none, and says why it could not.
+#[tactic(auto, using(crate::proofs::StayFacts::of_none))]
 fn make_desks<K: Keeper>(
     replica: &mut Replica<K>,
     alloc: Global,
@@ -95,6 +101,7 @@ fn make_desks<K: Keeper>(
     requires no_desks { desks.old.items ≡ [] }
     ensures makes { MakesDesks K.Keeper (is_open_fault result) replica.old replica.new }
     ensures new_desks { AreNewDesks K.Keeper K.Desk.faults replica.old.keeper desks.new.items }
+    ensures own { AreDesksOf K.desk_schedule (K.schedule replica.old.keeper) desks.new.items }
     ensures many { OnOk result (length desks.new.items ≡ desks_each) }
     ensures few { length desks.new.items ≤ desks_each }
 {
@@ -114,6 +121,7 @@ fn fill_desks<K: Keeper>(
     requires room { vec_len desks.old + DESKS ≤ vec_capacity desks.old }
     ensures makes { MakesDesks K.Keeper (is_open_fault result) replica.old replica.new }
     ensures new_desks { AreNewDesks K.Keeper K.Desk.faults replica.old.keeper desks.new.items }
+    ensures own { AreDesksOf K.desk_schedule (K.schedule replica.old.keeper) desks.new.items }
     ensures many { OnOk result (length desks.new.items ≡ desks_each) }
     ensures few { length desks.new.items ≤ desks_each }
 {

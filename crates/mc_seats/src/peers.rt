@@ -2,7 +2,8 @@
 ghost use Rattle.std.specs.Prelude.{◌≡◌, ◌∷◌, ◌<◌, [], true, IfOk, IfSome, length, map};
 ghost use Rattle.std.specs.Prelude.{vec_len, vec_capacity};
 ghost use Rattle.mc_fetch.specs.Causes.{is_peer_fault};
-ghost use Rattle.mc_fetch.specs.Offers.{HasDigest};
+ghost use Rattle.mc_fetch.specs.Offers.{HasDigest, matching};
+ghost use Rattle.mc_fetch.specs.Plants.{planted_at};
 ghost use Rattle.mc_seats.specs.Desked.{is_desked, is_full_list};
 ghost use Rattle.mc_seats.specs.Keepers.{keeper_of};
 ghost use Rattle.mc_seats.specs.StepParts.{
@@ -10,6 +11,7 @@ ghost use Rattle.mc_seats.specs.StepParts.{
   DesksAsk,
   IsOfferedAt,
   IsOfferedBy,
+  IsToldAt,
   PeerFailed,
   are_calm,
   desks_in_views,
@@ -23,15 +25,15 @@ use crate::links::{Link, is_linked};
 use crate::seat::{Held, Seat};
 use crate::seats::{put_at, take_at};
 use mc_base::{Bytes, Cid, List};
-use mc_fetch::{FetchError, PeerFetch, PeerView, first_match};
+use mc_fetch::{FetchError, PeerFetch, PeerView, Plants, first_match};
 use mc_keep::Keeper;
-use std::alloc::Global;
+use std::alloc::{AllocError, Global};
 use std::mem::replace;
 use std::sync::Wait;
 
 /// The bytes for a block that are found first among those that r fetches from, in order of name: of each one its planted
-/// offer, and then its stored block, which is read through the first of its desks. None is asked after the one that
-/// decides, nor after one whose desk failed.
+/// offer, where this is the block, whatever its keeper tells, and else its stored block, which is read through the first
+/// of its desks. None is asked after the one that decides, nor after one whose desk failed.
 pub fn find_among<K: Keeper, W: Wait>(
     alloc: Global,
     seats: &[Seat<K>],
@@ -91,7 +93,8 @@ pub fn keeper_in<K: Keeper>(seat: &Seat<K>) -> &K
     }
 }
 
-// What the replica in a seat offers for a block that has its digest, read through the first of its desks.
+// What the replica in a seat offers for a block that has its digest: what is planted there, or else what is read
+// through the first of its desks.
 fn ask_peer<K: Keeper, W: Wait>(
     alloc: Global,
     seat: &Seat<K>,
@@ -105,7 +108,44 @@ fn ask_peer<K: Keeper, W: Wait>(
     ensures desks { DesksAsk K.Keeper K.Desk.faults (K.quiet (keeper_of seat.now)) (is_peer_fault result)
         desks.old desks.new }
 {
-    let mut views = Vec::with_capacity(alloc, 1)?;
+    match planted_match(alloc, &seat.planted, cid) {
+        Ok(Some(bytes)) => Ok(Some(bytes)),
+        Ok(None) => ask_desk(alloc, seat, desks, cid, wait),
+        Err(AllocError) => Err(FetchError::Memory),
+    }
+}
+
+// The bytes that are planted for a block, where they have its digest.
+fn planted_match(alloc: Global, planted: &Plants, cid: &Cid) -> Result<Option<Bytes>, AllocError>
+    ensures same { IfOk result (λ found. found ≡ matching cid.now (planted_at planted.now cid.now)) }
+    ensures digest { IfOk result (λ found. IfSome found (HasDigest cid.now)) }
+{
+    let Some(bytes) = planted.get(cid) else {
+        return Ok(None);
+    };
+    if Cid::of(bytes) == *cid {
+        return Ok(Some(Bytes::from_slice(alloc, bytes)?));
+    }
+    Ok(None)
+}
+
+// What the replica in a seat offers for a block that has its digest, read through the first of its desks.
+fn ask_desk<K: Keeper, W: Wait>(
+    alloc: Global,
+    seat: &Seat<K>,
+    desks: &mut List<K::Desk>,
+    cid: &Cid,
+    wait: &W,
+) -> Result<Option<Bytes>, FetchError>
+    requires full { is_full_list desks.old ≡ true }
+    ensures offer { IfOk result (IsToldAt K.Keeper (keeper_of seat.now) seat.now.planted cid.now) }
+    ensures digest { IfOk result (λ found. IfSome found (HasDigest cid.now)) }
+    ensures desks { DesksAsk K.Keeper K.Desk.faults (K.quiet (keeper_of seat.now)) (is_peer_fault result)
+        desks.old desks.new }
+{
+    let Ok(mut views) = Vec::with_capacity(alloc, 1) else {
+        return Err(FetchError::Memory);
+    };
     let (desk, others) = take_first(alloc, desks);
     views.push_reserved(view_of(seat, desk));
     let mut fetch = PeerFetch::new(List::from_vec(views));

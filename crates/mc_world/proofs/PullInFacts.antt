@@ -11,7 +11,7 @@ use Rattle.mc_base.specs.Causes.{Rose}
 use Rattle.mc_base.specs.declared.counted.Counted as counted
 use Rattle.mc_keep.specs.Calls.{Members}
 use Rattle.mc_keep.specs.declared.keeper.Keeper as keeper
-use Rattle.mc_pull.specs.Pulls.{DeskListGoes, DeskRose as ListRose}
+use Rattle.mc_pull.specs.Pulls.{DeskGoes, DeskListGoes, DeskRose as ListRose}
 use Rattle.mc_script.specs.declared.command.Command.{Command}
 use Rattle.mc_script.specs.declared.reply.Reply.{Reply}
 use Rattle.mc_script.specs.declared.reply.Reply.TheVariants.{FaultKeeper, FaultPeer}
@@ -19,7 +19,7 @@ use Rattle.mc_seats.specs.declared.seat.Seat.{Seat}
 use Rattle.mc_seats.specs.declared.world.World.{World}
 use Rattle.mc_seats.specs.Asks.{focus, is_named, is_there, may_fail}
 use Rattle.mc_seats.specs.Desked.{desks_each, is_full_list}
-use Rattle.mc_seats.specs.Keepers.{desk_count, keeper_of}
+use Rattle.mc_seats.specs.Keepers.{DeskStays, desk_count, keeper_of}
 use Rattle.mc_seats.specs.Effects.{AsksAt, DoneAt, RefusedAt}
 use Rattle.mc_seats.specs.Record.{RoseAt, RoseIn}
 use Rattle.mc_seats.specs.Doing.{doing}
@@ -28,6 +28,7 @@ use Rattle.mc_seats.specs.StepParts.{AllDesksGo, DesksGo, PeerFailed}
 use Rattle.mc_seats.specs.Words.{DeskRose, KeeperRose, OwnRose, place, state}
 use Rattle.mc_seats.specs.Worlds.{AtPlace, Moved, MovedAt, Place, WorldState, is_marked, peer_row}
 use Rattle.mc_seats.proofs.SeatFacts.{get_of_set, set_of_get}
+use Rattle.mc_seats.proofs.StayFacts.{list_stays}
 
 -- where a thing stands in a list, of which another was taken out
 abbrev skip : ℕ → ℕ → ℕ
@@ -57,14 +58,20 @@ full_of : {D : Type 0} (xs ys : List D) → length ys ≡ length xs → is_full_
 full_of xs ys many is = ap (λ n. nat_eq n desks_each) many ∙ is
 
 module _ {K D : Type 0} (k : Members K D) (desk_faults : D → ℕ) where
+  each_stays : (quiet : Bool) (olds news : List D) → AllZip (DeskGoes k desk_faults quiet) olds news → AllZip (DeskStays k desk_faults) olds news
+  each_stays quiet [] [] goes = tt
+  each_stays quiet [] (new ∷ news) goes = absurd goes
+  each_stays quiet (old ∷ olds) [] goes = absurd goes
+  each_stays quiet (old ∷ olds) (new ∷ news) goes = (record { later = goes.0.grows; plan = goes.0.plan }, each_stays quiet olds news goes.1)
+
   pub lists_go : (quiet : Bool) (desks left : List (List D)) → AllZip (DeskListGoes k desk_faults quiet) desks left → AllDesksGo k desk_faults quiet desks left
   lists_go quiet [] [] goes = tt
   lists_go quiet [] (n ∷ left) goes = absurd goes
   lists_go quiet (o ∷ desks) [] goes = absurd goes
-  lists_go quiet (o ∷ desks) (n ∷ left) goes = (record { full = full_of o n goes.0.many; later = goes.0.later; calm = goes.0.calm }, lists_go quiet desks left goes.1)
+  lists_go quiet (o ∷ desks) (n ∷ left) goes = (record { each = each_stays quiet o n goes.0.each; full = full_of o n goes.0.many; later = goes.0.later; calm = goes.0.calm }, lists_go quiet desks left goes.1)
 
   same_desks : (quiet : Bool) (old new : List D) → new ≡ old → DesksGo k desk_faults quiet old new
-  same_desks quiet old new same = subst (DesksGo k desk_faults quiet old) (sym same) (record { full = λ e. e; later = omega arith; calm = λ q e. e })
+  same_desks quiet old new same = subst (DesksGo k desk_faults quiet old) (sym same) (record { each = list_stays k desk_faults old; full = λ e. e; later = omega arith; calm = λ q e. e })
 
   pub insert_go : (quiet : Bool) (xs ys : List (List D)) (r : ℕ) (x : List D) → slice_get xs r ≡ Some x → AllDesksGo k desk_faults quiet (remove xs r) ys → AllDesksGo k desk_faults quiet xs (insert ys r x)
   insert_go quiet [] ys r x stands goes = none_is stands

@@ -9,6 +9,7 @@ use Rattle.mc_gen.specs.Script.{script_text}
 use Rattle.mc_keepers.specs.declared.keepers.KeeperPlan.TheVariants as plans
 use Rattle.mc_app.proofs.GeneratingFacts.{generates_asked}
 use Rattle.mc_app.proofs.ValidFacts.{gen_ends_well, run_ends_well}
+use Rattle.mc_seats.proofs.MemberWords.{members}
 use Rattle.mc_app.proofs.running.run.Goals as goal
 
 pub returns-in-Ok-Gen-clause-generated : goal.returns-in-Ok-Gen-clause-generated
@@ -17,17 +18,17 @@ returns-in-Ok-Gen-clause-generated g c = λ start count asked.
 
 pub returns-in-Err-Memory-clause-outcome : goal.returns-in-Err-Memory-clause-outcome
 returns-in-Err-Memory-clause-outcome g c = λ plan replicas asked.
-    unmade_outcome g.K.Keepers.makes g.K.Keepers.takes g.K.K.Keeper.told plan causes.Memory status.Memory
+    unmade_outcome g.K.Keepers.makes g.K.Keepers.takes (members g.K.K.Keeper g.K.K.Counted) plan causes.Memory status.Memory
     (starts_from (g.K.Keepers.starts c.args.keepers.now plan) 0 replicas) c.args.keepers.now c.args.keepers.now
     (g.K.Keepers.quiet c.args.keepers.now plan ≡ true) (g.K.Keepers.lost c.args.keepers.now) (g.K.Keepers.lost c.args.keepers.now)
-    (g.S.Source.left c.args.script.now) (g.O.Sink.written c.args.out.now) refl (making_none g.K.Keepers.makes g.K.Keepers.takes g.K.K.Keeper.told plan (starts_from (g.K.Keepers.starts c.args.keepers.now plan) 0 replicas) c.args.keepers.now) (omega arith)
+    (g.S.Source.left c.args.script.now) (g.O.Sink.written c.args.out.now) refl (making_none g.K.Keepers.makes g.K.Keepers.takes (members g.K.K.Keeper g.K.K.Counted) plan (starts_from (g.K.Keepers.starts c.args.keepers.now plan) 0 replicas) c.args.keepers.now) (omega arith)
 
 pub returns-in-Err-Memory-clause-generated : goal.returns-in-Err-Memory-clause-generated
 returns-in-Err-Memory-clause-generated g c = λ start count asked. (
-  unmade_short g.K.Keepers.makes g.K.Keepers.takes g.K.K.Keeper.told plans.Memory status.Memory (script_text start count)
+  unmade_short g.K.Keepers.makes g.K.Keepers.takes (members g.K.K.Keeper g.K.K.Counted) plans.Memory status.Memory (script_text start count)
       (starts_from (g.K.Keepers.starts c.args.keepers.now plans.Memory) 0 3) c.args.keepers.now c.args.keepers.now
       (g.K.Keepers.quiet c.args.keepers.now plans.Memory ≡ true) (g.K.Keepers.lost c.args.keepers.now) (g.K.Keepers.lost c.args.keepers.now)
-      (making_none g.K.Keepers.makes g.K.Keepers.takes g.K.K.Keeper.told plans.Memory (starts_from (g.K.Keepers.starts c.args.keepers.now plans.Memory) 0 3) c.args.keepers.now) (omega arith) refl,
+      (making_none g.K.Keepers.makes g.K.Keepers.takes (members g.K.K.Keeper g.K.K.Counted) plans.Memory (starts_from (g.K.Keepers.starts c.args.keepers.now plans.Memory) 0 3) c.args.keepers.now) (omega arith) refl,
   keeps_same (g.O.Sink.written c.args.out.now),
 )
 
@@ -44,7 +45,7 @@ pub returns-in-Ok-Run-clause-handed_back : goal.returns-in-Ok-Run-clause-handed_
 returns-in-Ok-Run-clause-handed_back g c = λ asked. rw (rw c.in-Ok-Run.field-0-is at c.in-Ok-Run.ensures.ok) c.run_keepers.ensures.handed_back
 
 pub returns-in-Err-Memory-clause-handed_back : goal.returns-in-Err-Memory-clause-handed_back
-returns-in-Err-Memory-clause-handed_back g c = λ asked. some_handed g.K.Keepers.makes g.K.Keepers.takes g.K.K.Keeper.told _ _ _ _ (making_none g.K.Keepers.makes g.K.Keepers.takes g.K.K.Keeper.told _ _ c.args.keepers.now)
+returns-in-Err-Memory-clause-handed_back g c = λ asked. some_handed g.K.Keepers.makes g.K.Keepers.takes (members g.K.K.Keeper g.K.K.Counted) _ _ _ _ (making_none g.K.Keepers.makes g.K.Keepers.takes (members g.K.K.Keeper g.K.K.Counted) _ _ c.args.keepers.now)
 
 pub returns-in-Ok-Run-clause-complete : goal.returns-in-Ok-Run-clause-complete
 returns-in-Ok-Run-clause-complete g c = λ plan replicas bytes asked held valid quiet reads writes makes.

@@ -1,5 +1,5 @@
 use Rattle.std.proofs.Common.{inl, subst, sym}
-use Rattle.mc_app.proofs.EndFacts.{all_some, may_calm, refused_few, refused_outcome, refused_rose, refused_told}
+use Rattle.mc_app.proofs.EndFacts.{may_calm, own_parts, refused_outcome, refused_own, refused_rose, refused_told}
 use Rattle.mc_app.proofs.KeepingFacts.{fused_members}
 use Rattle.mc_seats.proofs.MemberWords.{members}
 use Rattle.mc_app.proofs.RunFacts.{outcome_told}
@@ -18,8 +18,8 @@ returns-in-Err-clause-same g c = λ fault. refused_told (fused_members (members 
 pub returns-in-Err-clause-keeper_cause : goal.returns-in-Err-clause-keeper_cause
 returns-in-Err-clause-keeper_cause g c = λ fault. refused_rose (fused_members (members g.K.Keeper g.K.Counted)) g.K.Desk.Counted.faults _ _ _ c.in-Err.ensures.refused _ c.status_of.ensures c.requires.counted fault
 
-pub returns-in-Ok-clause-few : goal.returns-in-Ok-clause-few
-returns-in-Ok-clause-few g c = all_some _ c.run_world.ensures.full
+pub returns-in-Ok-clause-own : goal.returns-in-Ok-clause-own
+returns-in-Ok-clause-own g c = own_parts (fused_members (members g.K.Keeper g.K.Counted)) g.K.Desk.Counted.faults _ _ _ c.in-Ok.ensures.own c.run_world.ensures.desks c.run_world.ensures.full
 
-pub returns-in-Err-clause-few : goal.returns-in-Err-clause-few
-returns-in-Err-clause-few g c = refused_few (fused_members (members g.K.Keeper g.K.Counted)) g.K.Desk.Counted.faults _ _ _ c.in-Err.ensures.refused
+pub returns-in-Err-clause-own : goal.returns-in-Err-clause-own
+returns-in-Err-clause-own g c = refused_own (fused_members (members g.K.Keeper g.K.Counted)) g.K.Desk.Counted.faults _ _ _ c.in-Err.ensures.refused

@@ -28,7 +28,7 @@ pub join-parts-requires-clause-same : goal.join-parts-requires-clause-same
 join-parts-requires-clause-same g c = let same = opened_length _ _ _ _ _ c.loop-parts.invariant.0.opened in omega (arith, same, c.loop-parts.seats.ok, c.loop-parts.desks.ok)
 
 pub returns-in-Err-clause-refused : goal.returns-in-Err-clause-refused
-returns-in-Err-clause-refused g c = rw (c.join-parts.ensures, c.put_first.ensures.items) (opening_refused _ _ _ _ _ _ _ _ _ _ c.loop-parts.invariant.0 c.take_first.ensures.items c.in-Err.ensures.back c.in-Err.ensures.few)
+returns-in-Err-clause-refused g c = rw (c.join-parts.ensures, c.put_first.ensures.items) (opening_refused _ _ _ _ _ _ _ _ _ _ c.loop-parts.invariant.0 c.take_first.ensures.items c.in-Err.ensures.back c.in-Err.ensures.few c.in-Err.ensures.own)
 
 pub invariant_of-result : goal.invariant_of-result
 invariant_of-result g c =

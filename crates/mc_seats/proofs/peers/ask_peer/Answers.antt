@@ -1,14 +1,16 @@
-use Rattle.std.proofs.Common.{◌∙◌, ◌++◌, ◌∷◌, [], ap, sym}
-use Rattle.mc_seats.specs.StepParts.{desks_in_views}
+use Rattle.std.proofs.Common.{Some, sym}
 use Rattle.mc_seats.proofs.BeginFacts.{members}
-use Rattle.mc_seats.proofs.PeerFacts.{asked_one, offered_one}
+use Rattle.mc_seats.proofs.PeerFacts.{ask_none, asks_unplanted, offered_planted}
 use Rattle.mc_seats.proofs.peers.ask_peer.Goals as goal
 
-pub returns-clause-offer : goal.returns-clause-offer
-returns-clause-offer g c = offered_one (members g.K.Keeper g.K.Counted) _ _ _ c.new-fetch.result.views.items c.view_of.result _
-    (c.new-fetch.ensures ∙ c.from_vec.ensures ∙ c.push_reserved.ensures.items ∙ ap (λ l. l ++ c.view_of.result ∷ []) c.in_ok-views.ensures.items) c.view_of.ensures.keeper c.view_of.ensures.planted c.first_match-found.ensures.found
+pub returns-in-Ok-Some-clause-offer : goal.returns-in-Ok-Some-clause-offer
+returns-in-Ok-Some-clause-offer g c = offered_planted (g.K.Keeper.told _) _ _ _ (rw c.in-Ok-Some.field-0-is at c.in-Ok-Some.ensures.same)
 
-pub returns-clause-desks : goal.returns-clause-desks
-returns-clause-desks g c = asked_one (members g.K.Keeper g.K.Counted) g.K.Desk.Counted.faults _ _ c.new-fetch.result.views.items c.first_match-found.new.fetch.views.items c.view_of.result c.desk_of.result c.take_first-desk.result.1.items _ _
-    (c.new-fetch.ensures ∙ c.from_vec.ensures ∙ c.push_reserved.ensures.items ∙ ap (λ l. l ++ c.view_of.result ∷ []) c.in_ok-views.ensures.items) c.view_of.ensures.keeper c.first_match-found.ensures.asks.followed
-    c.first_match-found.ensures.asks.faults_go (ap desks_in_views (sym c.end.ensures) ∙ c.desk_of.ensures) (c.take_first-desk.ensures.taken ∙ ap (λ d. d ∷ c.take_first-desk.result.1.items) (sym c.view_of.ensures.desk)) c.put_first.ensures
+pub returns-in-Ok-Some-clause-desks : goal.returns-in-Ok-Some-clause-desks
+returns-in-Ok-Some-clause-desks g c = ask_none (members g.K.Keeper g.K.Counted) g.K.Desk.Counted.faults _ _
+
+pub returns-in-Ok-None-clause-offer : goal.returns-in-Ok-None-clause-offer
+returns-in-Ok-None-clause-offer g c = asks_unplanted (g.K.Keeper.told _) _ _ _ (sym (rw c.in-Ok-None.field-0-is at c.in-Ok-None.ensures.same)) c.ask_desk.ensures.offer
+
+pub returns-in-Err-clause-desks : goal.returns-in-Err-clause-desks
+returns-in-Err-clause-desks g c = ask_none (members g.K.Keeper g.K.Counted) g.K.Desk.Counted.faults _ _

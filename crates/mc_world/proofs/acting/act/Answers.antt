@@ -1,6 +1,7 @@
 use Rattle.std.proofs.Common.{rules}
 use Rattle.mc_acts.proofs.LiftFacts.{later_same}
 use Rattle.mc_acts.proofs.RecordFacts.{act_goes, act_line, act_not_begun, act_unrecorded, fewer_faults, nothing_goes}
+use Rattle.mc_seats.proofs.StayFacts.{all_stay}
 use Rattle.mc_world.proofs.acting.act.Goals as goal
 
 pub returns-in-Ok-clause-line : goal.returns-in-Ok-clause-line
@@ -22,4 +23,4 @@ pub returns-then-not-is_there-clause-goes : goal.returns-then-not-is_there-claus
 returns-then-not-is_there-clause-goes g c = nothing_goes _ _ _ _
 
 pub returns-in_err-before-clause-goes : goal.returns-in_err-before-clause-goes
-returns-in_err-before-clause-goes g c = record { paid = search rules; calm = search rules; own_later = later_same _ _; desks_later = later_same _ _ }
+returns-in_err-before-clause-goes g c = record { paid = search rules; calm = search rules; own_later = later_same _ _; desks_later = later_same _ _; desks_stay = all_stay _ _ _ }

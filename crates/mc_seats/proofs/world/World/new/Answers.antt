@@ -1,5 +1,5 @@
 use Rattle.mc_seats.proofs.MemberWords.{members}
-use Rattle.mc_seats.proofs.OpeningFacts.{refused_first, world_calm, world_counted, world_desks, world_first, world_unarmed}
+use Rattle.mc_seats.proofs.OpeningFacts.{refused_first, world_calm, world_counted, world_own, world_first, world_unarmed}
 use Rattle.mc_seats.proofs.world.World.new.Goals as goal
 
 pub returns-in-Ok-clause-first : goal.returns-in-Ok-clause-first
@@ -20,5 +20,5 @@ returns-in-Ok-clause-refused g c = rw (← c.into_vec-parts.ensures) c.open_all.
 pub returns-in-Err-clause-refused : goal.returns-in-Err-clause-refused
 returns-in-Err-clause-refused g c = rw (c.from_vec.ensures, c.into_vec-parts.ensures) (refused_first _ _ c.requires.fresh)
 
-pub returns-in-Ok-clause-desks : goal.returns-in-Ok-clause-desks
-returns-in-Ok-clause-desks g c = world_desks (members g.K.Keeper g.K.Counted) g.K.Desk.Counted.faults _ _ c.into_vec-parts.ensures c.open_all.result c.open_all.ensures.opened
+pub returns-in-Ok-clause-own : goal.returns-in-Ok-clause-own
+returns-in-Ok-clause-own g c = world_own (members g.K.Keeper g.K.Counted) g.K.Desk.Counted.faults _ _ c.into_vec-parts.ensures c.open_all.result c.open_all.ensures.opened
