@@ -114,7 +114,7 @@ fn agree(alloc: Global, calls: u64) -> Result<bool, Fail> {
 
 #[test]
 fn many_calls_agree(rt: HostRuntime) -> Result<(), Fail> {
-    assert!(rt; agree(rt.alloc(), 5_000)?);
+    assert!(rt; agree(rt.alloc(), 10_000)?);
     Ok(())
 }
 
