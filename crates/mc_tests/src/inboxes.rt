@@ -121,7 +121,7 @@ fn holds_64<K: Keeper>(replica: &mut Replica<K>, alloc: Global) -> Result<bool, 
 fn two_of_three<K: Keeper + Drop>(keeper: K, alloc: Global) -> Result<bool, CoreError>
     requires { IfSome (K.told keeper) HasSoundMark }
 {
-    let mut replica = opened(alloc, Fused::new(keeper))?;
+    let mut replica = opened(alloc, Fused::wrap(keeper))?;
     takes_two(&mut replica, alloc)
 }
 
