@@ -1,5 +1,5 @@
 // The record of a line: what failed in it.
-ghost use Rattle.std.specs.Prelude.{◌≡◌, ◌≤◌, ◌+◌, ◌++◌, [], ◌∷◌, OnErr, OnOk, IfOk, length, vec_capacity, vec_len};
+ghost use Rattle.std.specs.Prelude.{◌≡◌, ◌≤◌, ◌+◌, ◌++◌, [], ◌∷◌, OnErr, OnOk, IfOk, cond, length, vec_capacity, vec_len};
 ghost use Rattle.mc_acts.specs.Counting.{desk_counts, firsts, keeper_counts, risen_from, rises, seconds};
 ghost use Rattle.mc_acts.specs.Counting.{HasRecord, entry_since};
 ghost use Rattle.mc_seats.specs.Desked.{desk_sums};
@@ -128,12 +128,8 @@ fn add_risen_keepers<K: Keeper>(
         return Ok(());
     };
     let keeper = keeper_of(seat);
-    if rises(old.0, keeper.faults()) {
-        keepers.push(number)?;
-    }
-    if rises(old.1, keeper.own_faults()) {
-        own.push(number)?;
-    }
+    add_if_risen(keepers, number, old.0, keeper.faults())?;
+    add_if_risen(own, number, old.1, keeper.own_faults())?;
     add_risen_keepers(keepers, own, number + 1, before, seats)
 }
 
@@ -162,10 +158,23 @@ fn add_risen(
     let [new, after @ ..] = after else {
         return Ok(());
     };
-    if rises(*old, *new) {
+    add_if_risen(numbers, number, *old, *new)?;
+    add_risen(numbers, number + 1, before, after)
+}
+
+// A number behind others, where its count rose.
+fn add_if_risen(
+    numbers: &mut List<u64>,
+    number: u64,
+    before: u64,
+    now: u64,
+) -> Result<(), AllocError>
+    ensures { OnOk result (numbers.new ≡ numbers.old ++ cond (rises before now) (number ∷ []) []) }
+{
+    if rises(before, now) {
         numbers.push(number)?;
     }
-    add_risen(numbers, number + 1, before, after)
+    Ok(())
 }
 
 // Whether a count rose, or stands at its last value.
