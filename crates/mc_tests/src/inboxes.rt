@@ -32,7 +32,7 @@ fn begins<K: Keeper>(replica: &mut Replica<K>, alloc: Global, cid: Cid) -> Resul
 // Adds blocks of the priorities below this one to an inbox that has room, and tells how many were taken.
 fn adds<K: Keeper>(replica: &mut Replica<K>, alloc: Global, count: u64) -> Result<u64, CoreError>
     requires room { 64 ≤ replica.old.inbox.room }
-    ensures room { replica.new.inbox.room ≡ replica.old.inbox.room }
+    ensures room { OnOk result (replica.new.inbox.room ≡ replica.old.inbox.room) }
 {
     for priority in 0..count {
         let item = block_of(alloc, priority)?;
