@@ -5,6 +5,8 @@ pub mod Handovers
 pub mod Items
 pub mod Jobs
 pub mod Moves
+pub mod Pieces
+pub mod Props
 pub mod Seats
 pub mod Serves
 pub mod Ties

@@ -5,6 +5,8 @@
 mod crews;
 mod entry;
 mod error;
+#[cfg(test)]
+mod handing;
 mod hired;
 mod node;
 mod note;

@@ -9,6 +9,7 @@ use mc_keep::Keeper;
 use mc_turn::{Seat, Story, Turn};
 
 mod calls;
+mod deliveries;
 mod reads;
 mod seats;
 mod shop;

@@ -1,12 +1,13 @@
 -- What workers share may cross to other threads where its keeper and the keeper's desks may.
 use denote.RattleType.{RattleType}
-use denote.Param.Send.{IsSend, sendable}
+use denote.Param.Send.{IsSend, IsSync, sendable}
 use denote.Param.SendFields.{declared_send}
 use Rattle.mc_base.specs.declared.counted.Counted as counted
 use Rattle.mc_fetch.specs.declared.naming.Naming as naming
 use Rattle.mc_keep.specs.declared.keeper.Keeper as keeper
 use Rattle.std.below.std_alloc.proofs.vec.Vec.TheSendSync.{the_send as vec_send}
-use Rattle.std.proofs.Crossing.{frees}
+use Rattle.std.proofs.Crossing.{crosses, frees}
+use Rattle.mc_relay.proofs.posts.TakerEnd.TheSendSync.{the_send as taker_send}
 use Rattle.mc_core.proofs.replica.Replica.TheSendSync.{the_send as replica_send}
 use Rattle.mc_node.specs.contracts.entry.Entry as entry
 use Rattle.mc_node.specs.contracts.stored.Stored as stored
@@ -18,5 +19,5 @@ module _ (K J Desk : RattleType) (k : keeper.Ghosts K.Denot Desk.Denot) (n : cou
   entry_send : IsSend K → IsSend Desk → IsSend (entry.the_row K Desk k n d)
   entry_send s t = declared_send (entry.the_type K Desk k n d) (search sendable depth 12, (search sendable depth 12, tt))
 
-  pub stored_send : IsSend K → IsSend J → IsSend Desk → IsSend stored_row
-  stored_send s u t = declared_send (stored.the_type K J Desk k n d j) (search (replica_send, sendable) depth 12, (search (vec_send, entry_send, frees, sendable) depth 12, (search sendable depth 12, tt)))
+  pub stored_send : IsSend K → IsSend J → IsSync J → IsSend Desk → IsSend stored_row
+  stored_send s u v t = declared_send (stored.the_type K J Desk k n d j) (search (replica_send, sendable) depth 12, (search (vec_send, entry_send, frees, sendable) depth 12, (search (taker_send, crosses, u, v, sendable) depth 24, tt)))

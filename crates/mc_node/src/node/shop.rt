@@ -6,9 +6,10 @@ ghost use Rattle.mc_fetch.specs.Fits.{NextFits};
 ghost use Rattle.mc_worker.specs.Ends.{deliver_ends, job_out, next_ends};
 ghost use Rattle.mc_worker.specs.Lookups.{FoundFits};
 ghost use Rattle.mc_node.specs.Entries.{is_sealed_log, items};
-ghost use Rattle.mc_node.specs.Handovers.{HasCommitted, IfCommitted, IfQueued, is_of_fetched};
+ghost use Rattle.mc_node.specs.Handovers.{HandsOver, giver_view, is_of_fetched};
 ghost use Rattle.mc_node.specs.Seats.{knows};
-ghost use Rattle.mc_node.specs.Serves.{BackDoes, DeliverDoes, NextDoes};
+ghost use Rattle.mc_node.specs.Pieces.{NextDoes};
+ghost use Rattle.mc_node.specs.Serves.{BackDoes};
 ghost use Rattle.mc_node.specs.Views.{Turned};
 ghost use Rattle.mc_node.specs.Works.{IsUnder};
 
@@ -32,13 +33,14 @@ impl<K: Keeper, J: Naming> Shop for Node<Stored<K, J>> {
     ghost use Rattle.std.specs.Prelude.{◌≡◌, true};
     ghost use Rattle.mc_turn.specs.Seats.{IsSeatOf};
     ghost use Rattle.mc_node.specs.Entries.{is_sealed_log, items};
-    ghost use Rattle.mc_node.specs.Handovers.{HasCommitted, IfCommitted, IfQueued, is_of_fetched};
+    ghost use Rattle.mc_node.specs.Handovers.{HandsOver, giver_view, is_of_fetched};
     ghost use Rattle.mc_node.specs.Seats.{knows};
-    ghost use Rattle.mc_node.specs.Serves.{BackDoes, DeliverDoes, NextDoes};
+    ghost use Rattle.mc_node.specs.Pieces.{NextDoes};
+    ghost use Rattle.mc_node.specs.Serves.{BackDoes};
     ghost use Rattle.mc_node.specs.Views.{Turned};
     ghost use Rattle.mc_node.specs.Works.{IsUnder};
 
-    type Seat = Hired<Stored<K, J>, K>;
+    type Seat = Hired<Stored<K, J>, K, J>;
 
     ghost owns = { λ node hired. IsSeatOf node.turn hired.seat.seat × IsUnder J.most hired.limit
         × (is_sealed_log (knows hired.seat).seen ≡ true) };
@@ -56,23 +58,21 @@ impl<K: Keeper, J: Naming> Shop for Node<Stored<K, J>> {
         NextDoes before.limit result (items K.Keeper old) (items K.Keeper new)) };
 
     ghost delivers = { λ cid found result before after. (after.limit ≡ before.limit)
-        × Turned (knows before.seat) (knows after.seat) (λ old new.
-        DeliverDoes before.limit cid found result (items K.Keeper old) (items K.Keeper new))
-        × IfCommitted result (HasCommitted is_of_fetched (knows before.seat) (knows after.seat))
-        × IfQueued result (λ word. ⊥) };
+        × HandsOver before.limit cid found result (giver_view before.giver) (giver_view after.giver)
+        (knows before.seat) (knows after.seat) is_of_fetched (items K.Keeper) };
 
     ghost returns = { λ cid before after. (after.limit ≡ before.limit)
         × Turned (knows before.seat) (knows after.seat) (λ old new.
         BackDoes cid (items K.Keeper old) (items K.Keeper new)) };
 
-    fn last(seat: &Hired<Stored<K, J>, K>) -> Option<HandEnd> {
+    fn last(seat: &Hired<Stored<K, J>, K, J>) -> Option<HandEnd> {
         seat.last
     }
 
     fn next_job<W: Wait>(
         &self,
         alloc: Global,
-        seat: &mut Hired<Stored<K, J>, K>,
+        seat: &mut Hired<Stored<K, J>, K, J>,
         wait: &W,
     ) -> Result<Option<Job>, ShopError> {
         let result = self.take_job(alloc, &mut seat.seat, seat.limit, wait);
@@ -84,18 +84,27 @@ impl<K: Keeper, J: Naming> Shop for Node<Stored<K, J>> {
     fn deliver<W: Wait>(
         &self,
         alloc: Global,
-        seat: &mut Hired<Stored<K, J>, K>,
+        seat: &mut Hired<Stored<K, J>, K, J>,
         job: Job,
         bytes: Found,
         wait: &W,
     ) -> Result<Handover, ShopError> {
-        let result = self.end_job(alloc, &mut seat.seat, seat.limit, job, bytes, wait);
+        let limit = seat.limit;
+        let result = self.end_job(
+            alloc,
+            &mut seat.seat,
+            &mut seat.giver,
+            limit,
+            job,
+            bytes,
+            wait,
+        );
         seat.last = deliver_end(&result);
         seat.out = None;
         result
     }
 
-    fn give_back<W: Wait>(&self, seat: &mut Hired<Stored<K, J>, K>, job: Job, wait: &W) {
+    fn give_back<W: Wait>(&self, seat: &mut Hired<Stored<K, J>, K, J>, job: Job, wait: &W) {
         self.leave_job(&mut seat.seat, job, wait);
         seat.out = None;
     }
@@ -103,7 +112,7 @@ impl<K: Keeper, J: Naming> Shop for Node<Stored<K, J>> {
 
 impl<K: Keeper, J: Naming> Node<Stored<K, J>> {
     // A job begins.
-    fn take_job<W: Wait>(
+    pub(crate) fn take_job<W: Wait>(
         &self,
         alloc: Global,
         seat: &mut NodeSeat<Stored<K, J>, K>,
@@ -112,6 +121,7 @@ impl<K: Keeper, J: Naming> Node<Stored<K, J>> {
     ) -> Result<Option<Job>, ShopError>
         requires own { IsSeatOf self.now.turn seat.old.seat }
         requires sealed { is_sealed_log (knows seat.old).seen ≡ true }
+        requires limit { IsUnder J.most limit }
         ensures own { IsSeatOf self.now.turn seat.new.seat }
         ensures seen { Begins (knows seat.old).seen (knows seat.new).seen }
         ensures sealed { is_sealed_log (knows seat.new).seen ≡ true }
@@ -120,41 +130,18 @@ impl<K: Keeper, J: Naming> Node<Stored<K, J>> {
             NextDoes limit result (items K.Keeper old) (items K.Keeper new)) }
     {
         let mut held = self.turn.take(&mut seat.seat, wait);
-        let result = held.value.next_job(alloc, limit);
-        self.turn.give(&mut seat.seat, held);
-        result
-    }
-
-    // What was found for a job is delivered.
-    fn end_job<W: Wait>(
-        &self,
-        alloc: Global,
-        seat: &mut NodeSeat<Stored<K, J>, K>,
-        limit: u64,
-        job: Job,
-        found: Found,
-        wait: &W,
-    ) -> Result<Handover, ShopError>
-        requires own { IsSeatOf self.now.turn seat.old.seat }
-        requires sealed { is_sealed_log (knows seat.old).seen ≡ true }
-        requires limit { IsUnder J.most limit }
-        requires fits { FoundFits J.found job.cid found }
-        ensures own { IsSeatOf self.now.turn seat.new.seat }
-        ensures seen { Begins (knows seat.old).seen (knows seat.new).seen }
-        ensures sealed { is_sealed_log (knows seat.new).seen ≡ true }
-        ensures turned { Turned (knows seat.old) (knows seat.new) (λ old new.
-            DeliverDoes limit job.cid found result (items K.Keeper old) (items K.Keeper new)) }
-        ensures committed { IfCommitted result (HasCommitted is_of_fetched (knows seat.old) (knows seat.new)) }
-        ensures queued { IfQueued result (λ word. ⊥) }
-    {
-        let mut held = self.turn.take(&mut seat.seat, wait);
-        let result = held.value.deliver(alloc, limit, job, found);
+        let result = held.value.next_job(alloc, limit, wait);
         self.turn.give(&mut seat.seat, held);
         result
     }
 
     // A job is given back.
-    fn leave_job<W: Wait>(&self, seat: &mut NodeSeat<Stored<K, J>, K>, job: Job, wait: &W)
+    pub(crate) fn leave_job<W: Wait>(
+        &self,
+        seat: &mut NodeSeat<Stored<K, J>, K>,
+        job: Job,
+        wait: &W,
+    )
         requires own { IsSeatOf self.now.turn seat.old.seat }
         requires sealed { is_sealed_log (knows seat.old).seen ≡ true }
         ensures own { IsSeatOf self.now.turn seat.new.seat }

@@ -39,7 +39,7 @@ fn hand_of<K: Keeper, J: Naming, F: Fetch>(
 {
     let _of = node;
     Hand {
-        seat: Hired::new(seat, limit),
+        seat: Hired::new(seat, limit, None),
         fetch,
         end: HandEnd::Memory,
     }

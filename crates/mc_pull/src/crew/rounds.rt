@@ -65,7 +65,7 @@ where
     ensures peer { result.2 ≡ true → SomeRose F.faults fetches.items result.1.items }
 {
     fetches_follow::<F>();
-    match Node::<Stored<K, J>>::new(alloc, replica, true) {
+    match Node::<Stored<K, J>>::new(alloc, replica, true, None) {
         Ok((node, seat)) => {
             let mut seat = seat;
             let (fetches, failed) = work_beside(
