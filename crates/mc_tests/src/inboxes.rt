@@ -1,5 +1,5 @@
 // Blocks that a replica takes in together.
-ghost use Rattle.std.specs.Prelude.{◌≡◌, ◌≤◌, IfSome, OnOk};
+ghost use Rattle.std.specs.Prelude.{IfSome};
 ghost use Rattle.mc_model.specs.State.{HasSoundMark};
 
 use crate::commits::no_delta;
@@ -29,13 +29,11 @@ fn begins<K: Keeper>(replica: &mut Replica<K>, alloc: Global, cid: Cid) -> Resul
     Ok(replica.next_job(alloc)?.is_some())
 }
 
-// Adds blocks of the priorities below this one to an inbox that has room, and tells how many were taken.
-fn adds<K: Keeper>(replica: &mut Replica<K>, alloc: Global, count: u64) -> Result<u64, CoreError>
-    requires room { 64 ≤ replica.old.inbox.room }
-    ensures room { OnOk result (replica.new.inbox.room ≡ replica.old.inbox.room) }
-{
+// Adds blocks of the priorities below this one to an inbox, and tells how many were taken.
+fn adds<K: Keeper>(replica: &mut Replica<K>, alloc: Global, count: u64) -> Result<u64, CoreError> {
     for priority in 0..count {
         let item = block_of(alloc, priority)?;
+        replica.inbox_reserve()?;
         if replica.inbox_add(item).is_err() {
             return Ok(priority);
         }
@@ -62,7 +60,6 @@ fn begin_all<K: Keeper>(
 // fails, since the fuse was set to it.
 fn takes_two<K: Keeper>(replica: &mut Replica<Fused<K>>, alloc: Global) -> Result<bool, CoreError> {
     let begun = begin_all(replica, alloc, 3)?;
-    replica.inbox_reserve()?;
     let added = adds(replica, alloc, 3)?;
     replica.arm(3, false);
     let grouped = replica.inbox_commit(alloc, 2)?;
@@ -89,7 +86,6 @@ fn takes_two<K: Keeper>(replica: &mut Replica<Fused<K>>, alloc: Global) -> Resul
 // A block that stands in the inbox twice is taken up once, and one that is not in flight is not.
 fn takes_once<K: Keeper>(replica: &mut Replica<K>, alloc: Global) -> Result<bool, CoreError> {
     let begun = begin_all(replica, alloc, 2)?;
-    replica.inbox_reserve()?;
     let first = adds(replica, alloc, 2)?;
     let again = adds(replica, alloc, 3)?;
     let grouped = replica.inbox_commit(alloc, 64)?;
@@ -113,7 +109,6 @@ fn takes_once<K: Keeper>(replica: &mut Replica<K>, alloc: Global) -> Result<bool
 
 // The 65th block is handed back.
 fn holds_64<K: Keeper>(replica: &mut Replica<K>, alloc: Global) -> Result<bool, CoreError> {
-    replica.inbox_reserve()?;
     let added = adds(replica, alloc, 65)?;
     Ok(added == 64 && replica.inbox_len() == 64)
 }
