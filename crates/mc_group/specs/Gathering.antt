@@ -71,7 +71,7 @@ IsPut fate.New item slots blocks cids slots_new blocks_new cids_new =
     (slots_new ≡ slots ++ New (as_stored item) ∷ []) × (blocks_new ≡ blocks ++ item.block ∷ [])
     × (cids_new ≡ cids ++ item.cid ∷ [])
 
--- whether a block is taken up where these are in flight and these stand in the group
+-- whether a block is not taken up
 abbrev pub is_known : Fate → Bool
 is_known fate.Known = true
 is_known (fate.Held block) = false
