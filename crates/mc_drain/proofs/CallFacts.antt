@@ -196,14 +196,18 @@ module _ (grow_law : GrowLaw) (goes_law : GoesLaw) (stay_law : StayLaw) where
   back_processes [] = omega arith
   back_processes (c ∷ cids) = let e = back_processes cids in omega (arith, e)
 
-  pub recall_leads : RecallTakesLaw → RecallSaysLaw → (s new : ReplicaState) → HappensIn s.state.run (λ run. all_given_back run.queue.flight) s new → IsSound s.state → Leads false (count s) Always s new
-  recall_leads takes says s new happens_ sound = happens_leads s new (λ run. all_given_back run.queue.flight) happens_ sound
+  -- blocks that are given back, one after another
+  pub given_leads : RecallTakesLaw → RecallSaysLaw → (cids : Running → List Cid) (s new : ReplicaState) → HappensIn s.state.run (λ run. all_given_back (cids run)) s new → IsSound s.state → Leads false (count s) Always s new
+  given_leads takes says cids s new happens_ sound = happens_leads s new (λ run. all_given_back (cids run)) happens_ sound
       (λ run e. (
-        back_processes run.queue.flight,
-        recall_paced run.queue.flight,
+        back_processes (cids run),
+        recall_paced (cids run),
         λ goes known kept p.
-            (subst (λ (r : Option Running). TakesAll known (record { durable = s.state.durable; run = r }) (all_given_back run.queue.flight)) (sym e) (takes known s.state.durable run run.queue.flight), says (offers_of known) run.queue.flight),
+            (subst (λ (r : Option Running). TakesAll known (record { durable = s.state.durable; run = r }) (all_given_back (cids run))) (sym e) (takes known s.state.durable run (cids run)), says (offers_of known) (cids run)),
       ))
+
+  pub recall_leads : RecallTakesLaw → RecallSaysLaw → (s new : ReplicaState) → HappensIn s.state.run (λ run. all_given_back run.queue.flight) s new → IsSound s.state → Leads false (count s) Always s new
+  recall_leads takes says = given_leads takes says (λ run. run.queue.flight)
 
   module _ (takes_law : TakesLaw) (says_law : SaysLaw) where
     delivers_asked : (c : Cid) (found : Option (List ℕ)) (durable : Durable) (run : Option Running) (events : List Event) (answer : Delivered) → DeliversIn (has c (queue_in run).flight) durable c found events answer

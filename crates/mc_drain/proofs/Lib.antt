@@ -10,6 +10,7 @@ pub mod ReachFacts
 pub mod RepairAnswers
 pub mod RepairFacts
 pub mod SortFacts
+pub mod TakeFacts
 pub mod TurnFacts
 pub mod WalkFacts
 pub mod WorkFacts

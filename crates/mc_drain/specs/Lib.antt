@@ -1,4 +1,5 @@
 pub mod Finds
+pub mod Groups
 pub mod JobCalls
 pub mod Leads
 pub mod Reached

@@ -2,8 +2,9 @@
 ghost use Rattle.std.specs.Arc.{arc_value};
 ghost use Rattle.std.specs.Prelude.{◌≡◌, IfErr, IfNone, IfSome, OnOk};
 ghost use Rattle.mc_relay.specs.Ends.{IsGiverOf, IsTakerOf, giver_knows, taker_knows};
-ghost use Rattle.mc_relay.specs.Items.{IsRight};
+ghost use Rattle.mc_relay.specs.Items.{AreRight, IsRight};
 ghost use Rattle.mc_relay.specs.Passes.{with_empty, with_full, with_pushed, with_taken};
+ghost use Rattle.mc_relay.specs.Props.{AreRight-prop};
 
 use crate::ends::{Giver, Taker};
 use crate::relay::Relay;
@@ -12,20 +13,22 @@ use mc_fetch::Naming;
 use std::alloc::Global;
 use std::sync::{Arc, Wait};
 
-/// One giver of a relay, beside the relay, so that it goes wherever a thread takes it.
+/// One giver of a relay, beside the relay, so that it goes wherever a thread takes it. What it pushed is right.
 #[derive(Drop)]
 pub struct GiverEnd<J: Naming> {
     pub(crate) relay: Arc<Relay<J>, Global>,
     pub(crate) giver: Giver,
     ghost own: { IsGiverOf (arc_value relay) giver },
+    ghost right: { AreRight J.found (giver_knows giver).pushed } by { AreRight-prop J.found (giver_knows giver).pushed },
 }
 
-/// The taker of a relay, beside the relay.
+/// The taker of a relay, beside the relay. What it took is right.
 #[derive(Drop)]
 pub struct TakerEnd<J: Naming> {
     pub(crate) relay: Arc<Relay<J>, Global>,
     pub(crate) taker: Taker,
     ghost own: { IsTakerOf (arc_value relay) taker },
+    ghost right: { AreRight J.found (taker_knows taker).taken } by { AreRight-prop J.found (taker_knows taker).taken },
 }
 
 impl<J: Naming> GiverEnd<J> {

@@ -1,4 +1,7 @@
 // The rule that each step on a relay keeps, and what each kind of step tells its end.
+ghost use Rattle.mc_relay.specs.Items.{LetsRight};
+ghost use Rattle.mc_relay.specs.Props.{LetsRight-prop};
+
 use crate::view::EndView;
 use crossbeam_queue::RuledArrayQueue;
 use crossbeam_queue::protocol::{Join, Lesson, Outcome, Protocol, Split};
@@ -8,8 +11,9 @@ use std::marker::PhantomData;
 
 // The rule of a relay: what was popped and what the queue holds are the givers' items, of each in its order, and the
 // items that the queue holds are right.
-pub(crate) struct Passing<J> {
+pub(crate) struct Passing<J: Naming> {
     of: PhantomData<J>,
+    ghost right: { LetsRight J.found } by { LetsRight-prop J.found },
 }
 
 pub(crate) type End = EndView<Verified>;
