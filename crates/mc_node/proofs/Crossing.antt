@@ -7,7 +7,8 @@ use Rattle.mc_keep.specs.declared.keeper.Keeper as keeper
 use Rattle.mc_fetch.specs.contracts.naming.BrandNaming.TheImpl as naming
 use Rattle.std.specs.contracts.marker.Brand as brand
 use Rattle.std.below.std_alloc.proofs.vec.Vec.TheSendSync.{the_send as vec_send}
-use Rattle.std.proofs.Crossing.{frees}
+use Rattle.std.proofs.Crossing.{crosses, frees}
+use Rattle.mc_relay.proofs.posts.TakerEnd.TheSendSync.{the_send as taker_send}
 use Rattle.mc_node.proofs.note.Note.TheSendSync.{the_send as note_send}
 use Rattle.mc_core.proofs.replica.Replica.TheSendSync.{the_send as replica_send}
 use Rattle.mc_node.specs.contracts.entry.Entry as entry
@@ -21,4 +22,4 @@ module _ (K Desk : RattleType) (k : keeper.Ghosts K.Denot Desk.Denot) (n : count
   entry_send s t = declared_send (entry.the_type K Desk k n d) (search (note_send, sendable) depth 12, (search sendable depth 12, tt))
 
   pub stored_send : IsSend K → IsSend Desk → IsSend stored_row
-  stored_send s t = declared_send (stored.the_type K brand.the_row Desk k n d naming.ghosts) (search (replica_send, sendable) depth 12, (search (vec_send, entry_send, frees, sendable) depth 12, (search sendable depth 12, tt)))
+  stored_send s t = declared_send (stored.the_type K brand.the_row Desk k n d naming.ghosts) (search (replica_send, sendable) depth 12, (search (vec_send, entry_send, frees, sendable) depth 12, (search (taker_send, crosses, sendable) depth 24, (search sendable depth 12, tt))))

@@ -22,7 +22,7 @@ use Rattle.mc_model.specs.Kept.{Kept, IsKept}
 use Rattle.mc_core.specs.AnswersTo.{IsAnswerTo}
 use Rattle.mc_core.specs.Counted.{capped, run_of}
 use Rattle.mc_core.specs.Events.{ReplicaState, state_of}
-use Rattle.mc_core.specs.Exact.{RestSame}
+use Rattle.mc_core.specs.Exact.{RunSame}
 use Rattle.mc_core.specs.Jobs.{found_in}
 use Rattle.mc_core.specs.Replica.{replica_state}
 use Rattle.mc_core.specs.Words.{ContinuesAt}
@@ -42,7 +42,7 @@ use Rattle.mc_node.specs.declared.note.Note.{Note}
 use Rattle.mc_node.specs.declared.note.Note.TheVariants.{Fetched}
 use Rattle.mc_node.specs.Entries.{AddsEntry, is_sealed_log, items_at, shown_at}
 use Rattle.mc_node.specs.Items.{Item, is_sealed, root, state_in}
-use Rattle.mc_node.specs.Handovers.{AddsFetched, IfCommitted, IfQueued, is_of_fetched}
+use Rattle.mc_node.specs.Handovers.{AddsFetched, IfCommitted, IfQueued, IsBlock, is_of_fetched}
 use Rattle.mc_node.specs.Jobs.{KeepsLimit, StopsWhere, hand_over, has_processed, note_if, shop_answer, shop_error}
 use Rattle.mc_node.specs.Moves.{Adds, KeepsRun}
 use Rattle.mc_node.specs.Ties.{Goes, IsTied}
@@ -83,7 +83,7 @@ module _ {K D : Type 0} {g : keeper.Ghosts K D} {h : counted.Ghosts K} {i : coun
   -- the log stays tied
   pub job_ends : (back : BackLaw) (limit : Bounds) (old new : Replica K D g h i) (first log log' : List (Entry K D g h i)) (entry : Option Note) (failed fetched : Bool)
       → IsTied limit (shown_at told fuse own faults quiet schedule old) (items_at told fuse own faults quiet schedule log) → log ≡ first → is_sealed_log first ≡ true → old.stopped ≡ false → IfSome (told old.keeper) IsKept
-      → ContinuesAt told fuse own faults quiet schedule failed old new → RestSame old new → Told (replica_state told fuse old) (replica_state told fuse new) (Step limit failed) → entry ≡ note_if failed fetched → AddsEntry entry new log log'
+      → ContinuesAt told fuse own faults quiet schedule failed old new → RunSame old new → Told (replica_state told fuse old) (replica_state told fuse new) (Step limit failed) → entry ≡ note_if failed fetched → AddsEntry entry new log log'
       → IsTied limit (shown_at told fuse own faults quiet schedule new) (items_at told fuse own faults quiet schedule log')
   job_ends back limit old new first log log' entry failed fetched tied is sealed runs sound continues rest step noted adds =
       over failed fetched (shown_goes told fuse own faults quiet schedule failed old new continues) step
@@ -112,7 +112,7 @@ module _ {K D : Type 0} {g : keeper.Ghosts K D} {h : counted.Ghosts K} {i : coun
   -- a call that noted nothing and failed nowhere
   pub job_back : (back : BackLaw) (limit : Bounds) (old new : Replica K D g h i) (log log' : List (Entry K D g h i))
       → IsTied limit (shown_at told fuse own faults quiet schedule old) (items_at told fuse own faults quiet schedule log) → is_sealed_log log ≡ true → old.stopped ≡ false → IfSome (told old.keeper) IsKept
-      → ContinuesAt told fuse own faults quiet schedule false old new → RestSame old new → Told (replica_state told fuse old) (replica_state told fuse new) (λ s new. Leads false (count s) Always s new) → log' ≡ log
+      → ContinuesAt told fuse own faults quiet schedule false old new → RunSame old new → Told (replica_state told fuse old) (replica_state told fuse new) (λ s new. Leads false (count s) Always s new) → log' ≡ log
       → IsTied limit (shown_at told fuse own faults quiet schedule new) (items_at told fuse own faults quiet schedule log')
   job_back back limit old new log log' tied sealed runs sound continues rest leads same =
       job_ends back limit old new log log log' None false false tied refl sealed runs sound continues rest (still_told limit false (replica_state told fuse old) (replica_state told fuse new) leads) refl same
@@ -244,6 +244,17 @@ handed_says cid found result answer is says = subst (λ (a : Result Delivered Sh
   where
     over : (result : Result Delivered DrainEnd) → IfOk result (IsAnswerTo cid found) → IfOk (shop_answer result) (IsAnswerTo cid found)
     over (Ok delivered) s = s
+    over (Err end) s = tt
+
+-- nor was a block committed that is none
+pub handed_blocks : (cid : Cid) (found : Option (List ℕ)) (result : Result Delivered DrainEnd) (answer : Result Delivered ShopError) (hand : Result Handover ShopError) → answer ≡ shop_answer result → hand ≡ hand_over answer → IfOk result (IsAnswerTo cid found) → IfCommitted hand (λ count. IsBlock cid found)
+handed_blocks cid found result answer hand is by says = subst (λ (h : Result Handover ShopError). IfCommitted h (λ count. IsBlock cid found)) (sym (by ∙ ap hand_over is)) (over result says)
+  where
+    over : (result : Result Delivered DrainEnd) → IfOk result (IsAnswerTo cid found) → IfCommitted (hand_over (shop_answer result)) (λ count. IsBlock cid found)
+    over (Ok (Processed position)) s = s
+    over (Ok Lost) s = tt
+    over (Ok (Bad damage)) s = tt
+    over (Ok Known) s = tt
     over (Err end) s = tt
 
 module _ {K D : Type 0} {g : keeper.Ghosts K D} {h : counted.Ghosts K} {i : counted.Ghosts D} where

@@ -22,7 +22,7 @@ use Rattle.mc_queue.specs.Views.{shown as shown_queue}
 use Rattle.mc_core.specs.Calls.{Stays}
 use Rattle.mc_core.specs.Counted.{capped, run_of}
 use Rattle.mc_core.specs.Events.{Goes as Happens, HappensIn, ReplicaState, state_of}
-use Rattle.mc_core.specs.Exact.{RestSame}
+use Rattle.mc_core.specs.Exact.{RunSame}
 use Rattle.mc_core.specs.Jobs.{DeliverShort, NextEvents, NextShort, WantsAfter, is_known, tried_first}
 use Rattle.mc_core.specs.Replica.{replica_state}
 use Rattle.mc_core.specs.Words.{ContinuesAt}
@@ -141,7 +141,7 @@ module _ {K D : Type 0} {g : keeper.Ghosts K D} {h : counted.Ghosts K} {i : coun
   -- a call between what is shown before it and after it
   pub serves_by : (At : Shown → Type 0) (Call : Type 0 → ReplicaState → ReplicaState → Type 0) (Wants : Bool → Queue → Queue → Type 0) (limit : Bounds) (failed fetched : Bool) (old new : Replica K D g h i) (first log log' : List (Entry K D g h i))
       → IsTied limit (shown_at told fuse own faults quiet schedule old) (items_at told fuse own faults quiet schedule log) → log ≡ first → IsTied limit (shown_at told fuse own faults quiet schedule new) (items_at told fuse own faults quiet schedule log')
-      → At (shown_at told fuse own faults quiet schedule old) → Told (replica_state told fuse old) (replica_state told fuse new) (Call (Rose (own old.keeper) (own new.keeper))) → ContinuesAt told fuse own faults quiet schedule failed old new → RestSame old new
+      → At (shown_at told fuse own faults quiet schedule old) → Told (replica_state told fuse old) (replica_state told fuse new) (Call (Rose (own old.keeper) (own new.keeper))) → ContinuesAt told fuse own faults quiet schedule failed old new → RunSame old new
       → Wants old.stopped (shown_queue old.queue) (shown_queue new.queue) → AddsEntry (note_if failed fetched) new log log' → ServesAt failed fetched At Call Wants (items_at told fuse own faults quiet schedule first) (shown_at told fuse own faults quiet schedule old) (items_at told fuse own faults quiet schedule log') (shown_at told fuse own faults quiet schedule new)
   serves_by At Call Wants limit failed fetched old new first log log' t is later at call continues rest wants adds =
       subst (λ (l : List (Entry K D g h i)). ServesAt failed fetched At Call Wants (items_at told fuse own faults quiet schedule l) (shown_at told fuse own faults quiet schedule old) (items_at told fuse own faults quiet schedule log') (shown_at told fuse own faults quiet schedule new)) is (record {
@@ -164,14 +164,14 @@ module _ {K D : Type 0} {g : keeper.Ghosts K D} {h : counted.Ghosts K} {i : coun
       → ((q : Queue) → Wants now.stopped q q) → ServesAt false false At Call Wants (items_at told fuse own faults quiet schedule first) (shown_at told fuse own faults quiet schedule now) (items_at told fuse own faults quiet schedule log) (shown_at told fuse own faults quiet schedule now)
   serves_nothing At Call Wants limit now first log t is at call wants =
       serves_by At Call Wants limit false false now now first log log t is t at (told_itself (Call (Rose (own now.keeper) (own now.keeper))) call (replica_state told fuse now)) (still_on refl refl refl)
-      (record { walk_same = refl; batch_same = refl; whole_same = refl; inbox_same = refl }) (wants (shown_queue now.queue)) refl
+      (record { walk_same = refl; batch_same = refl; whole_same = refl }) (wants (shown_queue now.queue)) refl
 
   -- one that the replica was called in
   pub job_serves : {T : Type 0} (Events : ReplicaState → List Event → T → Type 0) (Spends Short Left : ReplicaState → ReplicaState → Type 0) → ((s new : ReplicaState) → Short s new → Left s new) → (Wants : Result T ShopError → Bool → Queue → Queue → Type 0) (limit : Bounds) (cap n : ℕ) (old new : Replica K D g h i)
       (first log log' : List (Entry K D g h i)) (entry : Option Note) (fetched : Bool) (result : Result T DrainEnd) (answer : Result T ShopError) → answer ≡ shop_answer result
       → IsTied limit (shown_at told fuse own faults quiet schedule old) (items_at told fuse own faults quiet schedule log) → log ≡ first → IsTied limit (shown_at told fuse own faults quiet schedule new) (items_at told fuse own faults quiet schedule log')
       → old.stopped ≡ false → n < cap → IfSome (told old.keeper) (λ kept. n ≡ capped (length kept.order)) → Told (replica_state told fuse old) (replica_state told fuse new) (JobCall Events Short (Rose (own old.keeper) (own new.keeper)) result)
-      → ContinuesAt told fuse own faults quiet schedule (begin_failed result) old new → RestSame old new → Wants (shop_answer result) old.stopped (shown_queue old.queue) (shown_queue new.queue) → entry ≡ note_if (begin_failed result) fetched → AddsEntry entry new log log'
+      → ContinuesAt told fuse own faults quiet schedule (begin_failed result) old new → RunSame old new → Wants (shop_answer result) old.stopped (shown_queue old.queue) (shown_queue new.queue) → entry ≡ note_if (begin_failed result) fetched → AddsEntry entry new log log'
       → ServesAt (keeper_fails answer) fetched (AnswersAt cap answer) (WorkerCall Events Spends Left answer) (Wants answer) (items_at told fuse own faults quiet schedule first) (shown_at told fuse own faults quiet schedule old) (items_at told fuse own faults quiet schedule log') (shown_at told fuse own faults quiet schedule new)
   job_serves {T} Events Spends Short Left weaker Wants limit cap n old new first log log' entry fetched result answer is t same later runs less count call continues rest wants noted adds =
       subst (λ (a : Result T ShopError). ServesAt (keeper_fails a) fetched (AnswersAt cap a) (WorkerCall Events Spends Left a) (Wants a) (items_at told fuse own faults quiet schedule first) (shown_at told fuse own faults quiet schedule old) (items_at told fuse own faults quiet schedule log') (shown_at told fuse own faults quiet schedule new)) (sym is)

@@ -241,3 +241,7 @@ tied_root law limit sealed now runs most found = record {
         let f = found e map is in
         subst (λ (x : ReplicaState). HasDrained map limit.kept r.state.durable (wanted (queue_in r.state.run)) x.state) (same r s ri si)
         (law map limit.kept r.state (f.found r ri) (f.own r ri))
+
+-- what is shown is the same
+pub tied_shown : (limit : Bounds) (log : List Item) (old new : Shown) → new ≡ old → IsTied limit old log → IsTied limit new log
+tied_shown limit log old new same tied = subst (λ (s : Shown). IsTied limit s log) (sym same) tied

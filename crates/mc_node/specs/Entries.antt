@@ -1,5 +1,5 @@
 -- The entries of a log, as contracts read them.
-use Rattle.std.specs.Prelude.{◌≡◌, ℕ, Bool, true, false, List, [], ◌∷◌, ◌++◌, map, Option, Some, None}
+use Rattle.std.specs.Prelude.{◌≡◌, ℕ, All, Bool, true, false, List, [], ◌∷◌, ◌++◌, length, map, Option, Some, None}
 use Rattle.std.specs.declared.snapshot.Snapshot.{Snapshot}
 use Rattle.mc_base.specs.declared.counted.Counted as counted
 use Rattle.mc_model.specs.Kept.{Kept}
@@ -11,7 +11,7 @@ use Rattle.mc_core.specs.Replica.{running_of}
 use Rattle.mc_core.specs.declared.replica.Replica.{Replica}
 use Rattle.mc_node.specs.declared.entry.Entry.{Entry}
 use Rattle.mc_node.specs.declared.note.Note.{Note}
-use Rattle.mc_node.specs.declared.note.Note.TheVariants.{Root}
+use Rattle.mc_node.specs.declared.note.Note.TheVariants.{Fetched, Root}
 use Rattle.mc_node.specs.Items.{Item, Shown, is_root, is_sealing, is_unsealed}
 
 module _ {K D : Type 0} {g : keeper.Ghosts K D} {h : counted.Ghosts K} {i : counted.Ghosts D} where
@@ -68,6 +68,16 @@ module _ {K D : Type 0} {g : keeper.Ghosts K D} {h : counted.Ghosts K} {i : coun
   AddsEntry (Some note) replica old new =
       (about : Snapshot (Replica K D g h i)) × (about.value ≡ replica)
       × (new ≡ old ++ record { note = note; replica = about } ∷ [])
+
+  -- so many entries of fetched blocks about the replica
+  pub record AreFetched (replica : Replica K D g h i) (count : ℕ) (entries : List (Entry K D g h i)) : Type 0 where
+    pub many : length entries ≡ count
+    pub kinds : All (λ (entry : Entry K D g h i). (entry.note ≡ Fetched) × (entry.replica.value ≡ replica)) entries
+
+  -- the log has got these
+  abbrev pub AddsAll : ℕ → Replica K D g h i → List (Entry K D g h i) → List (Entry K D g h i) → Type 0
+  AddsAll count replica old new =
+      (entries : List (Entry K D g h i)) × (new ≡ old ++ entries) × AreFetched replica count entries
 
   -- the entries of a log as items, by the ghost members of the keeper
   abbrev pub items_at : (K → Option Kept) → (K → Option Fuse) → (K → ℕ) → (K → ℕ) → (K → Bool) → (K → Option Schedule)

@@ -48,6 +48,13 @@ abbrev pub shop_answer : {T : Type 0} → Result T DrainEnd → Result T ShopErr
 shop_answer (Ok value) = Ok value
 shop_answer (Err end) = Err (shop_error end)
 
+-- an error that a call of a replica that runs answers
+abbrev pub IsBroken : ShopError → Type 0
+IsBroken KeeperFault = ⊤
+IsBroken Memory = ⊤
+IsBroken Stopped = ⊥
+IsBroken Spent = ⊥
+
 -- of a call that found so many processed blocks: below the limit it is not spent, and there alone it does anything
 abbrev pub KeepsLimit : {T : Type 0} → ℕ → ℕ → Result T ShopError → Type 0
 KeepsLimit limit count (Ok value) = count < limit

@@ -1,3 +1,4 @@
+pub mod Ahead
 pub mod Crews
 pub mod Entries
 pub mod Gathers
@@ -5,6 +6,8 @@ pub mod Handovers
 pub mod Items
 pub mod Jobs
 pub mod Moves
+pub mod Pieces
+pub mod Props
 pub mod Seats
 pub mod Serves
 pub mod Ties

@@ -109,10 +109,10 @@ BackWants cid false q left = left ≡ backed cid q
 abbrev pub NextStays : ReplicaState → ReplicaState → Type 0
 NextStays s new = (new ≡ s) ⊎ NextShort s new
 
--- a call that asks for a job below this limit
-abbrev pub NextDoes : ℕ → Result (Option Job) ShopError → List Item → List Item → Type 0
-NextDoes limit result =
-    Serves (keeper_fails result) false (AnswersAt limit result) (WorkerCall NextEvents Stays NextStays result)
+-- a call of the replica that asks for a job below this limit
+abbrev pub NextAt : ℕ → Result (Option Job) ShopError → List Item → Shown → List Item → Shown → Type 0
+NextAt limit result =
+    ServesAt (keeper_fails result) false (AnswersAt limit result) (WorkerCall NextEvents Stays NextStays result)
     (NextWants result)
 
 -- A delivery of this for a block below this limit, by what the replica answers. At the limit, and for want of memory,

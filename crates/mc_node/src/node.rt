@@ -8,7 +8,9 @@ use mc_core::Replica;
 use mc_keep::Keeper;
 use mc_turn::{Seat, Story, Turn};
 
+mod ahead;
 mod calls;
+mod deliveries;
 mod reads;
 mod seats;
 mod shop;
@@ -17,7 +19,8 @@ mod shop;
 /// thread takes the turn, makes one call of the replica and gives the turn back.
 #[derive(Drop)]
 pub struct Node<T: Story> {
-    pub(crate) turn: Turn<T>,
+    /// The turn that each call takes. Whoever holds it by itself lets all other seats wait.
+    pub turn: Turn<T>,
 }
 
 /// What a thread calls a node with. It has no bytes; contracts read what it knows. What it has seen of the log begins
@@ -26,7 +29,8 @@ pub struct Node<T: Story> {
 /// Condition of each call that takes a seat: it is a seat of this node, which `new` gave or which was split from one.
 #[derive(Drop)]
 pub struct NodeSeat<T, K: Keeper> {
-    pub(crate) seat: Seat<T, Entry<K>>,
+    /// The seat of the turn.
+    pub seat: Seat<T, Entry<K>>,
     ghost rooted: { is_rooted_log (view seat).seen ≡ true },
     ghost idle: { IsIdle seat },
 }

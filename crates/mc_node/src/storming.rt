@@ -51,7 +51,7 @@ where
     let Ok(mut crew) = Vec::with_capacity(alloc, writers as usize) else {
         return (replica, Err(StormError::Memory));
     };
-    match Node::<Stored<K, Brand>>::new(alloc, replica, false) {
+    match Node::<Stored<K, Brand>>::new(alloc, replica, false, None) {
         Ok((node, seat)) => {
             let mut seat = seat;
             hire(&node, &mut seat, writers, &mut crew);

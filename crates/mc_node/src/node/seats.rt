@@ -1,5 +1,5 @@
 // How a node begins and ends, and its seats.
-ghost use Rattle.std.specs.Prelude.{◌≡◌, ◌<◌, true, false, IfOk, IfErr};
+ghost use Rattle.std.specs.Prelude.{◌≡◌, ◌<◌, true, false, [], IfOk, IfErr, IfSome};
 ghost use Rattle.mc_turn.specs.Lists.{Begins};
 ghost use Rattle.mc_turn.specs.Seats.{IsSeatOf};
 ghost use Rattle.mc_turn.specs.Views.{first_view, left_view, right_view, joined_view, AreApart, IsTaken};
@@ -17,22 +17,27 @@ use crate::stored::Stored;
 use mc_core::Replica;
 use mc_fetch::Naming;
 use mc_keep::Keeper;
+use mc_relay::TakerEnd;
 use mc_turn::{Refused, Turn};
 use std::alloc::Global;
 use std::sync::Wait;
 
 impl<K: Keeper, J: Naming> Node<Stored<K, J>> {
     /// A node over a replica that runs, and a seat with all its parts, which has seen the root. A sealed node is for
-    /// workers alone: nobody puts, deletes or hears there. `NodeRefused` comes for want of memory alone.
+    /// workers alone: nobody puts, deletes or hears there. With the taker of a relay it takes in what workers push
+    /// there, each with a giver of that relay. `NodeRefused` comes for want of memory alone.
     ///
-    /// Conditions of a sealed node: no more is processed than `J.most`; and where `J.found` is known, the keeper tells,
-    /// each stored block is found there, and all of `J.kept` are stored.
+    /// Conditions: with a relay the replica's inbox is empty. Those of a sealed node: no more is processed than
+    /// `J.most`; and where `J.found` is known, the keeper tells, each stored block is found there, and all of
+    /// `J.kept` are stored.
     pub fn new(
         alloc: Global,
         replica: Replica<K>,
         sealed: bool,
+        taker: Option<TakerEnd<J>>,
     ) -> Result<(Node<Stored<K, J>>, NodeSeat<Stored<K, J>, K>), NodeRefused<K>>
         requires runs { replica.stopped ≡ false }
+        requires inbox { IfSome taker (λ end. replica.inbox.items ≡ []) }
         requires most { sealed ≡ true → IsWithin J.most (replica_state K.told K.fuse replica) }
         requires found { sealed ≡ true → StoresFound (record {
           walks = J.walks;
@@ -49,7 +54,7 @@ impl<K: Keeper, J: Naming> Node<Stored<K, J>> {
             × (is_sealed_log (knows made.1).seen ≡ true)) }
         ensures err { IfErr result (λ refused. refused.replica ≡ replica) }
     {
-        let stored = match Stored::new(alloc, replica, sealed) {
+        let stored = match Stored::new(alloc, replica, sealed, taker) {
             Ok(stored) => stored,
             Err(replica) => return Err(NodeRefused { replica }),
         };

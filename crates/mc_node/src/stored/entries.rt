@@ -1,8 +1,8 @@
 // Entries of the log: their memory is taken before anything changes.
-ghost use Rattle.std.specs.Prelude.{◌≡◌, ◌<◌, false, length, vec_len, vec_capacity, IfOk, IfErr, IfSome, OnOk};
+ghost use Rattle.std.specs.Prelude.{◌≡◌, ◌<◌, ◌≤◌, ◌+◌, false, length, None, vec_len, vec_capacity, IfOk, IfErr, IfSome, OnOk};
 ghost use Rattle.mc_core.specs.Counted.{capped};
 ghost use Rattle.mc_core.specs.Exact.{DecidesAlone};
-ghost use Rattle.mc_node.specs.Entries.{AddsEntry};
+ghost use Rattle.mc_node.specs.Entries.{AddsAll, AddsEntry};
 ghost use Rattle.mc_node.specs.Moves.{BeginsNot, note_of};
 
 use super::Stored;
@@ -54,10 +54,21 @@ pub(crate) fn noted<T>(
 // One entry more about the replica as it is, for which there is room, or none.
 pub(crate) fn note<K: Keeper>(log: &mut Vec<Entry<K>>, replica: &Replica<K>, note: Option<Note>)
     requires room { vec_len log.old < vec_capacity log.old }
-    ensures { AddsEntry note replica.now log.old.items log.new.items }
+    ensures adds { AddsEntry note replica.now log.old.items log.new.items }
+    ensures none { note ≡ None → log.new ≡ log.old }
 {
     match note {
         Some(note) => add(log, about(note, replica)),
         None => {}
+    }
+}
+
+// So many entries of fetched blocks about the replica as it is, for which there is room.
+pub(crate) fn note_all<K: Keeper>(log: &mut Vec<Entry<K>>, replica: &Replica<K>, count: u64)
+    requires room { vec_len log.old + count ≤ vec_capacity log.old }
+    ensures { AddsAll count replica.now log.old.items log.new.items }
+{
+    for _ in 0..count {
+        log.push_reserved(about(Note::Fetched, replica));
     }
 }

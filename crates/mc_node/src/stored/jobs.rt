@@ -1,5 +1,5 @@
 // The calls of workers on a sealed node. A fault of the keeper alone is noted.
-ghost use Rattle.std.specs.Prelude.{◌≡◌, false, true, IfOk};
+ghost use Rattle.std.specs.Prelude.{◌≡◌, false, true, Err, IfOk};
 ghost use Rattle.mc_turn.specs.Lists.{Begins};
 ghost use Rattle.mc_fetch.specs.Fits.{NextFits};
 ghost use Rattle.mc_queue.specs.Views.{shown};
@@ -9,9 +9,12 @@ ghost use Rattle.mc_drain.specs.JobCalls.{back_events};
 ghost use Rattle.mc_drain.specs.Words.{begin_failed};
 ghost use Rattle.mc_worker.specs.Lookups.{FoundFits};
 ghost use Rattle.mc_node.specs.Entries.{is_sealed_log, items, shown as shown_of};
-ghost use Rattle.mc_node.specs.Handovers.{AddsFetched, IfCommitted, IfQueued, is_of_fetched};
+ghost use Rattle.mc_core.specs.Jobs.{found_in};
+ghost use Rattle.mc_fetch.specs.declared.job.Found.{Found as FoundOf};
+ghost use Rattle.mc_node.specs.Handovers.{AddsFetched, IfCommitted, IfQueued, IsBlock, is_of_fetched};
 ghost use Rattle.mc_node.specs.Jobs.{hand_over, has_processed, note_if, shop_answer};
-ghost use Rattle.mc_node.specs.Serves.{BackAt, BackWants, HandsAt, NextDoes};
+ghost use Rattle.mc_node.specs.Serves.{BackAt, BackWants, HandsAt, NextAt};
+ghost use Rattle.mc_node.specs.Pieces.{AfterNone, NextsAt};
 ghost use Rattle.mc_node.specs.Works.{IsUnder};
 
 use super::Stored;
@@ -23,14 +26,59 @@ use mc_keep::Keeper;
 use mc_model::kept_is_durable;
 use mc_worker::{Handover, ShopError};
 use std::alloc::Global;
+use std::sync::Wait;
 
 impl<K: Keeper, J: Naming> Stored<K, J> {
+    // A job begins, where fewer than `limit` blocks are processed. Where none waits, what was pushed is taken in first, and
+    // its links may wait then.
+    pub(crate) fn next_job<W: Wait>(
+        &mut self,
+        alloc: Global,
+        limit: u64,
+        wait: &W,
+    ) -> Result<Option<Job>, ShopError>
+        requires sealed { is_sealed_log self.old.log.items ≡ true }
+        requires limit { IsUnder J.most limit }
+        ensures extends { Begins self.old.log.items self.new.log.items }
+        ensures job { IfOk result (NextFits J.found J.kept) }
+        ensures does { NextsAt limit result (items K.Keeper self.old.log.items) (shown_of K.Keeper self.old.replica)
+            (items K.Keeper self.new.log.items) (shown_of K.Keeper self.new.replica) }
+    {
+        match self.first_job(alloc, limit) {
+            Ok(Some(job)) => Ok(Some(job)),
+            Ok(None) => self.job_of_pushed(alloc, limit, wait),
+            Err(error) => Err(error),
+        }
+    }
+
+    // What was pushed is taken in, and then a job begins.
+    fn job_of_pushed<W: Wait>(
+        &mut self,
+        alloc: Global,
+        limit: u64,
+        wait: &W,
+    ) -> Result<Option<Job>, ShopError>
+        requires sealed { is_sealed_log self.old.log.items ≡ true }
+        requires limit { IsUnder J.most limit }
+        ensures extends { Begins self.old.log.items self.new.log.items }
+        ensures job { IfOk result (NextFits J.found J.kept) }
+        ensures does { AfterNone limit result (items K.Keeper self.old.log.items)
+            (shown_of K.Keeper self.old.replica) (items K.Keeper self.new.log.items)
+            (shown_of K.Keeper self.new.replica) }
+    {
+        match self.gather(alloc, limit, wait) {
+            Ok(_) => self.first_job(alloc, limit),
+            Err(error) => Err(error),
+        }
+    }
+
     // A job begins for the first block that waits, where fewer than `limit` blocks are processed.
-    pub(crate) fn next_job(&mut self, alloc: Global, limit: u64) -> Result<Option<Job>, ShopError>
+    pub(crate) fn first_job(&mut self, alloc: Global, limit: u64) -> Result<Option<Job>, ShopError>
         requires sealed { is_sealed_log self.old.log.items ≡ true }
         ensures extends { Begins self.old.log.items self.new.log.items }
         ensures job { IfOk result (NextFits J.found J.kept) }
-        ensures does { NextDoes limit result (items K.Keeper self.old.log.items) (items K.Keeper self.new.log.items) }
+        ensures does { NextAt limit result (items K.Keeper self.old.log.items) (shown_of K.Keeper self.old.replica)
+            (items K.Keeper self.new.log.items) (shown_of K.Keeper self.new.replica) }
     {
         kept_is_durable();
         if self.is_stopped() {
@@ -67,6 +115,7 @@ impl<K: Keeper, J: Naming> Stored<K, J> {
             (shown_of K.Keeper self.new.replica) }
         ensures commits { IfCommitted result (AddsFetched is_of_fetched self.old.log.items self.new.log.items) }
         ensures queued { IfQueued result (λ word. ⊥) }
+        ensures blocks { IfCommitted result (λ count. IsBlock job.cid (found_in found)) }
     {
         kept_is_durable();
         if self.is_stopped() {
@@ -88,6 +137,28 @@ impl<K: Keeper, J: Naming> Stored<K, J> {
         let entry = fetched(&result);
         note(&mut self.log, &self.replica, entry);
         handed(answered(result))
+    }
+
+    // A job for whose block memory was wanted is given back, with the answer of a delivery.
+    pub(crate) fn deliver_short(&mut self, limit: u64, job: Job) -> ShopError
+        requires sealed { is_sealed_log self.old.log.items ≡ true }
+        ensures extends { Begins self.old.log.items self.new.log.items }
+        ensures does { (found : FoundOf) → HandsAt limit job.cid found (Err result) (items K.Keeper self.old.log.items)
+            (shown_of K.Keeper self.old.replica) (items K.Keeper self.new.log.items)
+            (shown_of K.Keeper self.new.replica) }
+    {
+        if self.is_stopped() {
+            return ShopError::Stopped;
+        }
+        let Ok(processed) = self.begin() else {
+            self.give_back(job);
+            return ShopError::Memory;
+        };
+        self.give_back(job);
+        if limit <= processed {
+            return ShopError::Spent;
+        }
+        ShopError::Memory
     }
 
     // A job is given back. One of a replica that has stopped is gone with all that was wanted.
@@ -112,7 +183,7 @@ impl<K: Keeper, J: Naming> Stored<K, J> {
     }
 
     // Whether the keeper has failed.
-    fn is_stopped(&self) -> bool
+    pub(crate) fn is_stopped(&self) -> bool
         ensures { result ≡ self.now.replica.stopped }
     {
         match self.replica.report() {
@@ -145,7 +216,7 @@ fn handed(answer: Result<Delivered, ShopError>) -> Result<Handover, ShopError>
 }
 
 // The entry that another answer leaves: that of a halt for a fault, and else none.
-fn halted<T>(answer: &Result<T, DrainEnd>) -> Option<Note>
+pub(crate) fn halted<T>(answer: &Result<T, DrainEnd>) -> Option<Note>
     ensures { result ≡ note_if (begin_failed answer.now) false }
 {
     match answer {
@@ -156,7 +227,7 @@ fn halted<T>(answer: &Result<T, DrainEnd>) -> Option<Note>
 }
 
 // What the shop answers where the replica answers this.
-fn answered<T>(answer: Result<T, DrainEnd>) -> Result<T, ShopError>
+pub(crate) fn answered<T>(answer: Result<T, DrainEnd>) -> Result<T, ShopError>
     ensures { result ≡ shop_answer answer }
 {
     match answer {

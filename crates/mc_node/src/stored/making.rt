@@ -1,5 +1,5 @@
 // The value of a node is made of a replica, and gives it back.
-ghost use Rattle.std.specs.Prelude.{◌≡◌, true, false, IfOk, IfErr, IfSome};
+ghost use Rattle.std.specs.Prelude.{◌≡◌, true, false, [], IfOk, IfErr, IfSome};
 ghost use Rattle.mc_model.specs.Kept.{IsKept};
 ghost use Rattle.mc_node.specs.Entries.{IsRootLog, items, shown};
 ghost use Rattle.mc_node.specs.Ties.{IsTied, IsWithin, StoresFound};
@@ -12,6 +12,7 @@ use mc_core::Replica;
 use mc_fetch::Naming;
 use mc_keep::Keeper;
 use mc_model::found_drains_go_on;
+use mc_relay::TakerEnd;
 use std::alloc::Global;
 use std::marker::PhantomData;
 
@@ -21,8 +22,10 @@ impl<K: Keeper, J: Naming> Stored<K, J> {
         alloc: Global,
         replica: Replica<K>,
         sealed: bool,
+        taker: Option<TakerEnd<J>>,
     ) -> Result<Stored<K, J>, Replica<K>>
         requires runs { replica.stopped ≡ false }
+        requires inbox { IfSome taker (λ end. replica.inbox.items ≡ []) }
         requires most { sealed ≡ true → IsWithin J.most (replica_state K.told K.fuse replica) }
         requires found { sealed ≡ true → StoresFound (record {
           walks = J.walks;
@@ -44,6 +47,7 @@ impl<K: Keeper, J: Naming> Stored<K, J> {
         Ok(Stored {
             replica,
             log,
+            taker,
             of: PhantomData,
         })
     }
@@ -57,9 +61,11 @@ impl<K: Keeper, J: Naming> Stored<K, J> {
         let Stored {
             replica,
             log,
+            taker,
             of: _,
         } = self;
         drop(log);
+        drop(taker);
         replica
     }
 }

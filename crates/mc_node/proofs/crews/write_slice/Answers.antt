@@ -17,4 +17,5 @@ pub for_each_mut-requires-send-T : goal.for_each_mut-requires-send-T
 for_each_mut-requires-send-T g c κs within = search (writer_send, stored_send, c.type_bounds, sendable) depth 24
 
 pub for_each_mut-requires-sync-F : goal.for_each_mut-requires-sync-F
-for_each_mut-requires-sync-F g c κs within = search (shared, c.type_bounds, sendable) depth 8
+for_each_mut-requires-sync-F g c κs within =
+    param_sync 2 _ (shared g κs (search (c.type_bounds, sendable) depth 8) (search (c.type_bounds, sendable) depth 8) (search (c.type_bounds, sendable) depth 8))

@@ -4,6 +4,7 @@ use Rattle.mc_core.specs.Refusals.{key_refusal}
 use Rattle.mc_node.specs.declared.note.Note.TheVariants.{Made}
 use Rattle.mc_node.specs.Moves.{DeleteAdds}
 use Rattle.mc_node.specs.Entries.{items_at}
+use Rattle.mc_node.proofs.PieceFacts.{right_on}
 use Rattle.mc_node.proofs.CallFacts.{does_not_begin, front_short, leaves_same, unnoted_refusal}
 use Rattle.mc_node.proofs.ReplicaFacts.{adds_begins, delete_goes, delete_more, delete_stays, open_unsealed, replica_ends}
 use Rattle.mc_node.proofs.stored.Stored.delete.Goals as goal
@@ -21,12 +22,13 @@ invariant_of-self g c = record {
       c.begin.new.self.tied c.in-Ok.ensures.log c.in-Ok.ensures.runs c.is_sound.ensures.kept c.delete-result.ensures.call
       (delete_more c.args.key.now c.delete-result.result _ _ c.delete-result.ensures.made c.delete-result.ensures.short) c.delete-result.ensures.keeps c.delete-result.ensures.rest
       (front_short c.delete-result.result _ _ c.delete-result.ensures.front c.in-Ok.ensures.runs)
-      (open_unsealed g.K.Keeper.told g.K.Keeper.fuse g.K.Keeper.own g.K.Counted.faults g.K.Keeper.quiet g.K.Keeper.schedule _ _ c.in-Ok.ensures.log c.requires.unsealed) (refl, refl, open_unsealed g.K.Keeper.told g.K.Keeper.fuse g.K.Keeper.own g.K.Counted.faults g.K.Keeper.quiet g.K.Keeper.schedule _ _ c.in-Ok.ensures.log c.requires.unsealed) (refl, refl, open_unsealed g.K.Keeper.told g.K.Keeper.fuse g.K.Keeper.own g.K.Counted.faults g.K.Keeper.quiet g.K.Keeper.schedule _ _ c.in-Ok.ensures.log c.requires.unsealed) c.noted-entry.ensures c.note.ensures
+      (open_unsealed g.K.Keeper.told g.K.Keeper.fuse g.K.Keeper.own g.K.Counted.faults g.K.Keeper.quiet g.K.Keeper.schedule _ _ c.in-Ok.ensures.log c.requires.unsealed) (refl, refl, open_unsealed g.K.Keeper.told g.K.Keeper.fuse g.K.Keeper.own g.K.Counted.faults g.K.Keeper.quiet g.K.Keeper.schedule _ _ c.in-Ok.ensures.log c.requires.unsealed) (refl, refl, open_unsealed g.K.Keeper.told g.K.Keeper.fuse g.K.Keeper.own g.K.Counted.faults g.K.Keeper.quiet g.K.Keeper.schedule _ _ c.in-Ok.ensures.log c.requires.unsealed) c.noted-entry.ensures c.note.ensures.adds
       (λ none. leaves_same g.K.Keeper.told g.K.Keeper.fuse g.K.Keeper.own g.K.Counted.faults g.K.Keeper.quiet g.K.Keeper.schedule _ _ (unnoted_refusal _ Made Made c.delete-result.result c.delete-result.ensures.refused none) c.delete-result.ensures.rest)).0;
+  right = right_on c.begin.new.self.taker g.J.Naming.found _ _ c.delete-result.ensures.rest.inbox_same c.begin.new.self.right;
 }
 
 pub returns-clause-extends : goal.returns-clause-extends
-returns-clause-extends g c = adds_begins c.noted-entry.result c.delete-result.new.self _ _ _ c.in-Ok.ensures.log c.note.ensures
+returns-clause-extends g c = adds_begins c.noted-entry.result c.delete-result.new.self _ _ _ c.in-Ok.ensures.log c.note.ensures.adds
 
 pub returns-clause-does : goal.returns-clause-does
 returns-clause-does g c = (replica_ends g.K.Keeper.told g.K.Keeper.fuse g.K.Keeper.own g.K.Counted.faults g.K.Keeper.quiet g.K.Keeper.schedule
@@ -35,5 +37,5 @@ returns-clause-does g c = (replica_ends g.K.Keeper.told g.K.Keeper.fuse g.K.Keep
     c.begin.new.self.tied c.in-Ok.ensures.log c.in-Ok.ensures.runs c.is_sound.ensures.kept c.delete-result.ensures.call
     (delete_more c.args.key.now c.delete-result.result _ _ c.delete-result.ensures.made c.delete-result.ensures.short) c.delete-result.ensures.keeps c.delete-result.ensures.rest
     (front_short c.delete-result.result _ _ c.delete-result.ensures.front c.in-Ok.ensures.runs)
-    (open_unsealed g.K.Keeper.told g.K.Keeper.fuse g.K.Keeper.own g.K.Counted.faults g.K.Keeper.quiet g.K.Keeper.schedule _ _ c.in-Ok.ensures.log c.requires.unsealed) (refl, refl, open_unsealed g.K.Keeper.told g.K.Keeper.fuse g.K.Keeper.own g.K.Counted.faults g.K.Keeper.quiet g.K.Keeper.schedule _ _ c.in-Ok.ensures.log c.requires.unsealed) (refl, refl, open_unsealed g.K.Keeper.told g.K.Keeper.fuse g.K.Keeper.own g.K.Counted.faults g.K.Keeper.quiet g.K.Keeper.schedule _ _ c.in-Ok.ensures.log c.requires.unsealed) c.noted-entry.ensures c.note.ensures
+    (open_unsealed g.K.Keeper.told g.K.Keeper.fuse g.K.Keeper.own g.K.Counted.faults g.K.Keeper.quiet g.K.Keeper.schedule _ _ c.in-Ok.ensures.log c.requires.unsealed) (refl, refl, open_unsealed g.K.Keeper.told g.K.Keeper.fuse g.K.Keeper.own g.K.Counted.faults g.K.Keeper.quiet g.K.Keeper.schedule _ _ c.in-Ok.ensures.log c.requires.unsealed) (refl, refl, open_unsealed g.K.Keeper.told g.K.Keeper.fuse g.K.Keeper.own g.K.Counted.faults g.K.Keeper.quiet g.K.Keeper.schedule _ _ c.in-Ok.ensures.log c.requires.unsealed) c.noted-entry.ensures c.note.ensures.adds
     (λ none. leaves_same g.K.Keeper.told g.K.Keeper.fuse g.K.Keeper.own g.K.Counted.faults g.K.Keeper.quiet g.K.Keeper.schedule _ _ (unnoted_refusal _ Made Made c.delete-result.result c.delete-result.ensures.refused none) c.delete-result.ensures.rest)).1

@@ -5,6 +5,7 @@ use Rattle.mc_core.specs.Refusals.{Is}
 use Rattle.mc_node.specs.declared.note.Note.TheVariants.{Heard}
 use Rattle.mc_node.specs.Moves.{NoMore}
 use Rattle.mc_node.specs.Items.{last}
+use Rattle.mc_node.proofs.PieceFacts.{right_on}
 use Rattle.mc_node.proofs.ReplicaFacts.{hear_leaves, hear_takes}
 use Rattle.mc_node.specs.Entries.{items_at}
 use Rattle.mc_node.proofs.CallFacts.{does_not_begin, stays_goes}
@@ -26,12 +27,13 @@ invariant_of-self g c = record {
       c.begin.new.self.tied c.in-Ok.ensures.log c.in-Ok.ensures.runs c.is_sound.ensures.kept c.hear-result.ensures.call
       (no_more _ _ _ c.hear-result.ensures.call) c.hear-result.ensures.keeps c.hear-result.ensures.rest
       c.hear-result.ensures.front
-      (open_unsealed g.K.Keeper.told g.K.Keeper.fuse g.K.Keeper.own g.K.Counted.faults g.K.Keeper.quiet g.K.Keeper.schedule _ _ c.in-Ok.ensures.log c.requires.unsealed) (refl, refl, open_unsealed g.K.Keeper.told g.K.Keeper.fuse g.K.Keeper.own g.K.Counted.faults g.K.Keeper.quiet g.K.Keeper.schedule _ _ c.in-Ok.ensures.log c.requires.unsealed) tt c.noted-entry.ensures c.note.ensures
+      (open_unsealed g.K.Keeper.told g.K.Keeper.fuse g.K.Keeper.own g.K.Counted.faults g.K.Keeper.quiet g.K.Keeper.schedule _ _ c.in-Ok.ensures.log c.requires.unsealed) (refl, refl, open_unsealed g.K.Keeper.told g.K.Keeper.fuse g.K.Keeper.own g.K.Counted.faults g.K.Keeper.quiet g.K.Keeper.schedule _ _ c.in-Ok.ensures.log c.requires.unsealed) tt c.noted-entry.ensures c.note.ensures.adds
       (λ none. hear_leaves g.K.Keeper.told g.K.Keeper.fuse g.K.Keeper.own g.K.Counted.faults g.K.Keeper.quiet g.K.Keeper.schedule c.args.message.now _ _ c.hear-result.result none c.hear-result.ensures.tells c.hear-result.ensures.wants c.hear-result.ensures.rest)).0;
+  right = right_on c.begin.new.self.taker g.J.Naming.found _ _ c.hear-result.ensures.rest.inbox_same c.begin.new.self.right;
 }
 
 pub returns-clause-extends : goal.returns-clause-extends
-returns-clause-extends g c = adds_begins c.noted-entry.result c.hear-result.new.self _ _ _ c.in-Ok.ensures.log c.note.ensures
+returns-clause-extends g c = adds_begins c.noted-entry.result c.hear-result.new.self _ _ _ c.in-Ok.ensures.log c.note.ensures.adds
 
 pub returns-clause-does : goal.returns-clause-does
 returns-clause-does g c =
@@ -41,9 +43,9 @@ returns-clause-does g c =
     c.begin.new.self.tied c.in-Ok.ensures.log c.in-Ok.ensures.runs c.is_sound.ensures.kept c.hear-result.ensures.call
     (no_more _ _ _ c.hear-result.ensures.call) c.hear-result.ensures.keeps c.hear-result.ensures.rest
     c.hear-result.ensures.front
-    (open_unsealed g.K.Keeper.told g.K.Keeper.fuse g.K.Keeper.own g.K.Counted.faults g.K.Keeper.quiet g.K.Keeper.schedule _ _ c.in-Ok.ensures.log c.requires.unsealed) (refl, refl, open_unsealed g.K.Keeper.told g.K.Keeper.fuse g.K.Keeper.own g.K.Counted.faults g.K.Keeper.quiet g.K.Keeper.schedule _ _ c.in-Ok.ensures.log c.requires.unsealed) tt c.noted-entry.ensures c.note.ensures
+    (open_unsealed g.K.Keeper.told g.K.Keeper.fuse g.K.Keeper.own g.K.Counted.faults g.K.Keeper.quiet g.K.Keeper.schedule _ _ c.in-Ok.ensures.log c.requires.unsealed) (refl, refl, open_unsealed g.K.Keeper.told g.K.Keeper.fuse g.K.Keeper.own g.K.Counted.faults g.K.Keeper.quiet g.K.Keeper.schedule _ _ c.in-Ok.ensures.log c.requires.unsealed) tt c.noted-entry.ensures c.note.ensures.adds
     (λ none. hear_leaves g.K.Keeper.told g.K.Keeper.fuse g.K.Keeper.own g.K.Counted.faults g.K.Keeper.quiet g.K.Keeper.schedule c.args.message.now _ _ c.hear-result.result none c.hear-result.ensures.tells c.hear-result.ensures.wants c.hear-result.ensures.rest)) in record {
       does = both.1;
       wants = hear_takes g.K.Keeper.told g.K.Keeper.fuse g.K.Keeper.own g.K.Counted.faults g.K.Keeper.quiet g.K.Keeper.schedule c.args.message.now _ _ c.begin.new.self.replica c.hear-result.new.self c.args.self.now.log.items c.begin.new.self.log.items c.note.new.log.items
-          c.hear-result.result c.begin.new.self.tied both.0 c.in-Ok.ensures.log c.requires.unsealed (adds_begins c.noted-entry.result c.hear-result.new.self _ _ _ c.in-Ok.ensures.log c.note.ensures) c.hear-result.ensures.wants;
+          c.hear-result.result c.begin.new.self.tied both.0 c.in-Ok.ensures.log c.requires.unsealed (adds_begins c.noted-entry.result c.hear-result.new.self _ _ _ c.in-Ok.ensures.log c.note.ensures.adds) c.hear-result.ensures.wants;
     }

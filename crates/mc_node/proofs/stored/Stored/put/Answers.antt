@@ -6,6 +6,7 @@ use Rattle.mc_core.specs.Refusals.{Is}
 use Rattle.mc_node.specs.declared.note.Note.TheVariants.{Made}
 use Rattle.mc_node.specs.Moves.{PutAdds}
 use Rattle.mc_node.specs.Entries.{items_at}
+use Rattle.mc_node.proofs.PieceFacts.{right_on}
 use Rattle.mc_node.proofs.CallFacts.{does_not_begin, front_short, leaves_same, stays_goes, unnoted}
 use Rattle.mc_node.proofs.ReplicaFacts.{adds_begins, open_unsealed, put_more, replica_ends}
 use Rattle.mc_node.proofs.stored.Stored.put.Goals as goal
@@ -23,12 +24,13 @@ invariant_of-self g c = record {
       c.begin.new.self.tied c.in-Ok.ensures.log c.in-Ok.ensures.runs c.is_sound.ensures.kept c.put-result.ensures.call
       (put_more _ c.args.key.now c.args.value.now c.put-result.result _ _ c.put-result.ensures.call c.put-result.ensures.made) c.put-result.ensures.keeps c.put-result.ensures.rest
       (front_short c.put-result.result _ _ c.put-result.ensures.front c.in-Ok.ensures.runs)
-      (open_unsealed g.K.Keeper.told g.K.Keeper.fuse g.K.Keeper.own g.K.Counted.faults g.K.Keeper.quiet g.K.Keeper.schedule _ _ c.in-Ok.ensures.log c.requires.unsealed) (refl, refl, open_unsealed g.K.Keeper.told g.K.Keeper.fuse g.K.Keeper.own g.K.Counted.faults g.K.Keeper.quiet g.K.Keeper.schedule _ _ c.in-Ok.ensures.log c.requires.unsealed) tt c.noted-entry.ensures c.note.ensures
+      (open_unsealed g.K.Keeper.told g.K.Keeper.fuse g.K.Keeper.own g.K.Counted.faults g.K.Keeper.quiet g.K.Keeper.schedule _ _ c.in-Ok.ensures.log c.requires.unsealed) (refl, refl, open_unsealed g.K.Keeper.told g.K.Keeper.fuse g.K.Keeper.own g.K.Counted.faults g.K.Keeper.quiet g.K.Keeper.schedule _ _ c.in-Ok.ensures.log c.requires.unsealed) tt c.noted-entry.ensures c.note.ensures.adds
       (λ none. leaves_same g.K.Keeper.told g.K.Keeper.fuse g.K.Keeper.own g.K.Counted.faults g.K.Keeper.quiet g.K.Keeper.schedule _ _ (unnoted _ Made c.put-result.result c.put-result.ensures.refused none) c.put-result.ensures.rest)).0;
+  right = right_on c.begin.new.self.taker g.J.Naming.found _ _ c.put-result.ensures.rest.inbox_same c.begin.new.self.right;
 }
 
 pub returns-clause-extends : goal.returns-clause-extends
-returns-clause-extends g c = adds_begins c.noted-entry.result c.put-result.new.self _ _ _ c.in-Ok.ensures.log c.note.ensures
+returns-clause-extends g c = adds_begins c.noted-entry.result c.put-result.new.self _ _ _ c.in-Ok.ensures.log c.note.ensures.adds
 
 pub returns-clause-does : goal.returns-clause-does
 returns-clause-does g c = (replica_ends g.K.Keeper.told g.K.Keeper.fuse g.K.Keeper.own g.K.Counted.faults g.K.Keeper.quiet g.K.Keeper.schedule
@@ -37,5 +39,5 @@ returns-clause-does g c = (replica_ends g.K.Keeper.told g.K.Keeper.fuse g.K.Keep
     c.begin.new.self.tied c.in-Ok.ensures.log c.in-Ok.ensures.runs c.is_sound.ensures.kept c.put-result.ensures.call
     (put_more _ c.args.key.now c.args.value.now c.put-result.result _ _ c.put-result.ensures.call c.put-result.ensures.made) c.put-result.ensures.keeps c.put-result.ensures.rest
     (front_short c.put-result.result _ _ c.put-result.ensures.front c.in-Ok.ensures.runs)
-    (open_unsealed g.K.Keeper.told g.K.Keeper.fuse g.K.Keeper.own g.K.Counted.faults g.K.Keeper.quiet g.K.Keeper.schedule _ _ c.in-Ok.ensures.log c.requires.unsealed) (refl, refl, open_unsealed g.K.Keeper.told g.K.Keeper.fuse g.K.Keeper.own g.K.Counted.faults g.K.Keeper.quiet g.K.Keeper.schedule _ _ c.in-Ok.ensures.log c.requires.unsealed) tt c.noted-entry.ensures c.note.ensures
+    (open_unsealed g.K.Keeper.told g.K.Keeper.fuse g.K.Keeper.own g.K.Counted.faults g.K.Keeper.quiet g.K.Keeper.schedule _ _ c.in-Ok.ensures.log c.requires.unsealed) (refl, refl, open_unsealed g.K.Keeper.told g.K.Keeper.fuse g.K.Keeper.own g.K.Counted.faults g.K.Keeper.quiet g.K.Keeper.schedule _ _ c.in-Ok.ensures.log c.requires.unsealed) tt c.noted-entry.ensures c.note.ensures.adds
     (λ none. leaves_same g.K.Keeper.told g.K.Keeper.fuse g.K.Keeper.own g.K.Counted.faults g.K.Keeper.quiet g.K.Keeper.schedule _ _ (unnoted _ Made c.put-result.result c.put-result.ensures.refused none) c.put-result.ensures.rest)).1

@@ -3,8 +3,8 @@ use Rattle.mc_node.specs.Items.{is_sealing}
 use Rattle.mc_node.proofs.SeatFacts.{begins_given, begins_on, seen_given, turned}
 use Rattle.mc_node.proofs.node.shop.Node+Stored+K+J.take_job.Goals as goal
 
-pub next_job-result-requires : goal.next_job-result-requires
-next_job-result-requires g c = record { sealed = begins_on is_sealing _ _ c.requires.sealed c.take-held.ensures.taken.seen }
+pub next_job-result-requires-clause-sealed : goal.next_job-result-requires-clause-sealed
+next_job-result-requires-clause-sealed g c = begins_on is_sealing _ _ c.requires.sealed c.take-held.ensures.taken.seen
 
 pub returns-clause-seen : goal.returns-clause-seen
 returns-clause-seen g c = seen_given _ _ _ _ c.take-held.ensures.taken.seen c.next_job-result.ensures.extends (ap (λ v. v.seen) c.give.ensures.given)
@@ -13,4 +13,4 @@ pub returns-clause-sealed : goal.returns-clause-sealed
 returns-clause-sealed g c = begins_given is_sealing _ _ _ _ c.take-held.ensures.taken.seen c.next_job-result.ensures.extends (ap (λ v. v.seen) c.give.ensures.given) c.requires.sealed
 
 pub returns-clause-turned : goal.returns-clause-turned
-returns-clause-turned g c = turned _ _ _ (c.take-held.ensures.held.0 ++ 0 ∷ []) _ _ _ c.take-held.ensures.taken c.take-held.ensures.held.2 c.give.ensures.given c.next_job-result.ensures.extends c.next_job-result.ensures.does
+returns-clause-turned g c = turned _ _ _ (c.take-held.ensures.held.0 ++ 0 ∷ []) _ _ _ c.take-held.ensures.taken c.take-held.ensures.held.2 c.give.ensures.given c.next_job-result.ensures.extends (_, _, c.next_job-result.ensures.does)

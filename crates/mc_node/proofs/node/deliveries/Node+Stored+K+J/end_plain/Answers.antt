@@ -1,7 +1,7 @@
 use Rattle.std.proofs.Common.{◌++◌, ◌∷◌, [], ap}
 use Rattle.mc_node.specs.Items.{is_sealing}
 use Rattle.mc_node.proofs.SeatFacts.{begins_given, begins_on, committed_on, seen_given, turned}
-use Rattle.mc_node.proofs.node.shop.Node+Stored+K+J.end_job.Goals as goal
+use Rattle.mc_node.proofs.node.deliveries.Node+Stored+K+J.end_plain.Goals as goal
 
 pub deliver-result-requires-clause-sealed : goal.deliver-result-requires-clause-sealed
 deliver-result-requires-clause-sealed g c = begins_on is_sealing _ _ c.requires.sealed c.take-held.ensures.taken.seen

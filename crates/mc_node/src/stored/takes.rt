@@ -1,0 +1,218 @@
+// What workers pushed is taken in.
+ghost use Rattle.std.specs.Prelude.{◌≡◌, ◌≤◌, ◌<◌, ◌+◌, ℕ, false, true, [], is_some, length, IfOk, OnOk};
+ghost use Rattle.mc_turn.specs.Lists.{Begins};
+ghost use Rattle.mc_relay.specs.Items.{IsRight};
+ghost use Rattle.mc_node.specs.Entries.{is_sealed_log, items, shown};
+ghost use Rattle.mc_node.specs.Handovers.{AddsFetched, is_of_fetched};
+ghost use Rattle.mc_node.specs.Pieces.{GathersAt, RunsOn, TakesAt};
+ghost use Rattle.mc_node.specs.Works.{IsUnder};
+
+use super::Stored;
+use super::groups::GROUP;
+use mc_base::Cid;
+use mc_block::Verified;
+use mc_fetch::{Job, Naming};
+use mc_keep::Keeper;
+use mc_worker::ShopError;
+use std::alloc::Global;
+use std::sync::Wait;
+
+impl<K: Keeper, J: Naming> Stored<K, J> {
+    // Takes in what was pushed: moves it into the inbox, until the relay is empty or the inbox full, and commits the first
+    // blocks of the inbox, as many as the limit leaves, or all. Without a relay there is nothing.
+    pub(crate) fn gather<W: Wait>(
+        &mut self,
+        alloc: Global,
+        limit: u64,
+        wait: &W,
+    ) -> Result<u64, ShopError>
+        requires sealed { is_sealed_log self.old.log.items ≡ true }
+        requires limit { IsUnder J.most limit }
+        ensures extends { Begins self.old.log.items self.new.log.items }
+        ensures does { GathersAt limit result (items K.Keeper self.old.log.items) (shown K.Keeper self.old.replica)
+            (items K.Keeper self.new.log.items) (shown K.Keeper self.new.replica) }
+        ensures commits { IfOk result (AddsFetched is_of_fetched self.old.log.items self.new.log.items) }
+        ensures room { OnOk result (64 ≤ self.new.replica.inbox.room) }
+        ensures left { OnOk result (is_some self.new.taker ≡ true → length self.new.replica.inbox.items < 64) }
+        ensures runs { OnOk result (self.new.replica.stopped ≡ false) }
+        ensures few { IfOk result (λ count. count ≤ 64) }
+    {
+        if self.is_stopped() {
+            return Err(ShopError::Stopped);
+        }
+        let processed = match self.begin_group() {
+            Ok(processed) => processed,
+            Err(_) => return Err(ShopError::Memory),
+        };
+        if processed >= limit {
+            return Err(ShopError::Spent);
+        }
+        if self.has_relay() {
+            self.fill(wait);
+            return self.take_group(alloc, processed, limit);
+        }
+        Ok(0)
+    }
+
+    // The same for a delivery of a block: where it is spent, or wants memory, the block waits again if it is in flight.
+    pub(crate) fn take_pushed<W: Wait>(
+        &mut self,
+        alloc: Global,
+        limit: u64,
+        cid: Cid,
+        wait: &W,
+    ) -> Result<u64, ShopError>
+        requires sealed { is_sealed_log self.old.log.items ≡ true }
+        requires limit { IsUnder J.most limit }
+        ensures extends { Begins self.old.log.items self.new.log.items }
+        ensures does { TakesAt limit cid result (items K.Keeper self.old.log.items) (shown K.Keeper self.old.replica)
+            (items K.Keeper self.new.log.items) (shown K.Keeper self.new.replica) }
+        ensures commits { IfOk result (AddsFetched is_of_fetched self.old.log.items self.new.log.items) }
+        ensures room { OnOk result (64 ≤ self.new.replica.inbox.room) }
+        ensures left { OnOk result (is_some self.new.taker ≡ true → length self.new.replica.inbox.items < 64) }
+        ensures runs { OnOk result (self.new.replica.stopped ≡ false) }
+        ensures few { IfOk result (λ count. count ≤ 64) }
+    {
+        match self.gather(alloc, limit, wait) {
+            Ok(count) => Ok(count),
+            Err(ShopError::Stopped) => Err(ShopError::Stopped),
+            Err(ShopError::KeeperFault) => Err(ShopError::KeeperFault),
+            Err(ShopError::Spent) => {
+                self.give_back(Job { cid, own: None });
+                Err(ShopError::Spent)
+            }
+            Err(ShopError::Memory) => {
+                self.give_back(Job { cid, own: None });
+                Err(ShopError::Memory)
+            }
+        }
+    }
+
+    // The same, and then the same with this block, which is added to the inbox. Without a relay it waits again.
+    pub(crate) fn take_with<W: Wait>(
+        &mut self,
+        alloc: Global,
+        limit: u64,
+        item: Verified,
+        wait: &W,
+    ) -> Result<u64, ShopError>
+        requires sealed { is_sealed_log self.old.log.items ≡ true }
+        requires limit { IsUnder J.most limit }
+        requires right { IsRight J.found item }
+        ensures extends { Begins self.old.log.items self.new.log.items }
+        ensures does { TakesAt limit item.cid result (items K.Keeper self.old.log.items)
+            (shown K.Keeper self.old.replica) (items K.Keeper self.new.log.items) (shown K.Keeper self.new.replica) }
+        ensures commits { IfOk result (AddsFetched is_of_fetched self.old.log.items self.new.log.items) }
+    {
+        match self.take_pushed(alloc, limit, item.cid, wait) {
+            Ok(first) => self.take_own(alloc, limit, first, item),
+            Err(error) => Err(error),
+        }
+    }
+
+    // What is left once all workers have ended: it is taken in, as far as the limit goes, and what is left then is given up
+    // and waits again. Inbox and relay hold at most 64 each, so two groups are all.
+    pub(crate) fn settle<W: Wait>(&mut self, alloc: Global, limit: u64, wait: &W)
+        requires sealed { is_sealed_log self.old.log.items ≡ true }
+        requires limit { IsUnder J.most limit }
+        ensures extends { Begins self.old.log.items self.new.log.items }
+        ensures empty { self.new.replica.stopped ≡ false → is_some self.new.taker ≡ true →
+            self.new.replica.inbox.items ≡ [] }
+    {
+        let _first = self.gather(alloc, limit, wait);
+        let _second = self.gather(alloc, limit, wait);
+        self.give_relay_up(wait);
+        self.give_inbox_up();
+    }
+
+    // Gives up what is left in the relay, into which nobody pushes any more: each block that is in flight waits again.
+    fn give_relay_up<W: Wait>(&mut self, wait: &W)
+        requires sealed { is_sealed_log self.old.log.items ≡ true }
+        ensures log { self.new.log.items ≡ self.old.log.items }
+    {
+        for _ in 0..GROUP {
+            let Some(item) = self.pop(wait) else {
+                return;
+            };
+            self.give_back(Job {
+                cid: item.cid,
+                own: None,
+            });
+        }
+    }
+
+    // A block is added to the inbox, after so many were processed in this call, and the inbox is taken in once more.
+    fn take_own(
+        &mut self,
+        alloc: Global,
+        limit: u64,
+        first: u64,
+        item: Verified,
+    ) -> Result<u64, ShopError>
+        requires sealed { is_sealed_log self.old.log.items ≡ true }
+        requires limit { IsUnder J.most limit }
+        requires right { IsRight J.found item }
+        requires room { 64 ≤ self.old.replica.inbox.room }
+        requires left { is_some self.old.taker ≡ true → length self.old.replica.inbox.items < 64 }
+        requires runs { self.old.replica.stopped ≡ false }
+        requires few { first ≤ 64 }
+        ensures extends { Begins self.old.log.items self.new.log.items }
+        ensures does { RunsOn limit first item.cid result (items K.Keeper self.old.log.items)
+            (shown K.Keeper self.old.replica) (items K.Keeper self.new.log.items) (shown K.Keeper self.new.replica) }
+        ensures commits { IfOk result (λ count. (added : ℕ) × (count ≡ first + added)
+            × AddsFetched is_of_fetched self.old.log.items self.new.log.items added) }
+    {
+        if self.has_relay() {
+            return self.take_added(alloc, limit, first, item);
+        }
+        self.give_back(Job {
+            cid: item.cid,
+            own: None,
+        });
+        Ok(first)
+    }
+
+    // The same with a relay.
+    fn take_added(
+        &mut self,
+        alloc: Global,
+        limit: u64,
+        first: u64,
+        item: Verified,
+    ) -> Result<u64, ShopError>
+        requires sealed { is_sealed_log self.old.log.items ≡ true }
+        requires limit { IsUnder J.most limit }
+        requires right { IsRight J.found item }
+        requires room { 64 ≤ self.old.replica.inbox.room }
+        requires left { length self.old.replica.inbox.items < 64 }
+        requires relay { is_some self.old.taker ≡ true }
+        requires runs { self.old.replica.stopped ≡ false }
+        requires few { first ≤ 64 }
+        ensures extends { Begins self.old.log.items self.new.log.items }
+        ensures does { RunsOn limit first item.cid result (items K.Keeper self.old.log.items)
+            (shown K.Keeper self.old.replica) (items K.Keeper self.new.log.items) (shown K.Keeper self.new.replica) }
+        ensures commits { IfOk result (λ count. (added : ℕ) × (count ≡ first + added)
+            × AddsFetched is_of_fetched self.old.log.items self.new.log.items added) }
+    {
+        let cid = item.cid;
+        self.add(item);
+        let processed = match self.begin_group() {
+            Ok(processed) => processed,
+            Err(_) => {
+                self.give_back(Job { cid, own: None });
+                return Err(ShopError::Memory);
+            }
+        };
+        if processed >= limit {
+            return Ok(first);
+        }
+        match self.take_group(alloc, processed, limit) {
+            Ok(count) => Ok(first + count),
+            Err(ShopError::KeeperFault) => Err(ShopError::KeeperFault),
+            Err(_) => {
+                self.give_back(Job { cid, own: None });
+                Err(ShopError::Memory)
+            }
+        }
+    }
+}
