@@ -16,6 +16,7 @@ use crate::crew::laws::fetches_follow;
 use mc_fetch::{Fetch, Naming};
 use mc_keep::Keeper;
 use mc_node::{Hired, Node, NodeSeat, Stored};
+use mc_relay::GiverEnd;
 use mc_worker::{Gate, Hand, HandEnd, run_workers};
 use std::alloc::Global;
 use std::sync::Wait;
@@ -23,9 +24,11 @@ use std::thread::Threads;
 
 // A hand that has not worked yet.
 fn hand_of<K: Keeper, J: Naming, F: Fetch>(
+    alloc: Global,
     node: &Node<Stored<K, J>>,
     seat: NodeSeat<Stored<K, J>, K>,
     fetch: F,
+    giver: Option<GiverEnd<J>>,
     limit: u64,
 ) -> Hand<Node<Stored<K, J>>, F>
     requires own { IsSeatOf node.now.turn seat.seat }
@@ -39,17 +42,19 @@ fn hand_of<K: Keeper, J: Naming, F: Fetch>(
 {
     let _of = node;
     Hand {
-        seat: Hired::new(seat, limit),
+        seat: Hired::new(alloc, seat, limit, giver),
         fetch,
         end: HandEnd::Memory,
     }
 }
 
-// A hand for each fetch, with a seat that is split from this one.
+// A hand for each fetch, with a seat that is split from this one, and a giver, as long as there are some.
 fn hire<K: Keeper, J: Naming, F: Fetch>(
+    alloc: Global,
     node: &Node<Stored<K, J>>,
     seat: &mut NodeSeat<Stored<K, J>, K>,
     fetches: Vec<F>,
+    givers: Vec<GiverEnd<J>>,
     hands: &mut Vec<Hand<Node<Stored<K, J>>, F>>,
     limit: u64,
 )
@@ -67,10 +72,12 @@ fn hire<K: Keeper, J: Naming, F: Fetch>(
         (FetchFits J.found J.kept (found_by (F.offers hand.fetch)))) hands.new.items }
     ensures fetches { map (λ hand. hand.fetch) hands.new.items ≡ fetches.items }
 {
+    let mut givers = givers;
     let mut rest = fetches.into_iter();
     while let Some(fetch) = rest.next() {
         let other = node.split(seat);
-        hands.push_reserved(hand_of(node, other, fetch, limit));
+        let giver = givers.pop();
+        hands.push_reserved(hand_of(alloc, node, other, fetch, giver, limit));
     }
     rest.destroy_empty();
 }
@@ -193,8 +200,9 @@ fn release<K: Keeper, J: Naming, F: Fetch>(
     failed
 }
 
-// Workers over a sealed node, one for each fetch, with seats that are split from this one and come back to it. The
-// fetches come back in their order, and whether one of them failed. Where there is no memory nobody works.
+// Workers over a sealed node, one for each fetch, with seats that are split from this one and come back to it, and with
+// these givers of the node's relay. The fetches come back in their order, and whether one of them failed. Where there
+// is no memory nobody works.
 pub(crate) fn work_beside<
     K: Keeper + Send + Sync,
     J: Naming + Send + Sync,
@@ -207,6 +215,7 @@ pub(crate) fn work_beside<
     node: &Node<Stored<K, J>>,
     seat: &mut NodeSeat<Stored<K, J>, K>,
     fetches: Vec<F>,
+    givers: Vec<GiverEnd<J>>,
     limit: u64,
     gate: &G,
     threads: &T,
@@ -234,7 +243,7 @@ where
         hands.destroy_empty();
         return (fetches, false);
     };
-    hire(node, seat, fetches, &mut hands, limit);
+    hire(alloc, node, seat, fetches, givers, &mut hands, limit);
     run(alloc, node, &mut hands, gate, threads, wait);
     let failed = release(node, seat, hands, &mut left);
     (left, failed)

@@ -1,5 +1,5 @@
 // A round: a sealed node is made of the replica, workers work on it beside one another, and it is closed.
-ghost use Rattle.std.specs.Prelude.{◌≡◌, ◌≤◌, All, length, true, false};
+ghost use Rattle.std.specs.Prelude.{◌≡◌, ◌≤◌, ◌<◌, [], All, IfSome, length, true, false, None};
 ghost use Rattle.std.specs.List.{AllZip};
 ghost use Rattle.mc_fetch.specs.Calls.{Asks};
 ghost use Rattle.mc_fetch.specs.Fits.{FetchFits};
@@ -11,6 +11,9 @@ ghost use Rattle.mc_core.specs.Words.{Becomes, Continues};
 ghost use Rattle.mc_drain.specs.Leads.{Leads, up_to};
 ghost use Rattle.mc_drain.specs.Rounds.{FindsFrom};
 ghost use Rattle.mc_drain.specs.Words.{NoneStuck};
+ghost use Rattle.mc_turn.specs.Seats.{IsSeatOf};
+ghost use Rattle.mc_node.specs.Entries.{StaysSealed, is_sealed_log};
+ghost use Rattle.mc_node.specs.Seats.{knows};
 ghost use Rattle.mc_node.specs.Ties.{IsWithin, StoresFound};
 ghost use Rattle.mc_node.specs.Works.{IsUnder, WorkersLead};
 ghost use Rattle.mc_pull.specs.Hands.{FetchLeft, SomeRose, found_first};
@@ -21,12 +24,55 @@ use mc_core::Replica;
 use mc_fetch::{Fetch, Naming};
 use mc_keep::Keeper;
 use mc_model::found_drains_go_on;
-use mc_node::{Node, NodeRefused, Stored};
+use mc_node::{Node, NodeRefused, NodeSeat, Stored};
+use mc_relay::{GiverEnd, TakerEnd, open_relay};
 use mc_worker::Gate;
-use std::alloc::Global;
+use std::alloc::{AllocError, Global};
 use std::marker::Brand;
 use std::sync::Wait;
 use std::thread::Threads;
+
+// The ends of a relay for so many workers: its taker, and a giver for each. There is none for one worker, who meets
+// nobody at the turn, none beside an inbox that isn't empty, and none for want of memory.
+fn relay_for<K: Keeper, J: Naming>(
+    alloc: Global,
+    replica: &Replica<K>,
+    workers: u64,
+) -> (Option<TakerEnd<J>>, Vec<GiverEnd<J>>)
+    requires few { workers ≤ 16 }
+    ensures alone { workers < 2 → result.0 ≡ None }
+    ensures inbox { IfSome result.0 (λ taker. replica.now.inbox.items ≡ []) }
+    ensures givers { IfSome result.0 (λ taker. length result.1.items ≡ workers) }
+{
+    if workers < 2 || replica.inbox_len() > 0 {
+        return (None, Vec::new(alloc));
+    }
+    match open_relay::<J>(alloc, workers) {
+        Ok((taker, givers)) => (Some(taker), givers.into_vec()),
+        Err(AllocError) => (None, Vec::new(alloc)),
+    }
+}
+
+// What the workers of a node with a relay left there is taken in, or given up. Without a relay nothing happens.
+fn settle<K: Keeper, J: Naming, W: Wait>(
+    alloc: Global,
+    node: &Node<Stored<K, J>>,
+    seat: &mut NodeSeat<Stored<K, J>, K>,
+    relayed: bool,
+    limit: u64,
+    wait: &W,
+)
+    requires own { IsSeatOf node.now.turn seat.old.seat }
+    requires sealed { is_sealed_log (knows seat.old).seen ≡ true }
+    requires limit { IsUnder J.most limit }
+    ensures own { IsSeatOf node.now.turn seat.new.seat }
+    ensures sealed { StaysSealed (knows seat.old).seen (knows seat.new).seen }
+{
+    if !relayed {
+        return;
+    }
+    node.settle(alloc, seat, limit, wait);
+}
 
 // A round under a name. No type of the signature names `J`.
 fn named_round<
@@ -65,12 +111,15 @@ where
     ensures peer { result.2 ≡ true → SomeRose F.faults fetches.items result.1.items }
 {
     fetches_follow::<F>();
-    match Node::<Stored<K, J>>::new(alloc, replica, true) {
+    let (taker, givers) = relay_for::<K, J>(alloc, &replica, fetches.len() as u64);
+    let relayed = taker.is_some();
+    match Node::<Stored<K, J>>::new(alloc, replica, true, taker) {
         Ok((node, seat)) => {
             let mut seat = seat;
             let (fetches, failed) = work_beside(
-                alloc, &node, &mut seat, fetches, limit, gate, threads, wait,
+                alloc, &node, &mut seat, fetches, givers, limit, gate, threads, wait,
             );
+            settle(alloc, &node, &mut seat, relayed, limit, wait);
             (node.close(seat, wait), fetches, failed)
         }
         Err(refused) => {
@@ -82,7 +131,8 @@ where
 
 /// A round of workers, one for each fetch, on a replica that runs, to so many processed blocks. The replica comes back,
 /// and has stopped where its keeper failed, and so do the fetches, and whether one of them failed. Where there is no
-/// memory for it nobody works.
+/// memory for it nobody works. Two workers and more hand their blocks over by a relay, where there is memory for one,
+/// and what is left in it when all have ended is taken in as far as the number allows, or waits again.
 ///
 /// Conditions: at most 16 fetches, which all find the same for each block; and nothing is missing or bad, so the
 /// workers try all that is wanted.

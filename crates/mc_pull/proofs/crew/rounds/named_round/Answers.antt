@@ -1,18 +1,22 @@
 use Rattle.std.proofs.Common.{◌∙◌, ap, refl}
 use Rattle.mc_core.specs.Replica.{replica_state}
 use Rattle.mc_core.proofs.Keeps.{still_on}
+use Rattle.mc_node.proofs.SealedFacts.{sealed_log}
 use Rattle.mc_pull.proofs.Left.{calm_itself, left_itself}
 use Rattle.mc_pull.proofs.RoundFacts.{unled}
 use Rattle.mc_pull.proofs.crew.rounds.named_round.Goals as goal
 
+pub settle-requires-clause-sealed : goal.settle-requires-clause-sealed
+settle-requires-clause-sealed g c = sealed_log c.args.replica _ (c.work_beside-fetches.ensures.sealed c.args.replica (c.in-Ok.ensures.sealed refl).0)
+
 pub returns-in-Ok-clause-leads : goal.returns-in-Ok-clause-leads
-returns-in-Ok-clause-leads g c = c.close.ensures.leads c.args.replica (c.work_beside-fetches.ensures.sealed c.args.replica (c.in-Ok.ensures.sealed refl).0)
+returns-in-Ok-clause-leads g c = c.close.ensures.leads c.args.replica (c.settle.ensures.sealed c.args.replica (c.work_beside-fetches.ensures.sealed c.args.replica (c.in-Ok.ensures.sealed refl).0))
 
 pub returns-in-Ok-clause-keeps : goal.returns-in-Ok-clause-keeps
-returns-in-Ok-clause-keeps g c = c.close.ensures.keeps c.args.replica (c.work_beside-fetches.ensures.sealed c.args.replica (c.in-Ok.ensures.sealed refl).0)
+returns-in-Ok-clause-keeps g c = c.close.ensures.keeps c.args.replica (c.settle.ensures.sealed c.args.replica (c.work_beside-fetches.ensures.sealed c.args.replica (c.in-Ok.ensures.sealed refl).0))
 
 pub returns-in-Ok-clause-rest : goal.returns-in-Ok-clause-rest
-returns-in-Ok-clause-rest g c = c.close.ensures.rest c.args.replica c.requires.walks (c.work_beside-fetches.ensures.sealed c.args.replica (c.in-Ok.ensures.sealed refl).0)
+returns-in-Ok-clause-rest g c = c.close.ensures.rest c.args.replica c.requires.walks (c.settle.ensures.sealed c.args.replica (c.work_beside-fetches.ensures.sealed c.args.replica (c.in-Ok.ensures.sealed refl).0))
 
 pub returns-in-Err-clause-left : goal.returns-in-Err-clause-left
 returns-in-Err-clause-left g c = left_itself _ c.fetches_follow.ensures.itself _
