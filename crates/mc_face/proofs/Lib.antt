@@ -1,0 +1,9 @@
+pub mod AnswerFacts
+pub mod BookSteps
+pub mod ExactFacts
+pub mod PairFacts
+pub mod QueryFacts
+pub mod RowFacts
+pub mod Ruled
+pub mod StartFacts
+pub mod WriterFacts

@@ -1,0 +1,9 @@
+pub mod Book
+pub mod Exact
+pub mod Faces
+pub mod Known
+pub mod Lists
+pub mod Pairs
+pub mod Rows
+pub mod Rule
+pub mod Words
