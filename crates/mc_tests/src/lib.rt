@@ -12,6 +12,8 @@ mod deltas;
 #[cfg(test)]
 mod drains;
 #[cfg(test)]
+mod faces;
+#[cfg(test)]
 mod fetches;
 #[cfg(test)]
 mod front;
@@ -21,6 +23,8 @@ mod fuses;
 mod given;
 #[cfg(test)]
 mod hand_made;
+#[cfg(test)]
+mod handovers;
 #[cfg(test)]
 mod inboxes;
 #[cfg(test)]
@@ -51,6 +55,8 @@ mod shops;
 mod shown;
 #[cfg(test)]
 mod storms;
+#[cfg(test)]
+mod trees;
 #[cfg(test)]
 mod turns;
 #[cfg(test)]

@@ -106,7 +106,7 @@ fn shares<K: Keeper + Drop, W: Wait>(keeper: K, alloc: Global, wait: &W) -> Resu
     requires { IfSome (K.told keeper) HasSoundMark }
 {
     let replica = opened(alloc, keeper)?;
-    let Ok((node, mut first)) = Node::<Stored<K, Brand>>::new(alloc, replica, false) else {
+    let Ok((node, mut first)) = Node::<Stored<K, Brand>>::new(alloc, replica, false, None) else {
         return Err(CoreError::Memory);
     };
     let mut second = node.split(&mut first);
@@ -134,7 +134,7 @@ fn stops_for_good<K: Keeper + Drop, W: Wait>(
     requires { IfSome (K.told keeper) HasSoundMark }
 {
     let replica = opened(alloc, keeper)?;
-    let Ok((node, mut seat)) = Node::<Stored<K, Brand>>::new(alloc, replica, false) else {
+    let Ok((node, mut seat)) = Node::<Stored<K, Brand>>::new(alloc, replica, false, None) else {
         return Err(CoreError::Memory);
     };
     let failed = node.get(alloc, &mut seat, "/key", wait);

@@ -13,7 +13,7 @@ use std::test::Fail;
 use std::thread::{Threads, join};
 
 /// A block without links whose delta has this priority.
-fn block_of(alloc: Global, priority: u64) -> Result<Verified, AllocError> {
+pub(crate) fn block_of(alloc: Global, priority: u64) -> Result<Verified, AllocError> {
     let made = write_block(alloc, &[], &no_delta(alloc, priority))?;
     let cid = made.cid;
     match verify(alloc, &cid, made.bytes) {

@@ -93,7 +93,7 @@ where
     K::Desk: Send,
     requires runs { replica.stopped ≡ false }
 {
-    let Ok((node, mut first)) = Shared::<K>::new(alloc, replica, false) else {
+    let Ok((node, mut first)) = Shared::<K>::new(alloc, replica, false, None) else {
         return None;
     };
     let second = node.split(&mut first);
@@ -162,11 +162,11 @@ fn two_workers<K: Keeper + Drop, W: Wait>(alloc: Global, keeper: K, wait: &W) ->
     let Some(replica) = wanting(alloc, keeper) else {
         return None;
     };
-    let Ok((node, mut seat)) = Shared::<K>::new(alloc, replica, true) else {
+    let Ok((node, mut seat)) = Shared::<K>::new(alloc, replica, true, None) else {
         return None;
     };
-    let mut one = Hired::new(node.split(&mut seat), 1);
-    let mut other = Hired::new(seat, 1);
+    let mut one = Hired::new(alloc, node.split(&mut seat), 1, None);
+    let mut other = Hired::new(alloc, seat, 1, None);
     let Ok(Some(job)) = node.next_job(alloc, &mut one, wait) else {
         return None;
     };
@@ -194,7 +194,7 @@ fn two_workers<K: Keeper + Drop, W: Wait>(alloc: Global, keeper: K, wait: &W) ->
     };
     let idle = Shared::<K>::last(&one);
     node.give_back(&mut other, job, wait);
-    let mut none = Hired::new(one.into_seat(), 0);
+    let mut none = Hired::new(alloc, one.into_seat(), 0, None);
     let Err(ShopError::Spent) = node.next_job(alloc, &mut none, wait) else {
         return None;
     };
