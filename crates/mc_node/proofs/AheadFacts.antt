@@ -1,5 +1,5 @@
 -- Jobs that begin ahead, one right after another.
-use Rattle.std.proofs.Common.{zero, suc, ◌≡◌, ◌+◌, arith, All, Bool, false, List, [], ◌∷◌, ◌++◌, Option, Some, None, Result, Ok, Err, ℕ, refl}
+use Rattle.std.proofs.Common.{zero, suc, ◌≡◌, ◌+◌, arith, All, Bool, false, List, [], ◌∷◌, ◌++◌, Option, Some, None, Result, Ok, ℕ, refl}
 use Rattle.mc_fetch.specs.declared.job.Job.{Job}
 use Rattle.mc_turn.specs.declared.view.View.{View}
 use Rattle.std.proofs.lemmas.List.Elements.{All-push}

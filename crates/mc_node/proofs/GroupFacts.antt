@@ -1,10 +1,9 @@
 -- A group that a worker takes in, from its beginning to its end.
-use Rattle.std.proofs.Common.{◌≡◌, ◌≤◌, ◌<◌, ◌+◌, ◌-◌, ◌^◌, ℕ, Bool, true, false, List, [], ◌∷◌, ◌++◌, length, take, drop, Option, Some, None, Result, Ok, Err, refl, sym, ap, ◌∙◌, subst, arith}
+use Rattle.std.proofs.Common.{◌≡◌, ◌≤◌, ◌<◌, ◌+◌, ◌-◌, ◌^◌, ℕ, Bool, true, false, List, length, take, Option, Some, None, Result, Ok, Err, refl, sym, ap, ◌∙◌, subst, arith}
 use Rattle.std.specs.Prelude.{⊤, IfErr, IfOk, IfSome, OnOk, is_some, unwrap_or}
 use Rattle.std.proofs.lemmas.Bool.{false≢true}
 use Rattle.std.proofs.lemmas.List.{length-drop, length-take}
 use Rattle.mc_base.specs.Told.{Told}
-use Rattle.mc_base.specs.declared.cid.Cid.{Cid}
 use Rattle.mc_base.specs.declared.counted.Counted as counted
 use Rattle.mc_fetch.specs.Fits.{Map}
 use Rattle.mc_keep.specs.declared.fuse.Fuse.{Fuse}
@@ -32,15 +31,12 @@ use Rattle.mc_drain.specs.Leads.{Leads, count}
 use Rattle.mc_drain.specs.Words.{begin_failed}
 use Rattle.mc_drain.specs.Words.{IsBroken as IsEnd}
 use Rattle.mc_drain.proofs.CallFacts.{told_with}
-use Rattle.mc_drain.proofs.TurnFacts.{at_state, room_told}
+use Rattle.mc_drain.proofs.TurnFacts.{at_state}
 use Rattle.mc_worker.specs.declared.ends.ShopError.{ShopError}
-use Rattle.mc_worker.specs.declared.ends.ShopError.TheVariants.{KeeperFault, Stopped, Spent, Memory}
 use Rattle.mc_node.specs.Entries.{shown_at}
-use Rattle.mc_node.specs.Items.{Shown}
 use Rattle.mc_node.specs.Jobs.{IsBroken, note_if, shop_answer, shop_error}
 use Rattle.mc_node.specs.Moves.{BeginsNot}
 use Rattle.mc_node.specs.Pieces.{AreRight, GroupWants}
-use Rattle.mc_node.specs.Serves.{keeper_fails}
 use Rattle.mc_node.specs.Works.{Bounds, IsUnder, bound_of}
 use Rattle.mc_node.proofs.PieceFacts.{dropped_right}
 use Rattle.mc_node.proofs.WorkFacts.{Step}

@@ -1,11 +1,10 @@
 -- What workers pushed, taken in by calls one right after another.
-use Rattle.std.proofs.Common.{◌≡◌, ◌≤◌, ◌<◌, ◌+◌, ◌-◌, ℕ, zero, suc, All, Bool, true, false, ◌&&◌, List, [], ◌∷◌, ◌++◌, length, map, take, drop, Option, Some, None, Result, Ok, Err, refl, sym, ap, ◌∙◌, subst, arith, append-nil, length-append}
-use Rattle.std.specs.Prelude.{⊤, IfErr, IfOk, IfSome, OnOk, is_some}
+use Rattle.std.proofs.Common.{◌≡◌, ◌<◌, ◌+◌, ℕ, zero, suc, All, Bool, true, false, ◌&&◌, List, [], ◌∷◌, ◌++◌, length, map, take, drop, Option, Some, None, Result, Ok, Err, refl, sym, ap, ◌∙◌, subst, arith, append-nil, length-append}
+use Rattle.std.specs.Prelude.{IfErr, IfOk, IfSome, OnOk, is_some}
 use Rattle.std.specs.List.{list_all}
 use Rattle.std.proofs.lemmas.Bool.{and_parts, false≢true}
 use Rattle.std.proofs.lemmas.List.{append_assoc, map-append}
 use Rattle.std.proofs.lemmas.List.Elements.{All-push, All-tail}
-use Rattle.mc_base.specs.declared.cid.Cid.{Cid}
 use Rattle.mc_base.specs.declared.counted.Counted as counted
 use Rattle.mc_block.specs.declared.verified.Verified.{Verified}
 use Rattle.mc_fetch.specs.Fits.{Map}
@@ -26,7 +25,7 @@ use Rattle.mc_node.specs.Entries.{AddsAll, AreFetched, items_at, shown_at}
 use Rattle.mc_node.specs.Handovers.{AddsFetched, is_of_fetched}
 use Rattle.mc_node.specs.Items.{Item, Shown, is_fetched}
 use Rattle.mc_node.specs.Moves.{with_entry}
-use Rattle.mc_node.specs.Pieces.{AreRight, Piece, PieceDoes, Runs, processed_by, processed_in, with_fetched}
+use Rattle.mc_node.specs.Pieces.{AreRight, Piece, PieceDoes, Runs, processed_in, with_fetched}
 use Rattle.mc_node.specs.Ties.{IsTied}
 use Rattle.mc_node.specs.Works.{Bounds}
 use Rattle.mc_node.proofs.WorkTies.{tied_fetched}

@@ -1,10 +1,9 @@
 -- A worker's call as one of the replica between two moments of the log.
-use Rattle.std.proofs.Common.{◌≡◌, ◌<◌, ◌≤◌, ℕ, Bool, true, false, not, cond, inl, inr, List, [], ◌∷◌, length, Option, Some, None, Result, Ok, Err, refl, sym, ap, ◌∙◌, subst}
+use Rattle.std.proofs.Common.{◌≡◌, ◌<◌, ℕ, Bool, true, false, not, cond, inr, List, [], ◌∷◌, length, Option, Some, None, Result, Ok, Err, refl, sym, ap, ◌∙◌, subst}
 use Rattle.std.specs.Prelude.{⊤, IfErr, IfOk, IfSome}
 use Rattle.std.proofs.lemmas.Bool.{false≢true}
 use Rattle.mc_base.specs.Causes.{Rose}
 use Rattle.mc_base.specs.Told.{Told}
-use Rattle.mc_base.proofs.Telling.{told_weaker}
 use Rattle.mc_base.specs.declared.cid.Cid.{Cid}
 use Rattle.mc_base.specs.declared.counted.Counted as counted
 use Rattle.mc_fetch.specs.declared.job.Delivered.{Delivered}
@@ -19,11 +18,10 @@ use Rattle.mc_model.specs.Kept.{Kept}
 use Rattle.mc_model.specs.State.{Running}
 use Rattle.mc_model.specs.Wanted.{Queue, give_back}
 use Rattle.mc_queue.specs.Views.{shown as shown_queue}
-use Rattle.mc_core.specs.Calls.{Stays}
 use Rattle.mc_core.specs.Counted.{capped, run_of}
 use Rattle.mc_core.specs.Events.{Goes as Happens, HappensIn, ReplicaState, state_of}
 use Rattle.mc_core.specs.Exact.{RunSame}
-use Rattle.mc_core.specs.Jobs.{DeliverShort, NextEvents, NextShort, WantsAfter, is_known, tried_first}
+use Rattle.mc_core.specs.Jobs.{DeliverShort, WantsAfter, is_known, tried_first}
 use Rattle.mc_core.specs.Replica.{replica_state}
 use Rattle.mc_core.specs.Words.{ContinuesAt}
 use Rattle.mc_core.specs.declared.replica.Replica.{Replica}
@@ -33,13 +31,12 @@ use Rattle.mc_drain.specs.declared.end.DrainEnd.TheVariants as drain
 use Rattle.mc_drain.specs.JobCalls.{GivesBack, JobCall, back_events}
 use Rattle.mc_drain.specs.Words.{Begins, IsBroken, begin_failed}
 use Rattle.mc_worker.specs.declared.ends.ShopError.{ShopError}
-use Rattle.mc_worker.specs.declared.ends.ShopError.TheVariants as shop
 use Rattle.mc_node.specs.declared.entry.Entry.{Entry}
 use Rattle.mc_node.specs.declared.note.Note.{Note}
 use Rattle.mc_node.specs.Entries.{AddsEntry, items_at, shown_at}
 use Rattle.mc_node.specs.Items.{Item, Shown, root}
-use Rattle.mc_node.specs.Jobs.{KeepsLimit, StopsWhere, note_if, shop_answer}
-use Rattle.mc_node.specs.Serves.{AnswersAt, BackWants, DeliverWants, NextStays, NextWants, ServesAt, WorkerCall, backed, keeper_fails}
+use Rattle.mc_node.specs.Jobs.{note_if, shop_answer}
+use Rattle.mc_node.specs.Serves.{AnswersAt, BackWants, DeliverWants, NextWants, ServesAt, WorkerCall, backed, keeper_fails}
 use Rattle.mc_node.specs.Ties.{IsTied}
 use Rattle.mc_node.specs.Works.{Bounds}
 use Rattle.mc_node.proofs.CallFacts.{adds_items}

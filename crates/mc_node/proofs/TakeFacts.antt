@@ -1,20 +1,19 @@
 -- Calls that take in what was pushed, as calls of the replica one right after another.
-use Rattle.std.proofs.Common.{◌≡◌, ◌≤◌, ◌<◌, ◌+◌, ℕ, Bool, true, false, List, [], ◌∷◌, ◌++◌, length, Option, Some, None, Result, Ok, Err, refl, sym, ap, ◌∙◌, subst, arith}
+use Rattle.std.proofs.Common.{◌≡◌, ◌≤◌, ◌<◌, ◌+◌, ℕ, true, false, List, [], ◌∷◌, ◌++◌, length, Option, Some, None, Result, Ok, Err, refl, sym, ap, ◌∙◌, subst, arith}
 use Rattle.std.specs.Prelude.{⊤, IfErr, IfSome, OnOk}
 use Rattle.std.proofs.lemmas.List.{append_assoc}
 use Rattle.mc_base.specs.declared.cid.Cid.{Cid}
 use Rattle.mc_fetch.specs.declared.job.Job.{Job}
 use Rattle.mc_model.specs.Kept.{Kept}
-use Rattle.mc_model.specs.declared.block.Stored.{Stored}
 use Rattle.mc_core.specs.Counted.{capped}
 use Rattle.mc_group.specs.declared.grouped.Grouped.{Grouped}
 use Rattle.mc_worker.specs.declared.ends.ShopError.{ShopError}
 use Rattle.mc_worker.specs.declared.ends.ShopError.TheVariants.{KeeperFault, Stopped, Spent, Memory}
 use Rattle.mc_node.specs.Items.{Item, Shown, has_halted}
-use Rattle.mc_node.specs.Jobs.{IsBroken, KeepsLimit, StopsWhere}
-use Rattle.mc_node.specs.Pieces.{AnswersFrom, Back, EndsBack, EndsBroken, Gathered, GathersAt, Group, GroupAt, GroupsAt, Piece, Runs, RunsOn, TakesAt, counted, processed_in}
+use Rattle.mc_node.specs.Jobs.{IsBroken}
+use Rattle.mc_node.specs.Pieces.{AnswersFrom, Back, EndsBroken, Gathered, GathersAt, Group, GroupsAt, Piece, Runs, RunsOn, TakesAt, counted, processed_in}
 use Rattle.mc_node.specs.Serves.{AnswersAt, BackAt, NextAt}
-use Rattle.mc_node.proofs.PieceFacts.{processed_then, runs_none, runs_one, runs_then}
+use Rattle.mc_node.proofs.PieceFacts.{processed_then, runs_one, runs_then}
 
 said_of_none : {A : Type 0} (told : Option A) → IfSome told (λ x. ⊤)
 said_of_none None = tt

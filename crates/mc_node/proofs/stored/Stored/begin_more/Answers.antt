@@ -1,6 +1,5 @@
-use Rattle.std.proofs.Common.{Err, Ok, arith, refl, subst, sym}
+use Rattle.std.proofs.Common.{Err, Ok, arith, refl}
 use Rattle.mc_turn.proofs.Lists.{begins_trans}
-use Rattle.mc_node.specs.Ahead.{BeginsAll}
 use Rattle.mc_node.specs.Items.{is_sealing}
 use Rattle.mc_node.proofs.AheadFacts.{begins_last, begins_push, fits_push, job_fits}
 use Rattle.mc_node.proofs.SeatFacts.{begins_on}

@@ -1,10 +1,10 @@
-use Rattle.std.proofs.Common.{◌∙◌, ◌≤◌, ap, arith, false, refl, sym, take}
+use Rattle.std.proofs.Common.{◌∙◌, ◌≤◌, ap, arith, false, refl, take}
 use Rattle.std.proofs.lemmas.List.{length-take}
 use Rattle.mc_core.specs.Calls.{Stays}
 use Rattle.mc_group.specs.Inboxes.{GroupEvents}
 use Rattle.mc_drain.specs.Words.{begin_failed}
 use Rattle.mc_node.specs.Pieces.{GroupWants}
-use Rattle.mc_node.proofs.GroupFacts.{broken_answer, counted_few, group_left, group_told, group_wants, ok_answer, ok_both, ok_unnoted, ok_weaker, taken_right}
+use Rattle.mc_node.proofs.GroupFacts.{broken_answer, counted_few, group_left, group_told, group_wants, ok_answer, ok_unnoted, ok_weaker, taken_right}
 use Rattle.mc_node.proofs.JobFacts.{job_ends}
 use Rattle.mc_node.proofs.PieceFacts.{right_of, right_take}
 use Rattle.mc_node.proofs.ReplicaFacts.{adds_begins}

@@ -1,11 +1,11 @@
-use Rattle.std.proofs.Common.{◌∙◌, Bool, ap, arith, false, inl, refl, subst, sym}
+use Rattle.std.proofs.Common.{◌∙◌, ap, arith, false, inl, refl, sym}
 use Rattle.std.specs.Prelude.{Err}
 use Rattle.mc_core.specs.Jobs.{DeliverEvents, DeliverShort, found_in}
 use Rattle.mc_drain.specs.JobCalls.{GivesBack}
 use Rattle.mc_drain.specs.Words.{begin_failed}
 use Rattle.mc_worker.specs.declared.ends.ShopError.TheVariants.{Memory, Spent, Stopped}
 use Rattle.mc_node.specs.Jobs.{has_processed}
-use Rattle.mc_node.specs.Serves.{AnswersAt, DeliverWants, DeliversAt, ServesAt, WorkerCall, keeper_fails}
+use Rattle.mc_node.specs.Serves.{AnswersAt, DeliverWants, DeliversAt, WorkerCall}
 use Rattle.mc_node.proofs.FrameFacts.{run_same}
 use Rattle.mc_node.proofs.JobFacts.{deliver_told, found_has, handed_adds, handed_blocks, handed_queued, handed_says, job_ends, processed_alike, spent_at}
 use Rattle.mc_node.proofs.PieceFacts.{right_on}

@@ -1,4 +1,4 @@
-use Rattle.std.proofs.Common.{◌≡◌, ◌<◌, ◌∙◌, List, ap, arith, length, refl, subst, sym}
+use Rattle.std.proofs.Common.{◌≡◌, ◌∙◌, ap, arith, length, refl, subst, sym}
 use Rattle.std.specs.Prelude.{Err, IfOk, IfSome, Ok}
 use Rattle.mc_turn.specs.Lists.{Begins}
 use Rattle.mc_core.specs.Counted.{capped}

@@ -1,4 +1,3 @@
-use Rattle.std.proofs.Common.{refl}
 use Rattle.mc_node.proofs.GroupFacts.{begins_not, shown_same}
 use Rattle.mc_node.proofs.PieceFacts.{items_right}
 use Rattle.mc_node.proofs.TieFacts.{tied_shown}

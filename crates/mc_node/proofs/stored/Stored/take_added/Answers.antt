@@ -1,9 +1,7 @@
 use Rattle.std.proofs.Common.{◌∙◌, ap, arith, refl, subst, sym}
-use Rattle.std.specs.Prelude.{IfOk}
 use Rattle.mc_turn.specs.Lists.{Begins}
 use Rattle.mc_worker.specs.declared.ends.ShopError.TheVariants.{KeeperFault}
 use Rattle.mc_node.specs.Entries.{is_sealed_log, items_at}
-use Rattle.mc_node.specs.Handovers.{AddsFetched, is_of_fetched}
 use Rattle.mc_node.specs.Items.{is_sealing}
 use Rattle.mc_node.proofs.PieceFacts.{adds_nothing}
 use Rattle.mc_node.proofs.SeatFacts.{begins_on}

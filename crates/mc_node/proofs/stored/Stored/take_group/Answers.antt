@@ -1,7 +1,6 @@
-use Rattle.std.proofs.Common.{◌∙◌, ap, refl, sym, subst}
+use Rattle.std.proofs.Common.{refl, sym, subst}
 use Rattle.std.specs.Prelude.{Ok}
 use Rattle.mc_node.specs.Entries.{items_at, shown_at}
-use Rattle.mc_node.specs.Items.{Item}
 use Rattle.mc_node.specs.Ties.{IsTied}
 use Rattle.mc_node.proofs.PieceFacts.{adds_fetched, all_items, tied_many}
 use Rattle.mc_node.proofs.stored.Stored.take_group.Goals as goal

@@ -1,4 +1,4 @@
-use Rattle.std.proofs.Common.{◌∙◌, ap, arith, refl, sym}
+use Rattle.std.proofs.Common.{◌∙◌, arith, sym}
 use Rattle.mc_node.proofs.PieceFacts.{adds_nothing}
 use Rattle.mc_node.proofs.TakeFacts.{ons_back}
 use Rattle.mc_node.proofs.stored.Stored.take_own.Goals as goal

@@ -1,6 +1,4 @@
 use Rattle.mc_worker.specs.declared.ends.ShopError.TheVariants.{KeeperFault, Memory, Spent, Stopped}
-use Rattle.mc_node.specs.Items.{is_sealing}
-use Rattle.mc_node.proofs.SeatFacts.{begins_on}
 use Rattle.mc_node.proofs.TakeFacts.{gathers_err, takes_broken, takes_ok, takes_short, takes_spent, takes_stopped}
 use Rattle.mc_node.proofs.stored.Stored.take_pushed.Goals as goal
 
