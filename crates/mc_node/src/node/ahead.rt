@@ -20,7 +20,7 @@ use std::sync::Wait;
 use std::thread;
 
 // How often a job is asked for while nothing waits and blocks are in flight elsewhere.
-const LOOKS: u64 = 12;
+const LOOKS: u64 = 20;
 
 impl<K: Keeper, J: Naming> Node<Stored<K, J>> {
     // A job comes out of those ahead, or is asked for.
