@@ -22,7 +22,11 @@ use std::thread::Threads;
 
 const TURNS: u64 = 300_000_000;
 
-const LEAVES: u64 = 999;
+const BRANCHES: u64 = 9;
+
+const LEAVES: u64 = 110;
+
+const BLOCKS: u64 = 1_000;
 
 const WORKERS: u64 = 4;
 
@@ -76,7 +80,7 @@ impl<'a> Fetch for Shelf<'a> {
         _place: u64,
         _wait: &W,
     ) -> Result<Option<Bytes>, FetchError> {
-        for made in self.tree {
+        for made in self.tree.iter().rev() {
             if made.cid == *cid {
                 return Ok(Some(made.bytes.try_clone(alloc)?));
             }
@@ -115,14 +119,26 @@ fn make(alloc: Global, links: &[Cid], priority: u64) -> Result<Made, AllocError>
     })
 }
 
-// A tree: its leaves, and at the end the root, which links to all of them.
+// A branch: its leaves, and behind them the block that links to them.
+fn grow(alloc: Global, all: &mut Vec<Made>) -> Result<Cid, AllocError> {
+    let mut links = Vec::new(alloc);
+    for _ in 0..LEAVES {
+        let leaf = make(alloc, &[], all.len() as u64)?;
+        links.push(leaf.cid)?;
+        all.push(leaf)?;
+    }
+    let top = make(alloc, links.as_slice(), 1)?;
+    let cid = top.cid;
+    all.push(top)?;
+    Ok(cid)
+}
+
+// A tree: its branches, and at the end the root, which links to them.
 fn tree(alloc: Global) -> Result<Vec<Made>, AllocError> {
     let mut all = Vec::new(alloc);
     let mut links = Vec::new(alloc);
-    for priority in 1..=LEAVES {
-        let leaf = make(alloc, &[], priority)?;
-        links.push(leaf.cid)?;
-        all.push(leaf)?;
+    for _ in 0..BRANCHES {
+        links.push(grow(alloc, &mut all)?)?;
     }
     all.push(make(alloc, links.as_slice(), 1)?)?;
     Ok(all)
@@ -152,11 +168,11 @@ where
     };
     let (left, _shelves, answer) = work(alloc, replica, shelves, 2_000, gate, rt, rt);
     let done = Worked::Done {
-        processed: LEAVES + 1,
+        processed: BLOCKS,
         missing: 0,
         bad: 0,
     };
-    Ok(heard.is_ok() && answer == Ok(done) && has_processed(&left, LEAVES + 1))
+    Ok(heard.is_ok() && answer == Ok(done) && has_processed(&left, BLOCKS))
 }
 
 #[test]
