@@ -31,8 +31,8 @@ use std::sync::Wait;
 
 impl<K: Keeper, J: Naming> Node<Stored<K, J>> {
     /// Takes in what workers pushed and nobody has taken in, as far as the limit goes, and gives the rest up, each
-    /// block of which waits again where it is in flight. Nothing is left in the inbox then, unless the replica has
-    /// stopped. Without a relay nothing changes.
+    /// block of which waits again where it is in flight. No clause says how much that is: a seat shows neither relay
+    /// nor inbox. Without a relay nothing changes.
     ///
     /// Condition: no worker pushes any more. Conditions as of a shop's calls: the node is sealed, and the limit is at
     /// most `J.most`.

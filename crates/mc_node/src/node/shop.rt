@@ -25,7 +25,7 @@ use std::sync::Wait;
 
 /// A sealed node is a shop: a worker's seat is one of the node's, with a limit of at most `J.most`. Each call takes
 /// the turn and gives it back; what the seat has seen then begins with the log that it took. A call that asks for a
-/// job where none waits first takes in what was pushed.
+/// job where none waits first takes in what was pushed, which is no clause.
 ///
 /// A delivery with a giver is another matter: a found block is pushed outside the turn, and then one exchange is made
 /// for the turn. Where it is free, what was pushed is taken in, and else the answer is `Queued`: whoever has the turn
