@@ -15,17 +15,4 @@ pub mod GroupFacts
 pub mod HandFacts
 pub mod SealedFacts
 pub mod ServeFacts
-pub mod Spread
-pub mod Chains
-pub mod WriterFacts
-pub mod Joins
-pub mod StormTurns
-pub mod StormWays
-pub mod StormSeats
-pub mod StormLaw
-pub mod StormEnd
-pub mod StormWrites
-pub mod Gathering
-pub mod StormFacts
-pub mod StormCrews
 pub mod Crossing

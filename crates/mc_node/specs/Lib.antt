@@ -1,7 +1,5 @@
 pub mod Ahead
-pub mod Crews
 pub mod Entries
-pub mod Gathers
 pub mod Handovers
 pub mod Items
 pub mod Jobs
@@ -11,8 +9,6 @@ pub mod Props
 pub mod Seats
 pub mod Serves
 pub mod Ties
-pub mod Tooks
 pub mod Tries
 pub mod Views
-pub mod Writers
 pub mod Works

@@ -5,10 +5,10 @@ ghost use Rattle.mc_seats.specs.Storming.{storm_answer};
 ghost use Rattle.mc_seats.specs.Words.{ActsOn, SeatActs};
 
 use mc_keep::Keeper;
-use mc_node::storm;
 use mc_script::Reply;
 use mc_seats::{ActError, Held, Seat, World, put_at, take_at};
 use mc_storm::{StormError, Stormed};
+use mc_writers::storm;
 use std::alloc::Global;
 use std::sync::Wait;
 use std::thread::Threads;

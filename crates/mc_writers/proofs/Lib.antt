@@ -1,0 +1,13 @@
+pub mod Spread
+pub mod Chains
+pub mod WriterFacts
+pub mod Joins
+pub mod StormTurns
+pub mod StormWays
+pub mod StormSeats
+pub mod StormLaw
+pub mod StormEnd
+pub mod StormWrites
+pub mod Gathering
+pub mod StormFacts
+pub mod StormCrews
