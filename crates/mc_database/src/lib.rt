@@ -2,14 +2,17 @@
 //! many rows there are.
 #![tactic(auto)]
 
+mod cause;
 mod cells;
 mod changing;
 mod counts;
 mod database;
+mod log;
 mod opening;
 mod reading;
 mod tables;
 
+pub use cause::FileCause;
 pub use changing::counts_after;
 pub use counts::Counts;
 pub use database::{Database, FileDatabase, Work};

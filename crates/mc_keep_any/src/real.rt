@@ -1,5 +1,5 @@
 // Who makes the keepers of the program, and takes them back.
-ghost use Rattle.std.specs.Prelude.{◌≡◌, ◌+◌, ◌-◌, ◌^◌, ℕ, min, IfOk};
+ghost use Rattle.std.specs.Prelude.{◌≡◌, ◌+◌, ◌-◌, ◌^◌, ℕ, min, ⊤, IfOk, Ok};
 ghost use Rattle.std.specs.List.{sum_by};
 ghost use Rattle.mc_keep.specs.Causes.{CountGoes};
 ghost use Rattle.mc_keep.specs.Plan.{is_fault};
@@ -12,9 +12,10 @@ use crate::desk::AnyDesk;
 use mc_base::{Counted, List};
 use mc_keep::{KeepError, Keeper};
 use mc_keep_mem::{FaultPlan, MemDesk, MemKeeper};
-use mc_keep_sql::{FileKeeper, SqlDesk, add_faults};
+use mc_keep_sql::{FileFault, FileKeeper, OpenFault, SqlDesk, add_faults};
 use mc_keepers::{KeeperPlan, Keepers};
 use std::alloc::Global;
+use std::marker::Model;
 use std::rt::HostRuntime;
 
 /// Makes the keepers of the program, by the plan: in memory, without faults, or in SQLite files.
@@ -23,6 +24,28 @@ pub struct RealKeepers {
     rt: HostRuntime,
     faults: u64,
     lost: u64,
+    first: FirstFault,
+}
+
+// The file that was refused first, or on which a call failed first. It is for whoever reads it, and no contract speaks of
+// it.
+#[derive(Drop)]
+struct FirstFault {
+    fault: Option<FileFault>,
+}
+
+impl Model for FirstFault {
+    ghost Value = { ⊤ };
+
+    ghost view = { λ first. tt };
+}
+
+impl FirstFault {
+    fn note(&mut self, fault: FileFault) {
+        if self.fault.is_none() {
+            self.fault = Some(fault);
+        }
+    }
 }
 
 impl RealKeepers {
@@ -34,19 +57,31 @@ impl RealKeepers {
             rt: *rt,
             faults: 0,
             lost: 0,
+            first: FirstFault { fault: None },
         }
     }
 
-    // Counts what a call of `make` came to.
-    fn count<T>(&mut self, answer: Result<T, KeepError>) -> Result<T, KeepError>
+    /// The file that was refused first, or on which a call failed first, with the cause: one of `make`, or one of a keeper
+    /// that was taken back.
+    pub fn fault(&self) -> Option<&FileFault> {
+        self.first.fault.as_ref()
+    }
+
+    // Counts what a call of `make` came to, and notes why a file was refused.
+    fn count<T>(&mut self, answer: Result<T, OpenFault>) -> Result<T, KeepError>
         ensures count { CountGoes (is_fault result) self.old.faults self.new.faults }
-        ensures same { result ≡ answer }
+        ensures same { IfOk result (λ made. answer ≡ Ok made) }
         ensures lost { self.new.lost ≡ self.old.lost }
     {
-        if let Err(KeepError::Failed) = answer {
-            self.faults = self.faults.saturating_add(1);
+        match answer {
+            Ok(made) => Ok(made),
+            Err(OpenFault::Memory) => Err(KeepError::Memory),
+            Err(OpenFault::Refused { fault }) => {
+                self.faults = self.faults.saturating_add(1);
+                self.first.note(fault);
+                Err(KeepError::Failed)
+            }
         }
-        answer
     }
 }
 
@@ -115,7 +150,9 @@ impl Keepers for RealKeepers {
     {
         let lost = self.lost.saturating_add(keeper.faults());
         self.lost = add_faults(lost, desks.as_slice());
-        close(keeper);
+        if let Some(fault) = close(keeper) {
+            self.first.note(fault);
+        }
     }
 
     fn lost(&self) -> u64 {
@@ -125,9 +162,11 @@ impl Keepers for RealKeepers {
     ghost marked = { λ keepers plan index. starts_marked plan };
 }
 
-// Closes the file of a keeper that has one. Where that fails, what was committed stands in the file and its log.
-fn close(keeper: AnyKeeper<MemKeeper, FileKeeper>) {
-    if let AnyKeeper::File(keeper) = keeper {
-        keeper.close();
+// Closes the file of a keeper that has one, and answers why a call on it failed first. Where the closing fails, what was
+// committed stands in the file and its log.
+fn close(keeper: AnyKeeper<MemKeeper, FileKeeper>) -> Option<FileFault> {
+    match keeper {
+        AnyKeeper::File(keeper) => keeper.close(),
+        AnyKeeper::Memory(_) => None,
     }
 }

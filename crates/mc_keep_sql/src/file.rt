@@ -4,10 +4,11 @@ ghost use Rattle.mc_keep_sql.specs.Name.{name_text};
 ghost use Rattle.mc_keep_sql.specs.Named.{file_of};
 
 use crate::desk::SqlDesk;
+use crate::fault::{FileFault, OpenFault};
 use crate::keeper::DatabaseKeeper;
 use crate::name::file_name;
 use mc_base::{Bytes, Cid, Counted, Failed, List, Text};
-use mc_database::FileDatabase;
+use mc_database::{FileCause, FileDatabase};
 use mc_keep::{Changes, ElementRow, HeadRow, KeepError, Keeper, RankedValue, Summary, ValueRow};
 use std::alloc::{AllocError, Global};
 use std::rt::HostRuntime;
@@ -23,15 +24,15 @@ pub struct FileKeeper {
 
 impl FileKeeper {
     /// Opens the file of the replica with this index in a folder, and makes it where it is not there. The folder must
-    /// exist.
-    pub fn open(rt: &HostRuntime, dir: &str, index: u64) -> Result<FileKeeper, KeepError>
+    /// exist. A file that is refused is left as it is.
+    pub fn open(rt: &HostRuntime, dir: &str, index: u64) -> Result<FileKeeper, OpenFault>
         ensures fresh { IfOk result (λ keeper. keeper.inner.faults ≡ 0) }
         ensures named { IfOk result (λ keeper. file_of keeper ≡ name_text dir.now index) }
     {
         let name = file_name(rt.alloc(), dir, index)?;
         match DatabaseKeeper::open_file(rt, name.as_str()) {
             Ok(inner) => Ok(FileKeeper { inner, name }),
-            Err(error) => Err(error),
+            Err(cause) => Err(OpenFault::of(name, cause)),
         }
     }
 
@@ -45,10 +46,20 @@ impl FileKeeper {
 
 impl FileKeeper {
     /// Copies the log into the file, and closes both. Where that fails the log stays beside the file, with all commits.
-    pub fn close(self) {
-        let FileKeeper { inner, name: _ } = self;
-        inner.into_database().close();
+    /// Answers why a call failed first, if one did.
+    pub fn close(self) -> Option<FileFault> {
+        let FileKeeper { inner, name } = self;
+        let cause = cause_after(inner.faults(), inner.into_database().close())?;
+        Some(FileFault { file: name, cause })
     }
+}
+
+// Why a call of a keeper that failed so often failed first. Where no statement was refused, a row was none of a store.
+fn cause_after(faults: u64, refused: Option<FileCause>) -> Option<FileCause> {
+    if faults == 0 {
+        return None;
+    }
+    Some(refused.unwrap_or(FileCause::OtherRow))
 }
 
 impl Counted for FileKeeper {

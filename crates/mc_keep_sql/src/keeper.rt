@@ -7,7 +7,7 @@ ghost use Rattle.mc_keep.specs.Plan.{is_fault};
 use crate::desk::SqlDesk;
 use crate::name::file_name;
 use mc_base::{Bytes, Cid, Counted, Failed, List, Text};
-use mc_database::{Counts, Database, FileDatabase, Work, counts_after, opened};
+use mc_database::{Counts, Database, FileCause, FileDatabase, Work, counts_after, opened};
 use mc_keep::{Changes, ElementRow, HeadRow, KeepError, Keeper, RankedValue, Summary, ValueRow};
 use sqlite::{Alter, Connection, File, FileStore};
 use std::alloc::{AllocError, Global};
@@ -37,7 +37,8 @@ impl SqlKeeper {
         let name = file_name(rt.alloc(), dir, index)?;
         match DatabaseKeeper::open_file(rt, name.as_str()) {
             Ok(keeper) => Ok(keeper.into_sql()),
-            Err(error) => Err(error),
+            Err(FileCause::Memory) => Err(KeepError::Memory),
+            Err(_) => Err(KeepError::Failed),
         }
     }
 }
@@ -48,7 +49,10 @@ impl<S: Alter + Drop> SqlKeeper<S> {
     pub fn adopt(connection: Connection<S>) -> Result<SqlKeeper<S>, KeepError>
         ensures fresh { IfOk result (λ keeper. keeper.faults ≡ 0) }
     {
-        DatabaseKeeper::over(connection)
+        match DatabaseKeeper::over(connection) {
+            Ok(keeper) => Ok(keeper),
+            Err(_connection) => Err(KeepError::Failed),
+        }
     }
 
     /// The connection, for whoever closes it. Nothing is written.
@@ -58,16 +62,16 @@ impl<S: Alter + Drop> SqlKeeper<S> {
 }
 
 impl DatabaseKeeper<FileDatabase> {
-    // A keeper over the file with this name.
+    // A keeper over the file with this name, or why there is none.
     pub(crate) fn open_file(
         rt: &HostRuntime,
         name: &str,
-    ) -> Result<DatabaseKeeper<FileDatabase>, KeepError>
+    ) -> Result<DatabaseKeeper<FileDatabase>, FileCause>
         ensures fresh { IfOk result (λ keeper. keeper.faults ≡ 0) }
     {
-        match FileDatabase::open(rt, name) {
-            Ok(database) => DatabaseKeeper::over(database),
-            Err(error) => Err(error),
+        match DatabaseKeeper::over(FileDatabase::open(rt, name)?) {
+            Ok(keeper) => Ok(keeper),
+            Err(database) => Err(database.refuse(rt)),
         }
     }
 
@@ -89,8 +93,9 @@ impl DatabaseKeeper<FileDatabase> {
 }
 
 impl<D: Database + Drop> DatabaseKeeper<D> {
-    // A keeper over a database. Where it has no tables they are made. Fails where it has others, or another layout.
-    fn over(database: D) -> Result<DatabaseKeeper<D>, KeepError>
+    // A keeper over a database. Where it has no tables they are made. Gives it back where it has others, or another
+    // layout.
+    fn over(database: D) -> Result<DatabaseKeeper<D>, D>
         ensures fresh { IfOk result (λ keeper. keeper.faults ≡ 0) }
     {
         let mut database = database;
@@ -100,7 +105,7 @@ impl<D: Database + Drop> DatabaseKeeper<D> {
                 counts: Some(counts),
                 faults: 0,
             }),
-            Err(Failed) => Err(KeepError::Failed),
+            Err(Failed) => Err(database),
         }
     }
 }

@@ -3,12 +3,14 @@
 #![tactic(auto)]
 
 mod desk;
+mod fault;
 mod file;
 mod keeper;
 mod name;
 mod sums;
 
 pub use desk::SqlDesk;
+pub use fault::{FileFault, OpenFault};
 pub use file::FileKeeper;
 pub use keeper::SqlKeeper;
 pub use sums::add_faults;
