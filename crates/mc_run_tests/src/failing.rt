@@ -159,3 +159,97 @@ fn a_desk_that_fails_leaves_the_block_waiting(rt: HostRuntime) -> Result<(), Fai
     }
     Ok(())
 }
+
+// Four writes at the first replica, which the second one then hears of and takes up, if need be at the second try.
+const WORKED: &str =
+    "put a /k 01\nput a /k 02\ndel a /k\nput a /m 03\ncast a\nhear b 1\nwork b 1\nhear b 1\nwork b 1\nsame a b\n";
+
+const WORKED_REPLIES: &str =
+    "ok 1\nok 2\ndeleted 1\nok 4\nmessage 1\nqueued 1\nworked 4 0 0\nqueued 0\nworked 0 0 0\nsame yes\n";
+
+// Keepers of which the one with this index fails at this read.
+fn failing_at(alloc: Global, index: u64, read: u64) -> Result<MemKeepers, Fail> {
+    let mut plans = List::new(alloc);
+    for _ in 0..index {
+        plans.push(FaultPlan::nothing(alloc))?;
+    }
+    let mut plan = FaultPlan::nothing(alloc);
+    plan.reads = numbers(alloc, &[read])?;
+    plans.push(plan)?;
+    Ok(MemKeepers::new(plans, List::new(alloc)))
+}
+
+// Whether the first reply that is another than the wanted one is this.
+fn differs_first_by(replies: &[u8], wanted: &str, reply: &str) -> bool {
+    let Ok(replies) = std::str::from_utf8(replies) else {
+        return false;
+    };
+    for (given, other) in replies.split('\n').zip(wanted.split('\n')) {
+        if given != other {
+            return given == reply;
+        }
+    }
+    false
+}
+
+// Lets read after read of the keeper with this index fail, until a run has no fault. Gives how many runs had one, where
+// the first reply that differs from those of a run without a fault is that of the fault, or no line was executed.
+fn read_faults<W: Threads + Wait + Sync>(
+    alloc: Global,
+    index: u64,
+    wait: &W,
+) -> Result<Option<u64>, Fail> {
+    for read in 1..400 {
+        let script = Given::script(alloc, WORKED.as_bytes(), WHOLE)?;
+        let keepers = failing_at(alloc, index, read)?;
+        let (status, out, _, lost) = run_over(alloc, script, WHOLE, keepers, wait)?;
+        if lost == 0 {
+            let is_whole = status == Status::Done && out.bytes() == WORKED_REPLIES.as_bytes();
+            return Ok(is_whole.then_some(read - 1));
+        }
+        let is_unbegun = status == Status::KeeperFault && out.bytes().is_empty();
+        if !is_unbegun && !differs_first_by(out.bytes(), WORKED_REPLIES, "fault keeper") {
+            return Ok(None);
+        }
+    }
+    Ok(None)
+}
+
+#[test]
+fn every_read_may_fail(rt: HostRuntime) -> Result<(), Fail> {
+    for index in 0..2 {
+        let faults = read_faults(rt.alloc(), index, &rt)?;
+        // An opening reads at least once, and so does each of the writes or blocks.
+        assert!(rt; faults.unwrap_or(0) >= 5, "{index} {faults:?}");
+    }
+    Ok(())
+}
+
+// Keepers of which the first one's first desk fails at this read.
+fn with_a_desk_that_fails_at(alloc: Global, read: u64) -> Result<MemKeepers, Fail> {
+    let mut desks = List::new(alloc);
+    desks.push(numbers(alloc, &[read])?)?;
+    let mut plan = FaultPlan::nothing(alloc);
+    plan.desks = desks;
+    let mut plans = List::new(alloc);
+    plans.push(plan)?;
+    Ok(MemKeepers::new(plans, List::new(alloc)))
+}
+
+#[test]
+fn every_read_of_a_desk_may_fail(rt: HostRuntime) -> Result<(), Fail> {
+    let alloc = rt.alloc();
+    // The four blocks are read one after another: those before the one that fails are processed.
+    for (read, left) in [(1, "4"), (2, "3"), (3, "2"), (4, "1")] {
+        let replies = format!(in alloc;
+            "ok 1\nok 2\ndeleted 1\nok 4\nmessage 1\nqueued 1\nfault peer\nqueued 0\nworked {left} 0 0\nsame yes\n"
+        )?;
+        let keepers = with_a_desk_that_fails_at(alloc, read)?;
+        let wanted = (Status::Done, replies.as_bytes(), 0, 1);
+        assert!(rt;
+            is_answered(alloc, WORKED.as_bytes(), keepers, wanted, &rt)?,
+            "{read}"
+        );
+    }
+    Ok(())
+}

@@ -79,27 +79,44 @@ fn a_drawn_script_has_the_replies_of_memory(rt: HostRuntime) -> Result<(), Fail>
     Ok(())
 }
 
-// Whether no run begins over the files of a folder.
+// Whether no run begins over the files of a folder, and this is said of it.
 fn is_refused<W: Threads + Wait + Sync>(
     rt: &HostRuntime,
     dir: &str,
+    said: &str,
     wait: &W,
 ) -> Result<bool, Fail> {
     let words = ["run", "--keeper", "sqlite", "--dir", dir];
-    let (status, out, faults, lost) = over_real(rt, &words, "put a /k 01\n", wait)?;
-    Ok(status.code() == 6 && out.bytes().is_empty() && faults.saturating_add(lost) == 1)
+    let mut keepers = RealKeepers::new(rt);
+    let script = Given::script(rt.alloc(), b"put a /k 01\n", WHOLE)?;
+    let gate = Meeting::new(false);
+    let ran = run_with(rt.alloc(), &words, script, WHOLE, &mut keepers, &gate, wait)?;
+    let (status, out, faults, lost) = ran;
+    let Some(fault) = keepers.fault() else {
+        return Ok(false);
+    };
+    let text = format!(in rt.alloc(); "{fault}")?;
+    Ok(
+        status.code() == 6
+            && out.bytes().is_empty()
+            && faults.saturating_add(lost) == 1
+            && text.as_str() == said,
+    )
 }
 
 #[test]
-fn files_that_are_no_stores_are_left(rt: HostRuntime) -> Result<(), Fail> {
+fn files_that_are_no_stores_are_named_and_left(rt: HostRuntime) -> Result<(), Fail> {
     let text = "this is no database, however long it is read";
     let _ = fs::remove_dir_all(&rt, "mc_other_test");
-    assert!(rt; is_refused(&rt, "mc_other_test", &rt)?);
+    let said = "mc_other_test/a.db: No such file or directory (os error 2)";
+    assert!(rt; is_refused(&rt, "mc_other_test", said, &rt)?);
     made(&rt, "mc_other_test")?;
-    fs::write(&rt, "mc_other_test/b.db", text)?;
-    assert!(rt; is_refused(&rt, "mc_other_test", &rt)?);
-    let kept = fs::read_to_string(&rt, "mc_other_test/b.db")?;
+    fs::write(&rt, "mc_other_test/a.db", text)?;
+    let said = "mc_other_test/a.db: it is no database, or a damaged one";
+    assert!(rt; is_refused(&rt, "mc_other_test", said, &rt)?);
+    let kept = fs::read_to_string(&rt, "mc_other_test/a.db")?;
     assert_eq!(rt; kept.as_str(), text);
+    assert!(rt; fs::metadata(&rt, "mc_other_test/a.db-wal").is_err());
     fs::remove_dir_all(&rt, "mc_other_test")?;
     Ok(())
 }

@@ -11,6 +11,8 @@ const FOLDER: &str = "mc_sql_layout_test";
 
 const FILE: &str = "mc_sql_layout_test/a.db";
 
+const LOG: &str = "mc_sql_layout_test/a.db-wal";
+
 // Runs these statements over a connection to files, and closes them.
 fn close_after<D: Disk + Drop>(
     connection: Connection<FileStore<D>>,
@@ -52,12 +54,18 @@ fn is_refused(rt: &HostRuntime, folder: &str) -> bool {
     matches!(SqlKeeper::open(rt, folder, 0), Err(KeepError::Failed))
 }
 
-// Whether the file is refused, and left as it is.
+// Whether the file is refused, and left as it is, without a log beside it.
 fn is_left(rt: &HostRuntime) -> Result<bool, Fail> {
+    let _ = fs::remove_file(rt, LOG);
     let before = fs::read(rt, FILE)?;
     let refused = is_refused(rt, FOLDER);
     let after = fs::read(rt, FILE)?;
-    Ok(refused && !before.is_empty() && before.as_slice() == after.as_slice())
+    Ok(
+        refused
+            && !before.is_empty()
+            && before.as_slice() == after.as_slice()
+            && fs::metadata(rt, LOG).is_err(),
+    )
 }
 
 #[test]
