@@ -2,6 +2,7 @@
 
        REFUSE_AT=N     the N-th request is refused
        REFUSE_FROM=N   and all after it
+       REFUSE_SPACE=B  the address space is limited to B bytes, once the stack has grown: it can't be refused
        REFUSE_SAY=F    the number of requests stands in the first eight bytes of the file F
 
    Requests of all threads are counted together. */
@@ -11,6 +12,7 @@
 #include <stdatomic.h>
 #include <stdlib.h>
 #include <sys/mman.h>
+#include <sys/resource.h>
 #include <unistd.h>
 
 void *__libc_malloc(size_t);
@@ -70,8 +72,25 @@ static unsigned long number_of(const char *name)
     return text == NULL ? 0 : strtoul(text, NULL, 10);
 }
 
+/* Grows the stack to what the program may need of it. */
+static void __attribute__((noinline)) grow(void)
+{
+    volatile char room[1 << 20];
+    for (size_t at = 0; at < sizeof room; at += 512)
+        room[at] = 1;
+}
+
+static void limit(unsigned long bytes)
+{
+    struct rlimit most = {bytes, bytes};
+    grow();
+    if (setrlimit(RLIMIT_AS, &most) != 0)
+        _exit(99);
+}
+
 __attribute__((constructor)) static void begin(void)
 {
+    unsigned long space = number_of("REFUSE_SPACE");
     const char *name = getenv("REFUSE_SAY");
     at = number_of("REFUSE_AT");
     from = number_of("REFUSE_FROM");
@@ -84,5 +103,7 @@ __attribute__((constructor)) static void begin(void)
             _exit(99);
         asked = shared;
     }
+    if (space != 0)
+        limit(space);
     atomic_store(asked, 0);
 }

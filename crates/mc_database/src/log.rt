@@ -3,6 +3,9 @@ use std::alloc::AllocError;
 use std::fs;
 use std::rt::HostRuntime;
 
+// The bytes of a log without a commit: its header, and no page.
+const WITHOUT_COMMIT: u64 = 41;
+
 // The log of a file, and whether it stood there before the file was opened.
 #[derive(Drop)]
 pub(crate) struct Log {
@@ -18,7 +21,7 @@ impl Log {
         Ok(Log { name, stood })
     }
 
-    // Takes the log away where it is new and nothing was written to it. The file must be open still: then no other
+    // Takes the log away where it is new and holds no commit. The file must be open still: then no other
     // process writes to its log.
     pub(crate) fn take_away(&self, rt: &HostRuntime) {
         if !self.stood && is_empty(rt, self.name.as_str()) {
@@ -37,7 +40,7 @@ fn log_name(rt: &HostRuntime, file: &str) -> Result<String, AllocError> {
 
 fn is_empty(rt: &HostRuntime, name: &str) -> bool {
     match fs::symlink_metadata(rt, name) {
-        Ok(found) => found.is_file() && found.len() == 0,
+        Ok(found) => found.is_file() && found.len() <= WITHOUT_COMMIT,
         Err(_) => false,
     }
 }
