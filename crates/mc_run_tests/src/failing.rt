@@ -184,7 +184,11 @@ fn differs_first_by(replies: &[u8], wanted: &str, reply: &str) -> bool {
     let Ok(replies) = std::str::from_utf8(replies) else {
         return false;
     };
-    for (given, other) in replies.split('\n').zip(wanted.split('\n')) {
+    let mut others = wanted.split('\n');
+    for given in replies.split('\n') {
+        let Some(other) = others.next() else {
+            return false;
+        };
         if given != other {
             return given == reply;
         }
@@ -205,7 +209,7 @@ fn read_faults<W: Threads + Wait + Sync>(
         let (status, out, _, lost) = run_over(alloc, script, WHOLE, keepers, wait)?;
         if lost == 0 {
             let is_whole = status == Status::Done && out.bytes() == WORKED_REPLIES.as_bytes();
-            return Ok(is_whole.then_some(read - 1));
+            return Ok(if is_whole { Some(read - 1) } else { None });
         }
         let is_unbegun = status == Status::KeeperFault && out.bytes().is_empty();
         if !is_unbegun && !differs_first_by(out.bytes(), WORKED_REPLIES, "fault keeper") {

@@ -11,14 +11,14 @@ use std::thread::Threads;
 // A run of these words over the program's keepers.
 fn over_real<W: Threads + Wait + Sync>(
     rt: &HostRuntime,
+    keepers: &mut RealKeepers,
     words: &[&str],
     script: &str,
     wait: &W,
 ) -> Result<Ran, Fail> {
-    let mut keepers = RealKeepers::new(rt);
     let script = Given::script(rt.alloc(), script.as_bytes(), WHOLE)?;
     let gate = Meeting::new(false);
-    run_with(rt.alloc(), words, script, WHOLE, &mut keepers, &gate, wait)
+    run_with(rt.alloc(), words, script, WHOLE, keepers, &gate, wait)
 }
 
 // Whether a script over the files of a folder ends without a fault and writes this.
@@ -30,7 +30,9 @@ fn is_written<W: Threads + Wait + Sync>(
     wait: &W,
 ) -> Result<bool, Fail> {
     let words = ["run", "--keeper", "sqlite", "--dir", dir];
-    let (status, out, faults, lost) = over_real(rt, &words, script, wait)?;
+    let mut keepers = RealKeepers::new(rt);
+    let ran = over_real(rt, &mut keepers, &words, script, wait)?;
+    let (status, out, faults, lost) = ran;
     Ok((status, faults, lost) == (Status::Done, 0, 0) && out.bytes() == wanted)
 }
 
@@ -71,7 +73,9 @@ fn a_second_run_finds_what_the_first_wrote(rt: HostRuntime) -> Result<(), Fail> 
 #[test]
 fn a_drawn_script_has_the_replies_of_memory(rt: HostRuntime) -> Result<(), Fail> {
     let script = drawn_script(rt.alloc(), 60, 34)?;
-    let (status, out, _, _) = over_real(&rt, &["run"], script.as_str(), &rt)?;
+    let mut keepers = RealKeepers::new(&rt);
+    let ran = over_real(&rt, &mut keepers, &["run"], script.as_str(), &rt)?;
+    let (status, out, _, _) = ran;
     assert_eq!(rt; status, Status::Done);
     made(&rt, "mc_drawn_test")?;
     assert!(rt; is_written(&rt, "mc_drawn_test", script.as_str(), out.bytes(), &rt)?);
@@ -88,9 +92,7 @@ fn is_refused<W: Threads + Wait + Sync>(
 ) -> Result<bool, Fail> {
     let words = ["run", "--keeper", "sqlite", "--dir", dir];
     let mut keepers = RealKeepers::new(rt);
-    let script = Given::script(rt.alloc(), b"put a /k 01\n", WHOLE)?;
-    let gate = Meeting::new(false);
-    let ran = run_with(rt.alloc(), &words, script, WHOLE, &mut keepers, &gate, wait)?;
+    let ran = over_real(rt, &mut keepers, &words, "put a /k 01\n", wait)?;
     let (status, out, faults, lost) = ran;
     let Some(fault) = keepers.fault() else {
         return Ok(false);
