@@ -41,9 +41,9 @@ impl Model for FirstFault {
 }
 
 impl FirstFault {
-    fn note(&mut self, fault: FileFault) {
+    fn note(&mut self, fault: Option<FileFault>) {
         if self.fault.is_none() {
-            self.fault = Some(fault);
+            self.fault = fault;
         }
     }
 }
@@ -78,7 +78,7 @@ impl RealKeepers {
             Err(OpenFault::Memory) => Err(KeepError::Memory),
             Err(OpenFault::Refused { fault }) => {
                 self.faults = self.faults.saturating_add(1);
-                self.first.note(fault);
+                self.first.note(Some(fault));
                 Err(KeepError::Failed)
             }
         }
@@ -150,9 +150,7 @@ impl Keepers for RealKeepers {
     {
         let lost = self.lost.saturating_add(keeper.faults());
         self.lost = add_faults(lost, desks.as_slice());
-        if let Some(fault) = close(keeper) {
-            self.first.note(fault);
-        }
+        self.first.note(close(keeper));
     }
 
     fn lost(&self) -> u64 {
