@@ -39,7 +39,10 @@ fn add_block_keys<'a>(delta: &'a Delta, keys: &mut Vec<&'a str>) -> Result<(), A
     add_tomb_keys(delta.tombstones.as_slice(), keys)
 }
 
-fn add_element_keys<'a>(elements: &'a [mc_model::Element], keys: &mut Vec<&'a str>) -> Result<(), AllocError>
+fn add_element_keys<'a>(
+    elements: &'a [mc_model::Element],
+    keys: &mut Vec<&'a str>,
+) -> Result<(), AllocError>
     ensures { OnOk result (texts_of keys.new.items ≡ texts_of keys.old.items
         ++ map (λ (element : Element). element.key) elements.now) }
 {

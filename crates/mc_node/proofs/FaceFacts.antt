@@ -2,24 +2,33 @@
 use Rattle.std.proofs.Common.{◌≡◌, ℕ, Bool, true, false, List, [], ◌∷◌, ◌++◌, length, map, take, Option, Some, None, Result, Ok, Err, refl, sym, ap, ◌∙◌, subst}
 use Rattle.std.specs.Prelude.{IfOk, IfSome, OnErr, OnOk, is_some}
 use Rattle.std.proofs.lemmas.Bool.{false≢true}
-use Rattle.std.proofs.lemmas.List.{map-append, take-length}
-use Rattle.std.proofs.Math.Seq.{take-append_seam}
+use Rattle.std.proofs.lemmas.List.{map-append}
+use Rattle.std.proofs.Math.Seq.{take-append_seam, take-length}
+use Rattle.mc_base.specs.declared.counted.Counted as counted
 use Rattle.mc_turn.specs.Lists.{Begins}
+use Rattle.mc_turn.proofs.Lists.{begins_trans}
 use Rattle.mc_model.specs.declared.block.Block.{Block}
 use Rattle.mc_model.specs.Kept.{Kept, processed}
 use Rattle.mc_keep.specs.declared.fuse.Fuse.{Fuse}
+use Rattle.mc_keep.specs.declared.keeper.Keeper as keeper
+use Rattle.mc_keep.specs.Plan.{Schedule}
 use Rattle.mc_face.specs.Lists.{Starts}
 use Rattle.mc_core.specs.Counted.{run_of}
 use Rattle.mc_core.specs.declared.CoreError.{CoreError}
+use Rattle.mc_core.specs.declared.replica.Replica.{Replica}
 use Rattle.mc_core.specs.Events.{state_of}
+use Rattle.mc_node.specs.declared.entry.Entry.{Entry}
 use Rattle.mc_node.specs.declared.node.Seen.{Seen}
+use Rattle.mc_node.specs.Entries.{is_open, is_rooted_log, items_at, shown_at}
 use Rattle.mc_node.specs.Faces.{IsFaceOf, IsWholeFace}
-use Rattle.mc_node.specs.Items.{Item, Shown, blocks, blocks_in, is_root, is_rooted, is_sealed, last, root, state_in, tells}
+use Rattle.mc_node.specs.Items.{Item, Shown, blocks, blocks_in, is_rooted, is_sealed, is_unsealed, last, root, state_in, tells}
 use Rattle.mc_node.specs.Moves.{seen_by}
 use Rattle.mc_node.specs.Ties.{IsGrowing, IsTied}
 use Rattle.mc_node.specs.Works.{Bounds}
 use Rattle.mc_node.proofs.CallFacts.{BackLaw}
 use Rattle.mc_node.proofs.ItemFacts.{longer_on}
+use Rattle.mc_node.proofs.ReplicaFacts.{open_unsealed}
+use Rattle.mc_node.proofs.SeatFacts.{begins_on}
 
 -- what a log that begins with a root tells at first stays
 root_stays : (first rest : List Item) → is_rooted first ≡ true → root (first ++ rest) ≡ root first
@@ -77,3 +86,43 @@ face_whole {A} back limit old now log list n result seen is tied unsealed same w
 pub face_after : {A : Type 0} (first log : List Item) (old new : List Block) (result : Result A CoreError) → is_rooted first ≡ true → IsGrowing log → Begins first log → IsFaceOf first old → OnErr result (new ≡ old) → OnOk result (IsWholeFace log new) → IsFaceOf log new
 face_after first log old new (Ok count) rooted grows begins face same whole = λ tell. ap (λ (bs : List Block). take (length new) bs) (sym (whole tell)) ∙ take-length new
 face_after first log old new (Err error) rooted grows begins face same whole = subst (IsFaceOf log) (sym same) (face_still first log old rooted grows begins face)
+
+pub seen_on_err : {A : Type 0} (n : ℕ) (result : Result A CoreError) (P : Type 0) → OnErr result P → OnErr (seen_by n result) P
+seen_on_err n (Ok value) P is = tt
+seen_on_err n (Err error) P is = is
+
+-- the same at a seat of a node
+module _ {K D : Type 0} {g : keeper.Ghosts K D} {h : counted.Ghosts K} {i : counted.Ghosts D} (told : K → Option Kept) (fuse : K → Option Fuse) (own faults : K → ℕ) (quiet : K → Bool) (schedule : K → Option Schedule) where
+  rooted_items : (log : List (Entry K D g h i)) → is_rooted_log log ≡ true → is_rooted (items_at told fuse own faults quiet schedule log) ≡ true
+  rooted_items [] rooted = absurd (false≢true rooted)
+  rooted_items (entry ∷ log) rooted = rooted
+
+  begins_items : (xs ys : List (Entry K D g h i)) → Begins xs ys → Begins (items_at told fuse own faults quiet schedule xs) (items_at told fuse own faults quiet schedule ys)
+  begins_items xs ys begins = (
+    items_at told fuse own faults quiet schedule begins.0,
+    sym (map-append (λ (entry : Entry K D g h i). record { note = entry.note; shown = shown_at told fuse own faults quiet schedule entry.replica.value }) xs begins.0) ∙ ap (items_at told fuse own faults quiet schedule) begins.1,
+  )
+
+  pub seat_begins : (back : BackLaw) (limit : Bounds) (replica : Replica K D g h i) (seen log : List (Entry K D g h i)) (list : List Block) → is_rooted_log seen ≡ true → is_open seen ≡ true → Begins seen log
+      → IsTied limit (shown_at told fuse own faults quiet schedule replica) (items_at told fuse own faults quiet schedule log) → IsFaceOf (items_at told fuse own faults quiet schedule seen) list → IfSome (told replica.keeper) (λ kept. Starts (processed kept) list)
+  seat_begins back limit replica seen log list rooted unsealed begins tied face =
+      face_begins back limit (shown_at told fuse own faults quiet schedule replica) (items_at told fuse own faults quiet schedule seen) (items_at told fuse own faults quiet schedule log) list (rooted_items seen rooted) tied
+      (open_unsealed told fuse own faults quiet schedule log log refl (begins_on is_unsealed seen log unsealed begins)) (begins_items seen log begins) face
+
+  pub seat_tells : (limit : Bounds) (replica : Replica K D g h i) (seen log : List (Entry K D g h i)) (exact : Bool) → is_rooted_log seen ≡ true → Begins seen log → IsTied limit (shown_at told fuse own faults quiet schedule replica) (items_at told fuse own faults quiet schedule log)
+      → (exact ≡ true → tells (items_at told fuse own faults quiet schedule seen) ≡ true) → exact ≡ true → is_some (told replica.keeper) ≡ true
+  seat_tells limit replica seen log exact rooted begins tied tell is =
+      face_tells limit (shown_at told fuse own faults quiet schedule replica) (items_at told fuse own faults quiet schedule seen) (items_at told fuse own faults quiet schedule log) exact (rooted_items seen rooted) tied (begins_items seen log begins) tell is
+
+  pub seat_whole : {A : Type 0} (seen log new after : List (Entry K D g h i)) (list : List Block) (result : Result A CoreError) → is_open seen ≡ true → Begins seen log → after ≡ new → (is_open log ≡ true → OnOk result (IsWholeFace (items_at told fuse own faults quiet schedule new) list))
+      → OnOk result (IsWholeFace (items_at told fuse own faults quiet schedule after) list)
+  seat_whole seen log new after list result unsealed begins is whole =
+      subst (λ (l : List (Entry K D g h i)). OnOk result (IsWholeFace (items_at told fuse own faults quiet schedule l) list)) (sym is) (whole (begins_on is_unsealed seen log unsealed begins))
+
+  pub seat_after : {A : Type 0} (limit : Bounds) (now : Shown) (seen log new after : List (Entry K D g h i)) (old list : List Block) (result : Result A CoreError) → is_rooted_log seen ≡ true → is_open seen ≡ true → Begins seen log → Begins log new → after ≡ new
+      → IsTied limit now (items_at told fuse own faults quiet schedule new) → IsFaceOf (items_at told fuse own faults quiet schedule seen) old → OnErr result (list ≡ old) → (is_open log ≡ true → OnOk result (IsWholeFace (items_at told fuse own faults quiet schedule new) list))
+      → IsFaceOf (items_at told fuse own faults quiet schedule after) list
+  seat_after limit now seen log new after old list result rooted unsealed begins extends is tied face same whole =
+      subst (λ (l : List (Entry K D g h i)). IsFaceOf (items_at told fuse own faults quiet schedule l) list) (sym is)
+      (face_after (items_at told fuse own faults quiet schedule seen) (items_at told fuse own faults quiet schedule new) old list result (rooted_items seen rooted) tied.grown
+      (begins_items seen new (begins_trans seen log new begins extends)) face same (whole (begins_on is_unsealed seen log unsealed begins)))

@@ -16,6 +16,7 @@ use mc_core::CoreError;
 use mc_face::{Exactness, FaceWriter};
 use mc_fetch::Naming;
 use mc_keep::Keeper;
+use mc_model::kept_is_durable;
 use std::alloc::Global;
 use std::sync::Wait;
 
@@ -51,6 +52,7 @@ impl<K: Keeper, J: Naming> Node<Stored<K, J>> {
         ensures face { face.new.face ≡ face.old.face }
         ensures seen { IfErr result DecidesAlone }
     {
+        kept_is_durable();
         let mut held = self.turn.take(&mut seat.seat, wait);
         let result = held.value.catch_up(alloc, face);
         self.turn.give(&mut seat.seat, held);
