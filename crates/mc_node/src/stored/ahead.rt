@@ -14,7 +14,7 @@ use std::alloc::Global;
 use std::sync::Wait;
 
 // The most jobs that begin ahead for one worker, and the part of those that wait: one in so many.
-const AHEAD: u64 = 31;
+const AHEAD: u64 = 63;
 
 const PART: u64 = 8;
 
