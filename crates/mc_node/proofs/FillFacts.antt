@@ -77,7 +77,6 @@ module _ {J : Type 0} {j : naming.Ghosts J} where
     takes = on_ok result _ _ all round.takes.takes;
   }
     where
-
       cut : (told : Option Kept) → IfSome told (λ kept. processed ≡ capped (length kept.order)) → limit ≤ processed + length round.takes.does.items → IfSome told (λ kept. limit ≤ capped (length kept.order) + length (round.takes.does.items ++ []))
       cut None c full = tt
       cut (Some kept) c full = let e = ap length (append-nil round.takes.does.items) in omega (arith, c, full, e)
