@@ -4,6 +4,7 @@
 
 mod arming;
 mod batches;
+mod blocks;
 mod commits;
 mod deletes;
 mod deliveries;

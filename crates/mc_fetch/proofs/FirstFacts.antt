@@ -1,9 +1,9 @@
 -- The first offer that decides, place by place.
-use Rattle.std.proofs.Common.{◌≡◌, ℕ, suc, zero, ◌+◌, ◌≤◌, arith, true, false, cond, List, [], ◌∷◌, Option, Some, None, refl, sym, ap, ◌∙◌, length, drop}
+use Rattle.std.proofs.Common.{◌≡◌, ℕ, suc, zero, ◌+◌, ◌≤◌, arith, true, false, cond, List, [], ◌∷◌, Option, Some, None, refl, sym, subst, ap, ◌∙◌, length, drop}
 use Rattle.std.specs.Prelude.{slice_get, ⊤, IfSome}
 use Rattle.std.specs.Option.{option_map}
 use Rattle.mc_base.specs.declared.cid.Cid.{Cid}
-use Rattle.mc_fetch.specs.Offers.{Offered, names, matching, first_offer}
+use Rattle.mc_fetch.specs.Offers.{IsLeading, IsSurely, MatchesLeading, Offered, names, matching, first_offer}
 
 -- what one more place makes of the first offer
 abbrev pub or_later : Option (List ℕ) → Option (List ℕ) → Option (List ℕ)
@@ -71,3 +71,40 @@ match_found (Some offered) cid place offer found at is = ap (option_map (matchin
 pub none_said : (told : Option Offered) → IfSome told (λ offered. ⊤)
 none_said None = tt
 none_said (Some offered) = tt
+
+-- a leading offer that matches is found, place by place
+
+pub match_led : (cid : Cid) (leading : List (Option (List ℕ))) (place : ℕ) (offer found : Option (List ℕ)) → IsLeading leading place offer → found ≡ matching cid offer → MatchesLeading cid leading place found
+match_led cid leading place offer found is same = λ led at. same ∙ ap (matching cid) (is led at)
+
+-- the same of what the leading places offer for every block
+abbrev pub MatchLed : Cid → ℕ → Option (List ℕ) → Offered → Type 0
+MatchLed cid place found leading = MatchesLeading cid (leading cid) place found
+
+abbrev pub SureFrom : Cid → List (Option (List ℕ)) → ℕ → Type 0
+SureFrom cid leading place = first_offer cid leading ≡ first_offer cid (drop place leading)
+
+next_sure : (cid : Cid) (leading : List (Option (List ℕ))) (place : ℕ) → MatchesLeading cid leading place None → first_offer cid (drop place leading) ≡ first_offer cid (drop (suc place) leading)
+next_sure cid [] zero none = refl
+next_sure cid [] (suc place) none = refl
+next_sure cid (offer ∷ leading) zero none = first_cons cid offer leading ∙ ap (λ m. or_later m (first_offer cid leading)) (sym (none offer refl))
+next_sure cid (offer ∷ leading) (suc place) none = next_sure cid leading place none
+
+pub sure_goes_on : (cid : Cid) (leading : List (Option (List ℕ))) (place : ℕ) → SureFrom cid leading place → MatchesLeading cid leading place None → SureFrom cid leading (place + 1)
+sure_goes_on cid leading place so_far none =
+    let next : suc place ≡ place + 1 = omega arith in
+    so_far ∙ next_sure cid leading place none ∙ ap (λ (z : ℕ). first_offer cid (drop z leading)) next
+
+sure_here : (cid : Cid) (leading : List (Option (List ℕ))) (place : ℕ) (bytes : List ℕ) → MatchesLeading cid leading place (Some bytes) → IsSurely (first_offer cid (drop place leading)) (Some bytes)
+sure_here cid [] zero bytes here = tt
+sure_here cid [] (suc place) bytes here = tt
+sure_here cid (offer ∷ leading) zero bytes here =
+    subst (λ (m : Option (List ℕ)). IsSurely m (Some bytes)) (sym (first_cons cid offer leading ∙ ap (λ m. or_later m (first_offer cid leading)) (sym (here offer refl)))) refl
+sure_here cid (offer ∷ leading) (suc place) bytes here = sure_here cid leading place bytes here
+
+pub sure_is_there : (cid : Cid) (leading : List (Option (List ℕ))) (place : ℕ) (bytes : List ℕ) → SureFrom cid leading place → MatchesLeading cid leading place (Some bytes) → IsSurely (first_offer cid leading) (Some bytes)
+sure_is_there cid leading place bytes so_far here = subst (λ (m : Option (List ℕ)). IsSurely m (Some bytes)) (sym so_far) (sure_here cid leading place bytes here)
+
+pub sure_is_none : (cid : Cid) (leading : List (Option (List ℕ))) (places place : ℕ) → length leading ≤ places → places ≤ place → SureFrom cid leading place → IsSurely (first_offer cid leading) None
+sure_is_none cid leading places place few past so_far =
+    subst (λ (m : Option (List ℕ)). IsSurely m None) (sym (so_far ∙ ap (first_offer cid) (dropped leading place (omega (arith, few, past))))) tt

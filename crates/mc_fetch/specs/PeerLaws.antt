@@ -1,14 +1,15 @@
 -- What holds of peers by the definitions: the laws of a fetch.
-use Rattle.std.proofs.Common.{◌≡◌, ℕ, suc, ◌*◌, arith, Bool, List, [], ◌∷◌, Option, Some, None, refl, ap, ◌∙◌, length}
+use Rattle.std.proofs.Common.{◌≡◌, ◌≤◌, ◌+◌, ℕ, suc, ◌*◌, arith, Bool, List, [], ◌∷◌, Option, Some, None, refl, ap, ◌∙◌, length}
 use Rattle.std.specs.Prelude.{IfSome}
 use Rattle.std.specs.List.{AllZip}
 use Rattle.std.specs.Option.{option_map}
 use Rattle.mc_base.specs.declared.cid.Cid.{Cid}
 use Rattle.mc_model.specs.Found.{PeerOffers}
-use Rattle.mc_model.specs.Kept.{Kept}
+use Rattle.mc_model.specs.Kept.{Kept, bytes_at}
 use Rattle.mc_keep.specs.Plan.{DeskSchedule}
 use Rattle.mc_fetch.specs.declared.peers.PeerView.{PeerView}
-use Rattle.mc_fetch.specs.Peers.{onto_peers, places_of, told_at, peers_told, offers_told, SamePlan, ViewGoes}
+use Rattle.mc_fetch.specs.Peers.{leading_told, onto_peers, onto_stored, places_of, told_at, peers_told, offers_told, SamePlan, ViewGoes, offers_at}
+use Rattle.mc_fetch.specs.Plants.{planted_at}
 
 -- two places for each peer
 
@@ -36,6 +37,45 @@ module _ {K Desk : Type 0} (told : K → Option Kept) where
   pub all_placed : (views : List (PeerView K Desk)) →
       IfSome (offers_told told views) (λ offered. (cid : Cid) → length (offered cid) ≡ 2 * length views)
   all_placed views = placed_from (peers_told told views) (length views) (told_length views)
+
+-- where all peers tell, all places are leading ones, and no more than there are
+
+few_onto : (kept : Option Kept) (cid : Cid) (behind : List (Option (List ℕ))) (n : ℕ) → length behind ≤ 2 * n
+    → length (onto_stored kept cid behind) ≤ 2 * n + 1
+few_onto None cid behind n few = omega arith
+few_onto (Some kept) cid behind n few = omega (arith, few)
+
+module _ {K Desk : Type 0} (told : K → Option Kept) where
+  abbrev AreLed : Option (List (Cid → PeerOffers)) → List (PeerView K Desk) → Type 0
+  AreLed peers views = IfSome peers (λ ps. (cid : Cid) → leading_told told cid views ≡ places_of ps cid)
+
+  one_led : (view : PeerView K Desk) (views : List (PeerView K Desk)) (kept : Option Kept)
+      (peers : Option (List (Cid → PeerOffers))) → told view.keeper.now ≡ kept → AreLed peers views
+      → AreLed (onto_peers (option_map (offers_at view.planted.now) kept) peers) (view ∷ views)
+  one_led view views None peers is led = tt
+  one_led view views (Some kept) None is led = tt
+  one_led view views (Some kept) (Some peers) is led = λ cid.
+      ap (λ k. planted_at view.planted.now cid ∷ onto_stored k cid (leading_told told cid views)) is
+      ∙ ap (λ behind. planted_at view.planted.now cid ∷ bytes_at kept.graph cid ∷ behind) (led cid)
+
+  each_led : (views : List (PeerView K Desk)) → AreLed (peers_told told views) views
+  each_led [] = λ cid. refl
+  each_led (view ∷ views) = one_led view views (told view.keeper.now) (peers_told told views) refl (each_led views)
+
+  led_from : (views : List (PeerView K Desk)) (peers : Option (List (Cid → PeerOffers))) → AreLed peers views
+      → IfSome (option_map places_of peers) (λ offered. (cid : Cid) → leading_told told cid views ≡ offered cid)
+  led_from views None led = tt
+  led_from views (Some peers) led = led
+
+  pub all_led : (views : List (PeerView K Desk)) →
+      IfSome (offers_told told views) (λ offered. (cid : Cid) → leading_told told cid views ≡ offered cid)
+  all_led views = led_from views (peers_told told views) (each_led views)
+
+  pub few_led : (cid : Cid) (views : List (PeerView K Desk)) → length (leading_told told cid views) ≤ 2 * length views
+  few_led cid [] = omega arith
+  few_led cid (view ∷ views) =
+      let few = few_onto (told view.keeper.now) cid (leading_told told cid views) (length views) (few_led cid views) in
+      omega (arith, few)
 
 -- no call, and calls in turn
 

@@ -1,6 +1,6 @@
 -- What peers offer, what their desks count, and what calls leave of them.
 use Rattle.std.specs.Prelude.{◌≡◌, ⊤, ℕ, ◌+◌, ◌-◌, ◌^◌, ◌≤◌, min, Bool, true, false, ◌&&◌, List, [], ◌∷◌, map, Option}
-use Rattle.std.specs.Prelude.{Some, None}
+use Rattle.std.specs.Prelude.{Some, None, IfSome}
 use Rattle.std.specs.List.{flat_map, list_all, sum_by}
 use Rattle.std.specs.Option.{option_map}
 use Rattle.mc_base.specs.declared.cid.Cid.{Cid}
@@ -31,6 +31,11 @@ onto_peers (Some peer) (Some peers) = Some (peer ∷ peers)
 abbrev pub places_of : List (Cid → PeerOffers) → Offered
 places_of peers cid = flat_map peer_places (map (λ (peer : Cid → PeerOffers). peer cid) peers)
 
+-- what a peer has stored, where its keeper tells, before what stands behind; and nothing is known else
+abbrev pub onto_stored : Option Kept → Cid → List (Option (List ℕ)) → List (Option (List ℕ))
+onto_stored None cid behind = []
+onto_stored (Some kept) cid behind = bytes_at kept.graph cid ∷ behind
+
 module _ {K Desk : Type 0} (told : K → Option Kept) where
   -- what a peer offers, where its keeper tells
   abbrev pub told_at : PeerView K Desk → Option (Cid → PeerOffers)
@@ -40,6 +45,19 @@ module _ {K Desk : Type 0} (told : K → Option Kept) where
   abbrev pub peers_told : List (PeerView K Desk) → Option (List (Cid → PeerOffers))
   peers_told [] = Some []
   peers_told (view ∷ views) = onto_peers (told_at view) (peers_told views)
+
+  -- what is known of an answer of one of the two places of a peer: that it is the planted offer, and the stored block
+  -- where its keeper tells
+  abbrev pub PlaceIs : Bool → PeerView K Desk → Cid → Option (List ℕ) → Type 0
+  PlaceIs true view cid bytes = bytes ≡ planted_at view.planted.now cid
+  PlaceIs false view cid bytes = IfSome (told view.keeper.now) (λ kept. bytes ≡ bytes_at kept.graph cid)
+
+  -- what the leading places offer for a block: those of the peers in front of the first whose keeper is silent, and what
+  -- is planted at that one
+  abbrev pub leading_told : Cid → List (PeerView K Desk) → List (Option (List ℕ))
+  leading_told cid [] = []
+  leading_told cid (view ∷ views) =
+      planted_at view.planted.now cid ∷ onto_stored (told view.keeper.now) cid (leading_told cid views)
 
   -- and what their places offer
   abbrev pub offers_told : List (PeerView K Desk) → Option Offered

@@ -1,9 +1,9 @@
 // Where bytes are offered for the blocks that a replica misses.
-ghost use Rattle.std.specs.Prelude.{◌≡◌, ◌<◌, ℕ, Bool, Option, Some, length, slice_get, IfOk, IfSome};
+ghost use Rattle.std.specs.Prelude.{◌≡◌, ◌<◌, ◌≤◌, ℕ, Bool, Option, Some, length, slice_get, IfOk, IfSome};
 ghost use Rattle.mc_base.specs.declared.cid.Cid.{Cid as CidOf};
 ghost use Rattle.mc_fetch.specs.Causes.{is_peer_fault};
 ghost use Rattle.mc_fetch.specs.Frame.{AsksAt};
-ghost use Rattle.mc_fetch.specs.Offers.{Offered};
+ghost use Rattle.mc_fetch.specs.Offers.{IsLeading, Offered};
 
 use crate::FetchError;
 use mc_base::{Bytes, Cid, Counted};
@@ -14,11 +14,14 @@ use std::sync::Wait;
 /// digest, and no block at all.
 ///
 /// A fetch that tells says what each place offers for each block. One that does not tell owes no content, and never
-/// tells. No call changes what is told, nor the number of places. The count rises exactly in the calls that answer
+/// tells; of its leading places, as many as are known, it says what they offer all the same. No call changes what is told, nor the number of places. The count rises exactly in the calls that answer
 /// `Failed`, until it stands at its last value.
 pub trait Fetch: Counted {
     /// What is offered for each block, at each place in turn, where that is told.
     ghost offers: { Self → Option Offered };
+
+    /// What is offered for each block at the leading places, as many of them as are known.
+    ghost leading: { Self → Offered };
 
     /// The number of places.
     ghost places: { Self → ℕ };
@@ -44,11 +47,19 @@ pub trait Fetch: Counted {
         requires place { place < places self.old }
         ensures offer { IfSome (offers self.old) (λ offered. IfOk result (λ bytes.
             slice_get (offered cid.now) place ≡ Some bytes)) }
-        ensures asks { AsksAt offers places quiet Self.faults follows (is_peer_fault result) self.old self.new };
+        ensures led { IfOk result (IsLeading (leading self.old cid.now) place) }
+        ensures asks { AsksAt offers leading places quiet Self.faults follows (is_peer_fault result) self.old self.new };
 
     /// What is told has an offer, or none, for each place.
     ghost placed: { (fetch : Self) → IfSome (offers fetch) (λ offered.
         (cid : CidOf) → length (offered cid) ≡ places fetch) };
+
+    /// All places are leading ones where it tells.
+    ghost whole: { (fetch : Self) → IfSome (offers fetch) (λ offered.
+        (cid : CidOf) → leading fetch cid ≡ offered cid) };
+
+    /// And of no more places than there are it is known what they offer.
+    ghost few: { (fetch : Self) → (cid : CidOf) → length (leading fetch cid) ≤ places fetch };
 
     /// No call at all is allowed for.
     ghost follows_itself: { (fetch : Self) → follows fetch fetch };

@@ -19,6 +19,13 @@ pub trait Naming {
 
     /// What is found for each block, where the offers are told: the bytes of the first offer whose digest names it.
     ghost found: { Option Map };
+
+    /// The bytes that are surely found for a block: those of the first leading offer whose digest names it, whatever the
+    /// places behind offer.
+    ghost surely: { Map };
+
+    /// Whether what a face of a node shows is the value rule's over its list.
+    ghost exact: { Bool };
 }
 
 /// The name that each round picks anew.
@@ -33,4 +40,8 @@ impl Naming for Brand {
     ghost most = { prelude.None };
 
     ghost found = { prelude.None };
+
+    ghost surely = { λ cid. prelude.None };
+
+    ghost exact = { false };
 }

@@ -1,7 +1,7 @@
 // The other replicas, as places that blocks are fetched from.
-ghost use Rattle.std.specs.Prelude.{◌≡◌, cond, fold, IfOk, IfSome};
+ghost use Rattle.std.specs.Prelude.{◌≡◌, cond, false, fold, IfOk, IfSome};
 ghost use Rattle.mc_fetch.specs.Causes.{is_peer_fault};
-ghost use Rattle.mc_fetch.specs.Peers.{ViewAsks, told_at, capped_with};
+ghost use Rattle.mc_fetch.specs.Peers.{PlaceIs, ViewAsks, told_at, capped_with};
 ghost use Rattle.mc_fetch.specs.Plants.{planted_at};
 
 use crate::plants::Plants;
@@ -25,7 +25,8 @@ pub struct PeerView<'a, K: Keeper> {
 
 /// Other replicas, in a fixed order, as places that blocks are fetched from: two for each of them, the offer that is
 /// planted there and then the block that it has stored. Its count of faults is the sum of those of the desks, at most
-/// `u64::MAX`. It tells where all keepers tell, and is quiet where all keepers and desks are.
+/// `u64::MAX`. It tells where all keepers tell, and is quiet where all keepers and desks are. Its leading places are those
+/// up to what is planted at the first peer whose keeper is silent.
 #[derive(Drop)]
 pub struct PeerFetch<'a, K: Keeper> {
     views: Vec<PeerView<'a, K>>,
@@ -85,11 +86,13 @@ fn add_faults<'a, K: Keeper>(count: u64, view: &PeerView<'a, K>) -> u64
 impl<'a, K: Keeper> Fetch for PeerFetch<'a, K> {
     ghost use Rattle.std.specs.Prelude.{◌*◌, length};
     ghost use Rattle.std.specs.List.{AllZip};
-    ghost use Rattle.mc_fetch.specs.Peers.{offers_told, are_quiet, ViewGoes};
-    ghost use Rattle.mc_fetch.specs.PeerLaws.{all_placed, views_stay, views_go_on};
+    ghost use Rattle.mc_fetch.specs.Peers.{leading_told, offers_told, are_quiet, ViewGoes};
+    ghost use Rattle.mc_fetch.specs.PeerLaws.{all_led, all_placed, few_led, views_stay, views_go_on};
     ghost use Rattle.mc_fetch.specs.Views.{views_of};
 
     ghost offers = { λ fetch. offers_told K.told (views_of fetch) };
+
+    ghost leading = { λ fetch cid. leading_told K.told cid (views_of fetch) };
 
     ghost places = { λ fetch. 2 * length (views_of fetch) };
 
@@ -99,6 +102,10 @@ impl<'a, K: Keeper> Fetch for PeerFetch<'a, K> {
         (ViewGoes K.quiet K.quiet_desk K.Desk.faults K.desk_schedule) (views_of old) (views_of new) };
 
     ghost placed = { λ fetch. all_placed K.told fetch.views.items };
+
+    ghost whole = { λ fetch. all_led K.told fetch.views.items };
+
+    ghost few = { λ fetch cid. few_led K.told cid fetch.views.items };
 
     ghost follows_itself = { λ fetch. views_stay
         K.quiet K.quiet_desk K.Desk.faults K.desk_schedule fetch.views.items };
@@ -133,6 +140,7 @@ fn ask_peer<'a, K: Keeper, W: Wait>(
 ) -> Result<Option<Bytes>, FetchError>
     ensures offer { IfSome (told_at K.told view.old) (λ peer. IfOk result (λ bytes.
         bytes ≡ cond planted (peer cid.now).planted (peer cid.now).stored)) }
+    ensures place { IfOk result (PlaceIs K.told planted view.old cid.now) }
     ensures asks { ViewAsks K.quiet K.quiet_desk K.Desk.faults K.desk_schedule
         (is_peer_fault result) view.old view.new }
 {
@@ -161,6 +169,7 @@ fn ask_stored<'a, K: Keeper, W: Wait>(
 ) -> Result<Option<Bytes>, FetchError>
     ensures offer { IfSome (told_at K.told view.old) (λ peer. IfOk result (λ bytes.
         bytes ≡ (peer cid.now).stored)) }
+    ensures place { IfOk result (PlaceIs K.told false view.old cid.now) }
     ensures asks { ViewAsks K.quiet K.quiet_desk K.Desk.faults K.desk_schedule
         (is_peer_fault result) view.old view.new }
 {

@@ -1,4 +1,5 @@
 pub mod ItemFacts
+pub mod FaceFacts
 pub mod FrameFacts
 mod StuckFacts
 pub mod WorkFacts

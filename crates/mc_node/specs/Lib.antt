@@ -1,5 +1,6 @@
 pub mod Ahead
 pub mod Entries
+pub mod Faces
 pub mod Fillings
 pub mod Handovers
 pub mod Items

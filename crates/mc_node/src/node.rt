@@ -11,6 +11,7 @@ use mc_turn::{Seat, Story, Turn};
 mod ahead;
 mod calls;
 mod deliveries;
+mod faces;
 mod reads;
 mod seats;
 mod shop;

@@ -16,6 +16,7 @@ use std::marker::PhantomData;
 mod ahead;
 mod calls;
 mod entries;
+mod faces;
 mod groups;
 mod jobs;
 mod making;

@@ -55,6 +55,8 @@ impl<'a> Fetch for Meeting<'a> {
 
     ghost offers = { λ shelf. prelude.None };
 
+    ghost leading = { λ shelf cid. prelude.[] };
+
     ghost places = { λ shelf. length shelf.blocks.items };
 
     ghost quiet = { λ shelf. true };
@@ -62,6 +64,10 @@ impl<'a> Fetch for Meeting<'a> {
     ghost follows = { λ old new. ⊤ };
 
     ghost placed = { λ shelf. tt };
+
+    ghost whole = { λ shelf. tt };
+
+    ghost few = { λ shelf cid. Prim.search rules };
 
     ghost follows_itself = { λ shelf. tt };
 

@@ -34,6 +34,8 @@ impl Fetch for Shelf {
 
     ghost offers = { λ shelf. prelude.None };
 
+    ghost leading = { λ shelf cid. prelude.[] };
+
     ghost places = { λ shelf. length shelf.blocks.items };
 
     ghost quiet = { λ shelf. true };
@@ -41,6 +43,10 @@ impl Fetch for Shelf {
     ghost follows = { λ old new. ⊤ };
 
     ghost placed = { λ shelf. tt };
+
+    ghost whole = { λ shelf. tt };
+
+    ghost few = { λ shelf cid. Prim.search rules };
 
     ghost follows_itself = { λ shelf. tt };
 

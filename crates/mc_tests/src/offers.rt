@@ -39,6 +39,8 @@ impl Fetch for Listed {
 
     ghost offers = { λ fetch. Some (λ cid. fetch.offers.items) };
 
+    ghost leading = { λ fetch cid. fetch.offers.items };
+
     ghost places = { λ fetch. length fetch.offers.items };
 
     ghost quiet = { λ fetch. false };
@@ -46,6 +48,10 @@ impl Fetch for Listed {
     ghost follows = { λ old new. ⊤ };
 
     ghost placed = { λ fetch cid. refl };
+
+    ghost whole = { λ fetch cid. refl };
+
+    ghost few = { λ fetch cid. Prim.search rules };
 
     ghost follows_itself = { λ fetch. tt };
 

@@ -57,6 +57,8 @@ impl<'a> Fetch for Shelf<'a> {
 
     ghost offers = { λ shelf. prelude.None };
 
+    ghost leading = { λ shelf cid. prelude.[] };
+
     ghost places = { λ shelf. 1 };
 
     ghost quiet = { λ shelf. true };
@@ -64,6 +66,10 @@ impl<'a> Fetch for Shelf<'a> {
     ghost follows = { λ old new. ⊤ };
 
     ghost placed = { λ shelf. tt };
+
+    ghost whole = { λ shelf. tt };
+
+    ghost few = { λ shelf cid. Prim.search rules };
 
     ghost follows_itself = { λ shelf. tt };
 

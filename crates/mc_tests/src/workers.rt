@@ -110,6 +110,8 @@ impl Fetch for Empty {
 
     ghost offers = { λ fetch. prelude.None };
 
+    ghost leading = { λ fetch cid. prelude.[] };
+
     ghost places = { λ fetch. 1 };
 
     ghost quiet = { λ fetch. false };
@@ -117,6 +119,10 @@ impl Fetch for Empty {
     ghost follows = { λ old new. ⊤ };
 
     ghost placed = { λ fetch. tt };
+
+    ghost whole = { λ fetch. tt };
+
+    ghost few = { λ fetch cid. Prim.search rules };
 
     ghost follows_itself = { λ fetch. tt };
 

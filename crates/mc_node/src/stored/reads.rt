@@ -74,7 +74,7 @@ impl<K: Keeper, J: Naming> Stored<K, J> {
 }
 
 // The answer of a read, with how many processed blocks it is over.
-fn seen<A>(length: u64, answer: Result<A, CoreError>) -> Result<Seen<A>, CoreError>
+pub(crate) fn seen<A>(length: u64, answer: Result<A, CoreError>) -> Result<Seen<A>, CoreError>
     ensures { result ≡ seen_by length answer }
 {
     match answer {

@@ -36,6 +36,6 @@ loop-preserved g c = record {
   none = c.take_turn.ensures.flight (ap keeper_failed c.in_default.is);
   keeps = continues_more c.loop.invariant.keeps (subst (λ t. ContinuesAt g.K.Keeper.told g.K.Keeper.fuse g.K.Keeper.own g.K.Counted.faults g.K.Keeper.quiet g.K.Keeper.schedule (keeper_failed t) c.loop.replica c.take_turn.new.replica) c.in_default.is c.take_turn.ensures.keeps);
   rest = rest_more c.loop.invariant.rest c.take_turn.ensures.rest;
-  asked = asks_more g.met.F.Fetch.follows_on c.loop.invariant.asked (subst (λ t. AsksAt g.F.Fetch.offers g.F.Fetch.places g.F.Fetch.quiet g.F.Counted.faults g.F.Fetch.follows (peer_failed t) c.loop.fetch c.take_turn.new.fetch) c.in_default.is c.take_turn.ensures.asks);
+  asked = asks_more g.met.F.Fetch.follows_on c.loop.invariant.asked (subst (λ t. AsksAt g.F.Fetch.offers g.F.Fetch.leading g.F.Fetch.places g.F.Fetch.quiet g.F.Counted.faults g.F.Fetch.follows (peer_failed t) c.loop.fetch c.take_turn.new.fetch) c.in_default.is c.take_turn.ensures.asks);
   leads = loop_told false c.args.limit (found_by (g.F.Fetch.offers c.args.fetch.now)) _ _ _ _ (ap found_by c.loop.invariant.asked.offers_same) (room_told c.processed.result c.args.limit _ (omega (arith, c.if-processed-limit.false)) (omega arith) c.processed.ensures) c.loop.invariant.leads (subst (λ t. Told (replica_state g.K.Keeper.told g.K.Keeper.fuse c.loop.replica) (replica_state g.K.Keeper.told g.K.Keeper.fuse c.take_turn.new.replica) (λ s new. Leads (keeper_failed t) (count s + 1) (Fetched (found_by (g.F.Fetch.offers c.loop.fetch))) s new)) c.in_default.is c.take_turn.ensures.leads);
 }

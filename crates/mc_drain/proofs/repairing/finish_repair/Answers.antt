@@ -24,7 +24,7 @@ returns-clause-keeps g c =
 
 pub returns-clause-asks : goal.returns-clause-asks
 returns-clause-asks g c =
-    subst (λ (b : Bool). AsksAt g.F.Fetch.offers g.F.Fetch.places g.F.Fetch.quiet g.F.Counted.faults g.F.Fetch.follows b c.args.fetch.now c.drain-end.new.fetch) (sym (repair_peer _ _ _ _ c.answer.ensures)) c.drain-end.ensures.asks
+    subst (λ (b : Bool). AsksAt g.F.Fetch.offers g.F.Fetch.leading g.F.Fetch.places g.F.Fetch.quiet g.F.Counted.faults g.F.Fetch.follows b c.args.fetch.now c.drain-end.new.fetch) (sym (repair_peer _ _ _ _ c.answer.ensures)) c.drain-end.ensures.asks
 
 pub returns-clause-runs : goal.returns-clause-runs
 returns-clause-runs g c = repair_runs _ _ _ _ c.answer.ensures

@@ -38,7 +38,7 @@ loop-left-preserved g c = record {
   none = c.sort_turn.ensures.flight (ap keeper_failed c.in_default.is);
   keeps = continues_more c.loop-left.invariant.keeps (subst (λ t. ContinuesAt g.K.Keeper.told g.K.Keeper.fuse g.K.Keeper.own g.K.Counted.faults g.K.Keeper.quiet g.K.Keeper.schedule (keeper_failed t) c.loop-left.replica c.sort_turn.new.replica) c.in_default.is c.sort_turn.ensures.keeps);
   rest = rest_more c.loop-left.invariant.rest c.sort_turn.ensures.rest;
-  asked = asks_more g.met.F.Fetch.follows_on c.loop-left.invariant.asked (subst (λ t. AsksAt g.F.Fetch.offers g.F.Fetch.places g.F.Fetch.quiet g.F.Counted.faults g.F.Fetch.follows (peer_failed t) c.loop-left.fetch c.sort_turn.new.fetch) c.in_default.is c.sort_turn.ensures.asks);
+  asked = asks_more g.met.F.Fetch.follows_on c.loop-left.invariant.asked (subst (λ t. AsksAt g.F.Fetch.offers g.F.Fetch.leading g.F.Fetch.places g.F.Fetch.quiet g.F.Counted.faults g.F.Fetch.follows (peer_failed t) c.loop-left.fetch c.sort_turn.new.fetch) c.in_default.is c.sort_turn.ensures.asks);
   leads = sort_told false (found_by (g.F.Fetch.offers c.args.fetch.now)) _ _ _ _ (ap found_by c.loop-left.invariant.asked.offers_same) c.loop-left.invariant.leads (subst (λ t. Told (replica_state g.K.Keeper.told g.K.Keeper.fuse c.loop-left.replica) (replica_state g.K.Keeper.told g.K.Keeper.fuse c.sort_turn.new.replica) (λ s new. Leads (keeper_failed t) (count s) (Fetched (found_by (g.F.Fetch.offers c.loop-left.fetch))) s new)) c.in_default.is c.sort_turn.ensures.leads);
   sorting = sorting_told (found_by (g.F.Fetch.offers c.args.fetch.now)) _ c.sort_turn.result _ _ _ _ _ _ (ap found_by c.loop-left.invariant.asked.offers_same) c.in_default.is (omega (arith, c.loop-left-test.true)) (omega (arith, c.loop-left-test.true)) c.loop-left.invariant.leads c.loop-left.invariant.sorting c.sort_turn.ensures.sorts;
 }

@@ -24,15 +24,15 @@ returns-clause-sealed g c = λ replica sealed. c.release-failed.ensures.sealed r
 
 pub returns-clause-left : goal.returns-clause-left
 returns-clause-left g c = lists_left _ c.hire.ensures.fetches c.release-failed.ensures.fetches
-    (hands_left _ (λ old new. HasRun (IsSeatOf c.args.node.now.turn new.seat.seat.seat) new.seat.out (AsksAt g.F.Fetch.offers g.F.Fetch.places g.F.Fetch.quiet g.F.Counted.faults g.F.Fetch.follows (is_peer new.end) old.fetch new.fetch)) (λ hand. hand.fetch) (λ hand. hand.end) (λ old new r. r.asked) _ _ c.run.ensures.ran)
+    (hands_left _ (λ old new. HasRun (IsSeatOf c.args.node.now.turn new.seat.seat.seat) new.seat.out (AsksAt g.F.Fetch.offers g.F.Fetch.leading g.F.Fetch.places g.F.Fetch.quiet g.F.Counted.faults g.F.Fetch.follows (is_peer new.end) old.fetch new.fetch)) (λ hand. hand.fetch) (λ hand. hand.end) (λ old new r. r.asked) _ _ c.run.ensures.ran)
 
 pub returns-clause-calm : goal.returns-clause-calm
 returns-clause-calm g c = λ none. lists_left _ c.hire.ensures.fetches c.release-failed.ensures.fetches
-    (hands_calm _ (λ old new. HasRun (IsSeatOf c.args.node.now.turn new.seat.seat.seat) new.seat.out (AsksAt g.F.Fetch.offers g.F.Fetch.places g.F.Fetch.quiet g.F.Counted.faults g.F.Fetch.follows (is_peer new.end) old.fetch new.fetch)) (λ hand. hand.fetch) (λ hand. hand.end) (λ old new r. r.asked) _ _ c.run.ensures.ran (sym c.release-failed.ensures.failed ∙ none))
+    (hands_calm _ (λ old new. HasRun (IsSeatOf c.args.node.now.turn new.seat.seat.seat) new.seat.out (AsksAt g.F.Fetch.offers g.F.Fetch.leading g.F.Fetch.places g.F.Fetch.quiet g.F.Counted.faults g.F.Fetch.follows (is_peer new.end) old.fetch new.fetch)) (λ hand. hand.fetch) (λ hand. hand.end) (λ old new r. r.asked) _ _ c.run.ensures.ran (sym c.release-failed.ensures.failed ∙ none))
 
 pub returns-clause-peer : goal.returns-clause-peer
 returns-clause-peer g c = λ some. lists_rose _ c.hire.ensures.fetches c.release-failed.ensures.fetches
-    (hands_rose _ (λ old new. HasRun (IsSeatOf c.args.node.now.turn new.seat.seat.seat) new.seat.out (AsksAt g.F.Fetch.offers g.F.Fetch.places g.F.Fetch.quiet g.F.Counted.faults g.F.Fetch.follows (is_peer new.end) old.fetch new.fetch)) (λ hand. hand.fetch) (λ hand. hand.end) (λ old new r. r.asked) _ _ c.run.ensures.ran (sym c.release-failed.ensures.failed ∙ some))
+    (hands_rose _ (λ old new. HasRun (IsSeatOf c.args.node.now.turn new.seat.seat.seat) new.seat.out (AsksAt g.F.Fetch.offers g.F.Fetch.leading g.F.Fetch.places g.F.Fetch.quiet g.F.Counted.faults g.F.Fetch.follows (is_peer new.end) old.fetch new.fetch)) (λ hand. hand.fetch) (λ hand. hand.end) (λ old new r. r.asked) _ _ c.run.ensures.ran (sym c.release-failed.ensures.failed ∙ some))
 
 pub release-failed-requires-clause-owned : goal.release-failed-requires-clause-owned
-release-failed-requires-clause-owned g c = zip_second (λ old new. HasRun (IsSeatOf c.args.node.now.turn new.seat.seat.seat) new.seat.out (AsksAt g.F.Fetch.offers g.F.Fetch.places g.F.Fetch.quiet g.F.Counted.faults g.F.Fetch.follows (is_peer new.end) old.fetch new.fetch)) (λ hand. IsSeatOf c.args.node.now.turn hand.seat.seat.seat × (hand.seat.out ≡ None)) (λ old new r. (r.own, r.idle)) _ _ c.run.ensures.ran
+release-failed-requires-clause-owned g c = zip_second (λ old new. HasRun (IsSeatOf c.args.node.now.turn new.seat.seat.seat) new.seat.out (AsksAt g.F.Fetch.offers g.F.Fetch.leading g.F.Fetch.places g.F.Fetch.quiet g.F.Counted.faults g.F.Fetch.follows (is_peer new.end) old.fetch new.fetch)) (λ hand. IsSeatOf c.args.node.now.turn hand.seat.seat.seat × (hand.seat.out ≡ None)) (λ old new r. (r.own, r.idle)) _ _ c.run.ensures.ran
