@@ -40,6 +40,7 @@ impl<K: Keeper, J: Naming> Stored<K, J> {
         ensures left { OnOk result (is_some self.new.taker ≡ true → length self.new.replica.inbox.items < 64) }
         ensures runs { OnOk result (self.new.replica.stopped ≡ false) }
         ensures noted { empties self.old.taker ≤ empties self.new.taker }
+        ensures relay { is_some self.new.taker ≡ is_some self.old.taker }
         ensures few { IfOk result (λ count. count ≤ 64) }
     {
         if self.is_stopped() {

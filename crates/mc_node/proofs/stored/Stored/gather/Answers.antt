@@ -47,3 +47,6 @@ returns-clause-room g c = on_ok_any c.take_round.result _ c.take_round.ensures.r
 
 pub returns-clause-left : goal.returns-clause-left
 returns-clause-left g c = on_ok c.take_round.result _ _ (λ less some. less) c.take_round.ensures.left
+
+pub returns-clause-relay : goal.returns-clause-relay
+returns-clause-relay g c = c.take_round.ensures.relay ∙ sym (ap is_some (sym c.in-Ok.ensures.relay) ∙ sym c.has_relay.ensures ∙ c.if-not-has_relay.false)
