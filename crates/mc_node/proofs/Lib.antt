@@ -11,6 +11,7 @@ pub mod SeatFacts
 pub mod JobFacts
 pub mod PieceFacts
 pub mod TakeFacts
+pub mod FillFacts
 pub mod AheadFacts
 pub mod GroupFacts
 pub mod HandFacts

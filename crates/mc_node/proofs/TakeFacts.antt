@@ -15,7 +15,7 @@ use Rattle.mc_node.specs.Pieces.{AnswersFrom, Back, EndsBroken, Gathered, Gather
 use Rattle.mc_node.specs.Serves.{AnswersAt, BackAt, NextAt}
 use Rattle.mc_node.proofs.PieceFacts.{processed_then, runs_one, runs_then}
 
-said_of_none : {A : Type 0} (told : Option A) → IfSome told (λ x. ⊤)
+pub said_of_none : {A : Type 0} (told : Option A) → IfSome told (λ x. ⊤)
 said_of_none None = tt
 said_of_none (Some x) = tt
 

@@ -1,5 +1,5 @@
 -- What a call that takes in what workers pushed does to the log of a sealed node.
-use Rattle.std.specs.Prelude.{◌≡◌, ◌≤◌, ⊤, ◌⊎◌, ◌+◌, ℕ, zero, suc, Bool, false, List, [], ◌∷◌, ◌++◌, length, Option, Some, None, Result}
+use Rattle.std.specs.Prelude.{◌≡◌, ◌≤◌, ⊤, ◌⊎◌, ◌+◌, ℕ, zero, suc, Bool, true, false, List, [], ◌∷◌, ◌++◌, length, Option, Some, None, Result}
 use Rattle.std.specs.Prelude.{Ok, Err}
 use Rattle.mc_base.specs.declared.cid.Cid.{Cid}
 use Rattle.mc_fetch.specs.Fits.{Map}
@@ -180,8 +180,19 @@ abbrev pub AfterNone : ℕ → Result (Option Job) ShopError → List Item → S
 AfterNone limit result old before new after =
     AsksAfter limit result old before new after ⊎ GathersNone limit result old before new after
 
--- A call that asks for a job below this limit, between two moments: one call of the replica; or that found that nothing
--- waits, and then what was pushed was taken in.
+-- whether none was begun, since nothing waits
+abbrev pub is_none : Result (Option Job) ShopError → Bool
+is_none (Ok None) = true
+is_none (Ok (Some job)) = false
+is_none (Err error) = false
+
+-- one call of the replica gave a job, or an error
+pub record AsksOnce (limit : ℕ) (result : Result (Option Job) ShopError) (old : List Item) (before : Shown)
+    (new : List Item) (after : Shown) : Type 0 where
+  pub asks : NextAt limit result old before new after
+  pub some : is_none result ≡ false
+
+-- one found that nothing waits, and then what was pushed was taken in
 pub record AsksTwice (limit : ℕ) (result : Result (Option Job) ShopError) (old : List Item) (before : Shown)
     (new : List Item) (after : Shown) : Type 0 where
   pub mid : List Item
@@ -189,9 +200,11 @@ pub record AsksTwice (limit : ℕ) (result : Result (Option Job) ShopError) (old
   pub none : NextAt limit (Ok None) old before mid there
   pub then_does : AfterNone limit result mid there new after
 
+-- A call that asks for a job below this limit, between two moments. That there is none it answers only after what was
+-- pushed was taken in.
 abbrev pub NextsAt : ℕ → Result (Option Job) ShopError → List Item → Shown → List Item → Shown → Type 0
 NextsAt limit result old before new after =
-    NextAt limit result old before new after ⊎ AsksTwice limit result old before new after
+    AsksOnce limit result old before new after ⊎ AsksTwice limit result old before new after
 
 -- the same between some two moments
 abbrev pub NextDoes : ℕ → Result (Option Job) ShopError → List Item → List Item → Type 0

@@ -1,7 +1,8 @@
 // Jobs that begin ahead of those that a worker asks for, under the same turn.
-ghost use Rattle.std.specs.Prelude.{◌≡◌, ◌≤◌, ◌+◌, All, [], None, Ok, true, length, vec_len, vec_capacity, IfOk};
+ghost use Rattle.std.specs.Prelude.{◌≡◌, ◌≤◌, ◌<◌, ◌+◌, All, [], None, Ok, false, true, length, vec_len, vec_capacity, IfOk};
 ghost use Rattle.mc_turn.specs.Lists.{Begins};
 ghost use Rattle.mc_fetch.specs.Fits.{JobFits, NextFits};
+ghost use Rattle.mc_queue.specs.Views.{shown as wanted};
 ghost use Rattle.mc_node.specs.Ahead.{BeginsMore, NextsAhead, is_keeper};
 ghost use Rattle.mc_node.specs.Entries.{is_sealed_log, items, shown};
 ghost use Rattle.mc_node.specs.Works.{IsUnder};
@@ -14,7 +15,7 @@ use std::alloc::Global;
 use std::sync::Wait;
 
 // The most jobs that begin ahead for one worker, and the part of those that wait: one in so many.
-const AHEAD: u64 = 31;
+const AHEAD: u64 = 63;
 
 const PART: u64 = 8;
 
@@ -72,7 +73,10 @@ impl<K: Keeper, J: Naming> Stored<K, J> {
 
     // Whether there was no job, and blocks are in flight elsewhere.
     pub(crate) fn is_busy(&self, asked: &Result<Option<Job>, ShopError>) -> bool
-        ensures { result ≡ true → asked.now ≡ Ok None }
+        ensures busy { result ≡ true → (asked.now ≡ Ok None) × (self.now.replica.stopped ≡ false)
+            × (0 < length (wanted self.now.replica.queue).flight) }
+        ensures idle { result ≡ false → asked.now ≡ Ok None → self.now.replica.stopped ≡ false →
+            length (wanted self.now.replica.queue).flight ≡ 0 }
     {
         match asked {
             Ok(None) => match self.replica.report() {

@@ -1,15 +1,15 @@
 // The inbox of a node's replica: it is filled from the relay, and taken in by groups.
-ghost use Rattle.std.specs.Prelude.{◌≡◌, ◌≤◌, ◌<◌, ◌+◌, [], false, true, is_some, length, vec_len, vec_capacity, List};
+ghost use Rattle.std.specs.Prelude.{◌≡◌, ◌≤◌, ◌<◌, ◌+◌, [], ◌∷◌, ◌++◌, false, true, is_some, length, vec_len, vec_capacity};
 ghost use Rattle.std.specs.Prelude.{IfErr, IfOk, IfSome, OnOk};
 ghost use Rattle.mc_turn.specs.Lists.{Begins};
-ghost use Rattle.mc_model.specs.declared.block.Stored.{Stored as Kept};
 ghost use Rattle.mc_core.specs.Counted.{capped};
+ghost use Rattle.mc_inbox.specs.Waiting.{as_stored};
 ghost use Rattle.mc_relay.specs.Items.{IsRight};
 ghost use Rattle.mc_node.specs.Entries.{is_sealed_log, items, shown};
+ghost use Rattle.mc_node.specs.Fillings.{CommitsGroup, HasEmptied, Moves, PopsOne, TakesGroup};
 ghost use Rattle.mc_node.specs.Handovers.{AddsFetched, is_of_fetched};
 ghost use Rattle.mc_node.specs.Jobs.{IsBroken};
 ghost use Rattle.mc_node.specs.Moves.{BeginsNot};
-ghost use Rattle.mc_node.specs.Pieces.{GroupsAt, ServesGroup};
 ghost use Rattle.mc_node.specs.Serves.{keeper_fails};
 ghost use Rattle.mc_node.specs.Works.{IsUnder};
 
@@ -92,8 +92,12 @@ impl<K: Keeper, J: Naming> Stored<K, J> {
         ensures keeper { self.new.replica.keeper ≡ self.old.replica.keeper }
         ensures room { 64 ≤ self.new.replica.inbox.room }
         ensures relay { is_some self.new.taker ≡ is_some self.old.taker }
+        ensures moves { Moves self.old.taker self.new.taker self.old.replica.inbox.items []
+            self.new.replica.inbox.items }
+        ensures emptied { is_some self.old.taker ≡ true →
+            HasEmptied self.old.taker self.new.taker self.new.replica.inbox.items }
     {
-        for _ in 0..GROUP {
+        for moved in 0..GROUP {
             if !self.move_one(wait) {
                 return;
             }
@@ -108,6 +112,12 @@ impl<K: Keeper, J: Naming> Stored<K, J> {
         ensures keeper { self.new.replica.keeper ≡ self.old.replica.keeper }
         ensures room { 64 ≤ self.new.replica.inbox.room }
         ensures relay { is_some self.new.taker ≡ is_some self.old.taker }
+        ensures moves { Moves self.old.taker self.new.taker self.old.replica.inbox.items []
+            self.new.replica.inbox.items }
+        ensures emptied { result ≡ false → is_some self.old.taker ≡ true →
+            HasEmptied self.old.taker self.new.taker self.new.replica.inbox.items }
+        ensures longer { result ≡ true →
+            length self.old.replica.inbox.items < length self.new.replica.inbox.items }
     {
         if self.replica.inbox_len() >= GROUP {
             return false;
@@ -125,6 +135,7 @@ impl<K: Keeper, J: Naming> Stored<K, J> {
         ensures replica { self.new.replica ≡ self.old.replica }
         ensures relay { is_some self.new.taker ≡ is_some self.old.taker }
         ensures right { IfSome result (IsRight J.found) }
+        ensures takes { PopsOne result self.old.taker self.new.taker }
     {
         match &mut self.taker {
             Some(taker) => taker.pop(wait),
@@ -142,6 +153,7 @@ impl<K: Keeper, J: Naming> Stored<K, J> {
         ensures keeper { self.new.replica.keeper ≡ self.old.replica.keeper }
         ensures room { 64 ≤ self.new.replica.inbox.room }
         ensures relay { self.new.taker ≡ self.old.taker }
+        ensures added { self.new.replica.inbox.items ≡ self.old.replica.inbox.items ++ as_stored item ∷ [] }
     {
         match self.replica.inbox_add(item) {
             Ok(()) => {}
@@ -184,8 +196,9 @@ impl<K: Keeper, J: Naming> Stored<K, J> {
         requires entries { vec_len self.old.log + 65 ≤ vec_capacity self.old.log }
         requires relay { is_some self.old.taker ≡ true }
         ensures extends { Begins self.old.log.items self.new.log.items }
-        ensures does { GroupsAt limit result (items K.Keeper self.old.log.items) (shown K.Keeper self.old.replica)
-            (items K.Keeper self.new.log.items) (shown K.Keeper self.new.replica) }
+        ensures does { TakesGroup limit processed result self.old.replica.inbox.items self.new.replica.inbox.items
+            (items K.Keeper self.old.log.items) (shown K.Keeper self.old.replica) (items K.Keeper self.new.log.items)
+            (shown K.Keeper self.new.replica) }
         ensures commits { IfOk result (AddsFetched is_of_fetched self.old.log.items self.new.log.items) }
         ensures few { IfOk result (λ count. count ≤ 64) }
         ensures left { OnOk result (length self.new.replica.inbox.items < 64) }
@@ -219,8 +232,9 @@ impl<K: Keeper, J: Naming> Stored<K, J> {
         requires entries { vec_len self.old.log + 65 ≤ vec_capacity self.old.log }
         requires relay { is_some self.old.taker ≡ true }
         ensures extends { Begins self.old.log.items self.new.log.items }
-        ensures does { (group : List Kept) × ServesGroup limit group result (items K.Keeper self.old.log.items)
-            (shown K.Keeper self.old.replica) (items K.Keeper self.new.log.items) (shown K.Keeper self.new.replica) }
+        ensures does { CommitsGroup limit processed result self.old.replica.inbox.items self.new.replica.inbox.items
+            (items K.Keeper self.old.log.items) (shown K.Keeper self.old.replica) (items K.Keeper self.new.log.items)
+            (shown K.Keeper self.new.replica) }
         ensures log { OnOk result (self.new.log.items ≡ self.old.log.items) }
         ensures entries { IfOk result (λ grouped. vec_len self.new.log + grouped.processed ≤ vec_capacity self.new.log) }
         ensures few { IfOk result (λ grouped. grouped.processed ≤ 64) }

@@ -173,6 +173,7 @@ impl<K: Keeper, J: Naming> Stored<K, J> {
             (shown self.new.replica.queue) }
         ensures does { BackAt job.cid (items K.Keeper self.old.log.items) (shown_of K.Keeper self.old.replica)
             (items K.Keeper self.new.log.items) (shown_of K.Keeper self.new.replica) }
+        ensures relay { self.new.taker ≡ self.old.taker }
     {
         kept_is_durable();
         if self.is_stopped() {

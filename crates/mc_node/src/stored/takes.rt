@@ -1,14 +1,17 @@
 // What workers pushed is taken in.
-ghost use Rattle.std.specs.Prelude.{◌≡◌, ◌≤◌, ◌<◌, ◌+◌, ℕ, false, true, [], is_some, length, IfOk, OnOk};
+ghost use Rattle.std.specs.Prelude.{◌≡◌, ◌≤◌, ◌<◌, ◌+◌, ℕ, false, true, [], is_some, length, vec_len, vec_capacity, IfErr, IfOk};
+ghost use Rattle.std.specs.Prelude.{IfSome, OnOk};
 ghost use Rattle.mc_turn.specs.Lists.{Begins};
+ghost use Rattle.mc_core.specs.Counted.{capped};
 ghost use Rattle.mc_relay.specs.Items.{IsRight};
 ghost use Rattle.mc_node.specs.Entries.{is_sealed_log, items, shown};
+ghost use Rattle.mc_node.specs.Fillings.{GathersIn, HasTaken, TakesRound, empties};
 ghost use Rattle.mc_node.specs.Handovers.{AddsFetched, is_of_fetched};
-ghost use Rattle.mc_node.specs.Pieces.{GathersAt, RunsOn, TakesAt};
+ghost use Rattle.mc_node.specs.Jobs.{IsBroken};
+ghost use Rattle.mc_node.specs.Pieces.{RunsOn, TakesAt};
 ghost use Rattle.mc_node.specs.Works.{IsUnder};
 
 use super::Stored;
-use super::groups::GROUP;
 use mc_base::Cid;
 use mc_block::Verified;
 use mc_fetch::{Job, Naming};
@@ -29,12 +32,15 @@ impl<K: Keeper, J: Naming> Stored<K, J> {
         requires sealed { is_sealed_log self.old.log.items ≡ true }
         requires limit { IsUnder J.most limit }
         ensures extends { Begins self.old.log.items self.new.log.items }
-        ensures does { GathersAt limit result (items K.Keeper self.old.log.items) (shown K.Keeper self.old.replica)
+        ensures does { GathersIn limit result self.old.taker self.new.taker self.old.replica.inbox.items
+            self.new.replica.inbox.items (items K.Keeper self.old.log.items) (shown K.Keeper self.old.replica)
             (items K.Keeper self.new.log.items) (shown K.Keeper self.new.replica) }
         ensures commits { IfOk result (AddsFetched is_of_fetched self.old.log.items self.new.log.items) }
         ensures room { OnOk result (64 ≤ self.new.replica.inbox.room) }
         ensures left { OnOk result (is_some self.new.taker ≡ true → length self.new.replica.inbox.items < 64) }
         ensures runs { OnOk result (self.new.replica.stopped ≡ false) }
+        ensures noted { empties self.old.taker ≤ empties self.new.taker }
+        ensures relay { is_some self.new.taker ≡ is_some self.old.taker }
         ensures few { IfOk result (λ count. count ≤ 64) }
     {
         if self.is_stopped() {
@@ -47,11 +53,43 @@ impl<K: Keeper, J: Naming> Stored<K, J> {
         if processed >= limit {
             return Err(ShopError::Spent);
         }
-        if self.has_relay() {
-            self.fill(wait);
-            return self.take_group(alloc, processed, limit);
+        if !self.has_relay() {
+            return Ok(0);
         }
-        Ok(0)
+        self.take_round(alloc, processed, limit, wait)
+    }
+
+    // What was pushed is moved into the inbox, and a group is taken in.
+    fn take_round<W: Wait>(
+        &mut self,
+        alloc: Global,
+        processed: u64,
+        limit: u64,
+        wait: &W,
+    ) -> Result<u64, ShopError>
+        requires sealed { is_sealed_log self.old.log.items ≡ true }
+        requires limit { IsUnder J.most limit }
+        requires below { processed < limit }
+        requires count { IfSome (K.told self.old.replica.keeper) (λ kept. processed ≡ capped (length kept.order)) }
+        requires runs { self.old.replica.stopped ≡ false }
+        requires entries { vec_len self.old.log + 65 ≤ vec_capacity self.old.log }
+        requires room { 64 ≤ self.old.replica.inbox.room }
+        requires relay { is_some self.old.taker ≡ true }
+        ensures extends { Begins self.old.log.items self.new.log.items }
+        ensures does { TakesRound limit processed result self.old.taker self.new.taker self.old.replica.inbox.items
+            self.new.replica.inbox.items (items K.Keeper self.old.log.items) (shown K.Keeper self.old.replica)
+            (items K.Keeper self.new.log.items) (shown K.Keeper self.new.replica) }
+        ensures commits { IfOk result (AddsFetched is_of_fetched self.old.log.items self.new.log.items) }
+        ensures noted { empties self.old.taker ≤ empties self.new.taker }
+        ensures few { IfOk result (λ count. count ≤ 64) }
+        ensures left { OnOk result (length self.new.replica.inbox.items < 64) }
+        ensures room { 64 ≤ self.new.replica.inbox.room }
+        ensures error { IfErr result IsBroken }
+        ensures runs { OnOk result (self.new.replica.stopped ≡ false) }
+        ensures relay { is_some self.new.taker ≡ true }
+    {
+        self.fill(wait);
+        self.take_group(alloc, processed, limit)
     }
 
     // The same for a delivery of a block: where it is spent, or wants memory, the block waits again if it is in flight.
@@ -71,6 +109,8 @@ impl<K: Keeper, J: Naming> Stored<K, J> {
         ensures room { OnOk result (64 ≤ self.new.replica.inbox.room) }
         ensures left { OnOk result (is_some self.new.taker ≡ true → length self.new.replica.inbox.items < 64) }
         ensures runs { OnOk result (self.new.replica.stopped ≡ false) }
+        ensures took { OnOk result (HasTaken limit (shown K.Keeper self.old.replica).told self.old.taker self.new.taker
+            self.old.replica.inbox.items self.new.replica.inbox.items) }
         ensures few { IfOk result (λ count. count ≤ 64) }
     {
         match self.gather(alloc, limit, wait) {
@@ -105,7 +145,7 @@ impl<K: Keeper, J: Naming> Stored<K, J> {
         ensures commits { IfOk result (AddsFetched is_of_fetched self.old.log.items self.new.log.items) }
     {
         match self.take_pushed(alloc, limit, item.cid, wait) {
-            Ok(first) => self.take_own(alloc, limit, first, item),
+            Ok(first) => self.take_own(alloc, limit, first, item, wait),
             Err(error) => Err(error),
         }
     }
@@ -118,6 +158,7 @@ impl<K: Keeper, J: Naming> Stored<K, J> {
         ensures extends { Begins self.old.log.items self.new.log.items }
         ensures empty { self.new.replica.stopped ≡ false → is_some self.new.taker ≡ true →
             self.new.replica.inbox.items ≡ [] }
+        ensures emptied { is_some self.old.taker ≡ true → empties self.old.taker < empties self.new.taker }
     {
         let _first = self.gather(alloc, limit, wait);
         let _second = self.gather(alloc, limit, wait);
@@ -125,12 +166,15 @@ impl<K: Keeper, J: Naming> Stored<K, J> {
         self.give_inbox_up();
     }
 
-    // Gives up what is left in the relay, into which nobody pushes any more: each block that is in flight waits again.
+    // Gives up what is left in the relay, into which nobody pushes any more, until it is found empty: each block that is in
+    // flight waits again.
     fn give_relay_up<W: Wait>(&mut self, wait: &W)
         requires sealed { is_sealed_log self.old.log.items ≡ true }
         ensures log { self.new.log.items ≡ self.old.log.items }
+        ensures emptied { is_some self.old.taker ≡ true → empties self.old.taker < empties self.new.taker }
+        ensures noted { empties self.old.taker ≤ empties self.new.taker }
     {
-        for _ in 0..GROUP {
+        for _ in wait.forever() {
             let Some(item) = self.pop(wait) else {
                 return;
             };
@@ -142,12 +186,13 @@ impl<K: Keeper, J: Naming> Stored<K, J> {
     }
 
     // A block is added to the inbox, after so many were processed in this call, and the inbox is taken in once more.
-    fn take_own(
+    fn take_own<W: Wait>(
         &mut self,
         alloc: Global,
         limit: u64,
         first: u64,
         item: Verified,
+        wait: &W,
     ) -> Result<u64, ShopError>
         requires sealed { is_sealed_log self.old.log.items ≡ true }
         requires limit { IsUnder J.most limit }
@@ -163,7 +208,7 @@ impl<K: Keeper, J: Naming> Stored<K, J> {
             × AddsFetched is_of_fetched self.old.log.items self.new.log.items added) }
     {
         if self.has_relay() {
-            return self.take_added(alloc, limit, first, item);
+            return self.take_added(alloc, limit, first, item, wait);
         }
         self.give_back(Job {
             cid: item.cid,
@@ -172,13 +217,14 @@ impl<K: Keeper, J: Naming> Stored<K, J> {
         Ok(first)
     }
 
-    // The same with a relay.
-    fn take_added(
+    // The same with a relay: what was pushed meanwhile comes in with the block.
+    fn take_added<W: Wait>(
         &mut self,
         alloc: Global,
         limit: u64,
         first: u64,
         item: Verified,
+        wait: &W,
     ) -> Result<u64, ShopError>
         requires sealed { is_sealed_log self.old.log.items ≡ true }
         requires limit { IsUnder J.most limit }
@@ -206,7 +252,7 @@ impl<K: Keeper, J: Naming> Stored<K, J> {
         if processed >= limit {
             return Ok(first);
         }
-        match self.take_group(alloc, processed, limit) {
+        match self.take_round(alloc, processed, limit, wait) {
             Ok(count) => Ok(first + count),
             Err(ShopError::KeeperFault) => Err(ShopError::KeeperFault),
             Err(_) => {

@@ -16,14 +16,17 @@ invariant_of-self g c = record {
 
 pub returns-in-Ok-clause-does : goal.returns-in-Ok-clause-does
 returns-in-Ok-clause-does g c = record {
-  items = c.in-Ok.ensures.does.0;
-  answer = Ok c.in-Ok.grouped;
-  is = refl;
   does = record {
-    mid = items_at g.K.Keeper.told g.K.Keeper.fuse g.K.Keeper.own g.K.Counted.faults g.K.Keeper.quiet g.K.Keeper.schedule c.commit_group.new.self.log.items;
-    does = c.in-Ok.ensures.does.1;
-    notes = all_items g.K.Keeper.told g.K.Keeper.fuse g.K.Keeper.own g.K.Counted.faults g.K.Keeper.quiet g.K.Keeper.schedule c.in-Ok.grouped.processed c.commit_group.new.self.replica c.commit_group.new.self.log.items c.commit_group.new.self.log.items c.note_all.new.log.items refl c.note_all.ensures;
+    items = c.in-Ok.ensures.does.group;
+    answer = Ok c.in-Ok.grouped;
+    is = refl;
+    does = record {
+      mid = items_at g.K.Keeper.told g.K.Keeper.fuse g.K.Keeper.own g.K.Counted.faults g.K.Keeper.quiet g.K.Keeper.schedule c.commit_group.new.self.log.items;
+      does = c.in-Ok.ensures.does.does;
+      notes = all_items g.K.Keeper.told g.K.Keeper.fuse g.K.Keeper.own g.K.Counted.faults g.K.Keeper.quiet g.K.Keeper.schedule c.in-Ok.grouped.processed c.commit_group.new.self.replica c.commit_group.new.self.log.items c.commit_group.new.self.log.items c.note_all.new.log.items refl c.note_all.ensures;
+    };
   };
+  takes = c.in-Ok.ensures.does.takes;
 }
 
 pub returns-in-Ok-clause-commits : goal.returns-in-Ok-clause-commits
