@@ -106,7 +106,7 @@ filter_has : (test : Cid → Bool) (c : Cid) (xs : List Cid) → has c (filter t
 filter_has test c [] e = e
 filter_has test c (x ∷ xs) e =
     (elim (test x) as (λ t. has c (cond t (x ∷ filter test xs) (filter test xs)) ≡ true → (same_cid c x || has c xs) ≡ true) [
-      | true ↦ λ h. over (same_cid c x) h
+      | true ↦ λ h. over (same_cid c x) (filter_has test c xs) h
       | false ↦ λ h. or_so (same_cid c x) (has c xs) (filter_has test c xs h)
     ]) e
   where
@@ -114,15 +114,15 @@ filter_has test c (x ∷ xs) e =
     or_so true b is = refl
     or_so false b is = is
 
-    over : (a : Bool) → (a || has c (filter test xs)) ≡ true → (a || has c xs) ≡ true
-    over true h = refl
-    over false h = filter_has test c xs h
+    over : (a : Bool) → (has c (filter test xs) ≡ true → has c xs ≡ true) → (a || has c (filter test xs)) ≡ true → (a || has c xs) ≡ true
+    over true rest h = refl
+    over false rest h = rest h
 
 filter_bad : (test : Cid → Bool) (c : Cid) (xs : List (Cid × ℕ)) → has c (bad_cids (filter (λ (b : Cid × ℕ). test b.0) xs)) ≡ true → has c (bad_cids xs) ≡ true
 filter_bad test c [] e = e
 filter_bad test c (x ∷ xs) e =
     (elim (test x.0) as (λ t. has c (bad_cids (cond t (x ∷ filter (λ (b : Cid × ℕ). test b.0) xs) (filter (λ (b : Cid × ℕ). test b.0) xs))) ≡ true → (same_cid c x.0 || has c (bad_cids xs)) ≡ true) [
-      | true ↦ λ h. over (same_cid c x.0) h
+      | true ↦ λ h. over (same_cid c x.0) (filter_bad test c xs) h
       | false ↦ λ h. or_so (same_cid c x.0) (has c (bad_cids xs)) (filter_bad test c xs h)
     ]) e
   where
@@ -130,9 +130,9 @@ filter_bad test c (x ∷ xs) e =
     or_so true b is = refl
     or_so false b is = is
 
-    over : (a : Bool) → (a || has c (bad_cids (filter (λ (b : Cid × ℕ). test b.0) xs))) ≡ true → (a || has c (bad_cids xs)) ≡ true
-    over true h = refl
-    over false h = filter_bad test c xs h
+    over : (a : Bool) → (has c (bad_cids (filter (λ (b : Cid × ℕ). test b.0) xs)) ≡ true → has c (bad_cids xs) ≡ true) → (a || has c (bad_cids (filter (λ (b : Cid × ℕ). test b.0) xs))) ≡ true → (a || has c (bad_cids xs)) ≡ true
+    over true rest h = refl
+    over false rest h = rest h
 
 either_stuck : (c : Cid) (q : Queue) → (has c q.missing ≡ true) ⊎ (has c (bad_cids q.bad) ≡ true) → is_stuck c q ≡ true
 either_stuck c q (inl e) = ap (λ b. b || has c (bad_cids q.bad)) e
@@ -186,7 +186,7 @@ delivered_sticks Missing q left cid found after answer = λ c e. elim (missing_s
 ]
 delivered_sticks (Bad damage) q left cid found after answer = λ c e. elim (bad_stuck q cid damage c (ap (is_stuck c) (sym after) ∙ e)) [
   | inl was ↦ inl was
-  | inr same ↦ inr (same, subst (IsNoBlock cid) (sym answer.2.0) (answer.1, answer.2.1))
+  | inr same ↦ inr (same, subst (IsNoBlock cid) (sym answer.2) (answer.1, answer.3))
 ]
 delivered_sticks Known q left cid found after answer = λ c e. inl (ap (is_stuck c) (sym after) ∙ e)
 
@@ -202,19 +202,19 @@ pub own_sticks : (surely : Map) (cid now c : Cid) (own found : Option (List ℕ)
 own_sticks surely cid now c None found same own sure stuck = (stuck.0 ∙ same, no_good cid (surely cid) found (sure refl) (subst (λ (d : Cid). IsNoBlock d found) same stuck.1))
 own_sticks surely cid now c (Some bytes) found same own sure stuck = (stuck.0 ∙ same, subst (IsNoBlock cid) own (subst (λ (d : Cid). IsNoBlock d found) same stuck.1))
 
-found_of : {E : Type 0} → Result FoundAs E → Option (List ℕ)
+abbrev found_of : {E : Type 0} → Result FoundAs E → Option (List ℕ)
 found_of (Ok found) = found_in found
 found_of (Err error) = None
 
-own_found : {E X : Type 0} (own : Option (List ℕ)) (found : FoundAs) → IfSome own (λ bytes. (◌≡◌ {A = Result FoundAs E} (Ok found) (Ok (Bytes bytes))) × X) → IfSome own (λ bytes. found_in found ≡ Some bytes)
-own_found None found h = tt
-own_found (Some bytes) found h = ap found_of h.0
+own_found : (E X : Type 0) (own : Option (List ℕ)) (found : FoundAs) → IfSome own (λ bytes. (◌≡◌ {A = Result FoundAs E} (Ok found) (Ok (Bytes bytes))) × X) → IfSome own (λ bytes. found_in found ≡ Some bytes)
+own_found E X None found h = tt
+own_found E X (Some bytes) found h = ap found_of h.0
 
-pub looked_sticks : {E X : Type 0} (surely : Map) (cid now : Cid) (own : Option (List ℕ)) (found : FoundAs) (q left : Queue) → now ≡ cid → IfSome own (λ bytes. (◌≡◌ {A = Result FoundAs E} (Ok found) (Ok (Bytes bytes))) × X) → (own ≡ None → IsSurely (surely cid) (bytes_of found))
+pub looked_sticks : (E X : Type 0) (surely : Map) (cid now : Cid) (own : Option (List ℕ)) (found : FoundAs) (q left : Queue) → now ≡ cid → IfSome own (λ bytes. (◌≡◌ {A = Result FoundAs E} (Ok found) (Ok (Bytes bytes))) × X) → (own ≡ None → IsSurely (surely cid) (bytes_of found))
     → Sticks (StuckOf now (found_in found)) q left → Sticks (StuckFor surely cid own) q left
-looked_sticks surely cid now own found q left same owned sure sticks =
+looked_sticks E X surely cid now own found q left same owned sure sticks =
     sticks_weaker (StuckOf now (found_in found)) (StuckFor surely cid own) q left
-    (λ c stuck. own_sticks surely cid now c own (found_in found) same (own_found own found owned) (λ e. subst (IsSurely (surely cid)) (found_same found) (sure e)) stuck) sticks
+    (λ c stuck. own_sticks surely cid now c own (found_in found) same (own_found E X own found owned) (λ e. subst (IsSurely (surely cid)) (found_same found) (sure e)) stuck) sticks
 
 -- what is stored is a block
 

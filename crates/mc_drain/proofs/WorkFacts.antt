@@ -206,7 +206,7 @@ module _ (begins : BeginsLaw) (closed : ClosedLaw) (drained : DrainedLaw) where
 
   -- the keeper of the workers failed
   pub worked_broken : (before budget : ℕ) (finds : Finds) (root s : ReplicaState) → IsSound s.state → HasWorkedFrom true before budget finds.all root s → WorkLeads budget finds (Err error.KeeperFault) root s
-  worked_broken before budget finds.all root s sound worked = record {
+  worked_broken before budget finds root s sound worked = record {
     grows = worked.leads.grows;
     within = let few = worked.leads.few in let at = worked.counted in omega (arith, few, at);
     fuse = worked.leads.fuse;
@@ -218,7 +218,7 @@ module _ (begins : BeginsLaw) (closed : ClosedLaw) (drained : DrainedLaw) where
 
   -- a fetch of theirs failed, and all was recalled
   pub worked_recalled : (before budget : ℕ) (finds : Finds) (root s new : ReplicaState) → IsSound new.state → HasWorkedFrom false before budget finds.all root s → Leads false (count s) Always s new → WorkLeads budget finds (Err error.PeerFault) root new
-  worked_recalled before budget finds.all root s new sound worked recalled = record {
+  worked_recalled before budget finds root s new sound worked recalled = record {
     grows = leads.grows;
     within = let few = leads.few in let at = worked.counted in omega (arith, few, at);
     fuse = leads.fuse;

@@ -19,7 +19,7 @@ pub returns-in-Err-clause-leads : goal.returns-in-Err-clause-leads
 returns-in-Err-clause-leads g c = fetch_told c.in-Err.error c.end_by.result count (FetchedFor (found_by (g.F.Fetch.offers c.args.fetch.now)) c.args.job.cid c.args.job.own) _ _ c.end_by.ensures (λ s. omega arith) c.back.ensures.leads
 
 pub returns-in-Ok-clause-sticks : goal.returns-in-Ok-clause-sticks
-returns-in-Ok-clause-sticks g c = λ e. looked_sticks (surely_by (g.F.Fetch.leading c.args.fetch.now)) c.args.job.cid c.look_up.new.job.cid c.args.job.own c.in-Ok.found (shown c.args.replica.now.queue) (shown c.sort_found.new.replica.queue) c.look_up.ensures.cid c.in-Ok.ensures.own c.in-Ok.ensures.surely (c.sort_found.ensures.sticks e)
+returns-in-Ok-clause-sticks g c = λ e. looked_sticks _ _ (surely_by (g.F.Fetch.leading c.args.fetch.now)) c.args.job.cid c.look_up.new.job.cid c.args.job.own c.in-Ok.found (shown c.args.replica.now.queue) (shown c.sort_found.new.replica.queue) c.look_up.ensures.cid c.in-Ok.ensures.own c.in-Ok.ensures.surely (c.sort_found.ensures.sticks e)
 
 pub returns-in-Err-clause-sticks : goal.returns-in-Err-clause-sticks
 returns-in-Err-clause-sticks g c = λ e. sticks_free (StuckFor (surely_by (g.F.Fetch.leading c.args.fetch.now)) c.args.job.cid c.args.job.own) (shown c.args.replica.now.queue) (shown c.back.new.replica.queue) c.back.ensures.sticks

@@ -23,7 +23,7 @@ pub returns-in-Ok-clause-ends : goal.returns-in-Ok-clause-ends
 returns-in-Ok-clause-ends g c = λ e. subst (λ (cid : Cid). EndsJob (shown c.args.replica.now.queue) (shown c.deliver.new.replica.queue) cid) c.look_up.ensures.cid (c.deliver.ensures.ends e)
 
 pub returns-in-Ok-clause-sticks : goal.returns-in-Ok-clause-sticks
-returns-in-Ok-clause-sticks g c = λ e. looked_sticks (surely_by (g.F.Fetch.leading c.args.fetch.now)) c.args.job.cid c.look_up.new.job.cid c.args.job.own c.in-Ok.found (shown c.args.replica.now.queue) (shown c.deliver.new.replica.queue) c.look_up.ensures.cid c.in-Ok.ensures.own c.in-Ok.ensures.surely (c.deliver.ensures.sticks e)
+returns-in-Ok-clause-sticks g c = λ e. looked_sticks _ _ (surely_by (g.F.Fetch.leading c.args.fetch.now)) c.args.job.cid c.look_up.new.job.cid c.args.job.own c.in-Ok.found (shown c.args.replica.now.queue) (shown c.deliver.new.replica.queue) c.look_up.ensures.cid c.in-Ok.ensures.own c.in-Ok.ensures.surely (c.deliver.ensures.sticks e)
 
 pub returns-in-Err-clause-sticks : goal.returns-in-Err-clause-sticks
 returns-in-Err-clause-sticks g c = λ e. sticks_free (StuckFor (surely_by (g.F.Fetch.leading c.args.fetch.now)) c.args.job.cid c.args.job.own) (shown c.args.replica.now.queue) (shown c.back.new.replica.queue) c.back.ensures.sticks
