@@ -177,8 +177,8 @@ pub delivered_sticks : (delivered : Delivered) (q left : Queue) (cid : Cid) (fou
 delivered_sticks (Processed position) q left cid found after answer =
     let same = wants_stuck after.0 (without q (cid ∷ [])) in
     λ c e. inl (without_stuck q (cid ∷ []) c (
-      ap (λ (cids : List Cid). has c cids || has c (bad_cids (without q (cid ∷ [])).bad)) (sym (ap (λ (x : Queue). x.missing) after.1 ∙ same.0))
-      ∙ ap (λ (b : List (Cid × ℕ)). has c left.missing || has c (bad_cids b)) (sym (ap (λ (x : Queue). x.bad) after.1 ∙ same.1)) ∙ e
+    ap (λ (cids : List Cid). has c cids || has c (bad_cids (without q (cid ∷ [])).bad)) (sym (ap (λ (x : Queue). x.missing) after.1 ∙ same.0))
+    ∙ ap (λ (b : List (Cid × ℕ)). has c left.missing || has c (bad_cids b)) (sym (ap (λ (x : Queue). x.bad) after.1 ∙ same.1)) ∙ e
     ))
 delivered_sticks Missing q left cid found after answer = λ c e. elim (missing_stuck q cid c (ap (is_stuck c) (sym after) ∙ e)) [
   | inl was ↦ inl was
@@ -324,7 +324,7 @@ none_lost finds graph q lost = λ c e. let one = lost c e in
 pub drained_so : (map : Map) (run : Option Running) → NoneLost (offers_of map) (queue_in run) → (queue_in run).waiting ≡ [] → (queue_in run).flight ≡ [] → (c : Cid) → has c (wanted_in run) ≡ true → is_found (offers_of map c) ≡ false
 drained_so map None none waiting flight = λ c e. absurd (false≢true e)
 drained_so map (Some run) none waiting flight = λ c e. none c (
-  sym (has-append c run.queue.missing (bad_cids run.queue.bad))
-  ∙ ap (λ (w : List Cid). has c (w ++ ([] ++ (run.queue.missing ++ bad_cids run.queue.bad)))) (sym waiting)
-  ∙ ap (λ (f : List Cid). has c (run.queue.waiting ++ (f ++ (run.queue.missing ++ bad_cids run.queue.bad)))) (sym flight) ∙ e
-)
+    sym (has-append c run.queue.missing (bad_cids run.queue.bad))
+    ∙ ap (λ (w : List Cid). has c (w ++ ([] ++ (run.queue.missing ++ bad_cids run.queue.bad)))) (sym waiting)
+    ∙ ap (λ (f : List Cid). has c (run.queue.waiting ++ (f ++ (run.queue.missing ++ bad_cids run.queue.bad)))) (sym flight) ∙ e
+    )
