@@ -30,8 +30,9 @@ use Rattle.mc_core.specs.Refusals.{ByKind, Is, is_fault, kind_of}
 use Rattle.mc_core.proofs.GrowthFacts.{GrowLaw}
 use Rattle.mc_drain.specs.Leads.{Always, Leads, LeadsBy, all_processes, count}
 use Rattle.mc_drain.specs.Words.{IsNoBlock}
-use Rattle.mc_drain.proofs.EventFacts.{Asked, AskedBy, GoesLaw, StayLaw, breaks_by, breaks_leads, goes_by, goes_leads, stays_by, stays_leads}
+use Rattle.mc_drain.proofs.EventFacts.{Asked, AskedBy, GoesLaw, StayLaw, always_stored, breaks_by, breaks_leads, goes_by, goes_leads, stays_by, stays_leads}
 use Rattle.mc_drain.proofs.FuseFacts.{IsPaced, all_extras, burns_then, longer}
+use Rattle.mc_drain.proofs.StoredFacts.{StoredAsked, delivery_stored, drains_then}
 
 -- what is told at two moments, and what is known of the first
 pub told_with : {A B : Type 0} (P : A → B → Type 0) (Q : A → Type 0) (R : A → B → Type 0) → ((x : A) (y : B) → P x y → Q x → R x y) → (a : Option A) (b : Option B) → Told a b P → IfSome a Q → Told a b R
@@ -159,15 +160,16 @@ module _ (grow_law : GrowLaw) (goes_law : GoesLaw) (stay_law : StayLaw) where
       some (Some job) plan = breaks_leads grow_law goes_law stay_law Always faults.events rose s new (count s) faults.breaks sound (let l = ap all_processes plan.2 in omega (arith, l)) (subst IsPaced (sym plan.2) want_paced) (subst (Asked Always s.state) (sym plan.2) (next_asked s up))
 
   pub next_leads : (rose : Type 0) (result : Result (Option Job) CoreError) (s new : ReplicaState) → is_some s.state.run ≡ true → IsSound s.state → Call (Is (read_refusal s)) (NextEvents s) (NextShort s) rose result s new → Leads (is_fault result) (count s) Always s new
-  next_leads rose (Ok None) s new up sound call = goes_leads grow_law goes_law stay_law Always [] s new (count s) (subst (λ events. Goes events s new) call.makes.1 call.goes) sound (omega arith) none_paced (λ known kept p. (tt, tt))
-  next_leads rose (Ok (Some job)) s new up sound call = goes_leads grow_law goes_law stay_law Always (Want ∷ []) s new (count s) (subst (λ events. Goes events s new) call.makes.2 call.goes) sound (omega arith) want_paced (next_asked s up)
+  next_leads rose (Ok None) s new up sound call = goes_leads grow_law goes_law stay_law Always [] s new (count s) (subst (λ events. Goes events s new) call.makes.1 call.goes) sound (omega arith) none_paced (λ known kept p. (tt, tt)) (λ map h. tt)
+  next_leads rose (Ok (Some job)) s new up sound call = goes_leads grow_law goes_law stay_law Always (Want ∷ []) s new (count s) (subst (λ events. Goes events s new) call.makes.2 call.goes) sound (omega arith) want_paced (next_asked s up) (always_stored s.state (Want ∷ []) (next_asked s up))
   next_leads rose (Err error) s new up sound call = over (kind_of error) call
     where
       over : (kind : Kind) → ByKind (IsRefused (Is (read_refusal s)) error s new) (Faults (NextEvents s) rose s new) (NextShort s new) kind → Leads (is_fault_kind kind) (count s) Always s new
       over Refusal refused = stays_leads grow_law goes_law stay_law Always s new (count s) refused.1 (omega arith)
       over Fault faults = next_fault rose s new up sound faults
-      over Shortage short = goes_leads grow_law goes_law stay_law Always (Want ∷ GiveBack short.0 ∷ []) s new (count s) short.2 sound (omega arith) (tried_paced short.0)
-          (λ known kept p. ((takes_want known s.state.run up, (takes_back known short.0 (happens s.state Want).durable (happens s.state Want).run short.2.may.2.0, tt)), (tt, (tt, tt))))
+      over Shortage short = let tried : Asked Always s.state (Want ∷ GiveBack short.0 ∷ []) = λ known kept p. ((takes_want known s.state.run up, (takes_back known short.0 (happens s.state Want).durable (happens s.state Want).run short.2.may.2.0, tt)), (tt, (tt, tt))) in
+          goes_leads grow_law goes_law stay_law Always (Want ∷ GiveBack short.0 ∷ []) s new (count s) short.2 sound (omega arith) (tried_paced short.0)
+          tried (always_stored s.state (Want ∷ GiveBack short.0 ∷ []) tried)
 
   happens_leads : (s new : ReplicaState) (events : Running → List Event) → HappensIn s.state.run events s new → IsSound s.state
       → ((run : Running) → s.state.run ≡ Some run → (all_processes (events run) ≤ 0) × IsPaced (events run) × ((goes : Goes (events run) s new) → Asked Always s.state (events run))) → Leads false (count s) Always s new
@@ -176,7 +178,7 @@ module _ (grow_law : GrowLaw) (goes_law : GoesLaw) (stay_law : StayLaw) where
       over : (run : Option Running) → s.state.run ≡ run → HappensIn run events s new → IsSound s.state → ((run : Running) → s.state.run ≡ Some run → (all_processes (events run) ≤ 0) × IsPaced (events run) × ((goes : Goes (events run) s new) → Asked Always s.state (events run)))
           → Leads false (count s) Always s new
       over None e same sound each = stays_leads grow_law goes_law stay_law Always s new (count s) same (omega arith)
-      over (Some run) e goes sound each = let here = each run e in goes_leads grow_law goes_law stay_law Always (events run) s new (count s) goes sound (let e = here.0 in omega (arith, e)) here.1 (here.2 goes)
+      over (Some run) e goes sound each = let here = each run e in goes_leads grow_law goes_law stay_law Always (events run) s new (count s) goes sound (let e = here.0 in omega (arith, e)) here.1 (here.2 goes) (always_stored s.state (events run) (here.2 goes))
 
   pub back_leads : (c : Cid) (s new : ReplicaState) → HappensIn s.state.run (λ run. cond (has c run.queue.flight) (GiveBack c ∷ []) []) s new → IsSound s.state → Leads false (count s) Always s new
   back_leads c s new happens_ sound = happens_leads s new (λ run. cond (has c run.queue.flight) (GiveBack c ∷ []) []) happens_ sound (λ run e. (none (has c run.queue.flight), back_paced (has c run.queue.flight) c, asked (has c run.queue.flight)))
@@ -226,11 +228,20 @@ module _ (grow_law : GrowLaw) (goes_law : GoesLaw) (stay_law : StayLaw) where
           | false ↦ λ e plan. (nothing_asked c found (record { durable = durable; run = Some run }) events plan.1, let l = ap all_processes plan.1 in omega (arith, l))
         ] refl plan
 
+    delivers_stored : (c : Cid) (found : Option (List ℕ)) (durable : Durable) (run : Option Running) (events : List Event) (answer : Delivered) → DeliversIn (has c (queue_in run).flight) durable c found events answer
+        → StoredAsked (record { durable = durable; run = run }) events
+    delivers_stored c found durable None events answer plan = subst (StoredAsked (record { durable = durable; run = None })) (sym plan.1) (λ map h. tt)
+    delivers_stored c found durable (Some run) events answer plan =
+        elim (has c run.queue.flight) as (λ t. has c run.queue.flight ≡ t → DeliversIn t durable c found events answer → StoredAsked (record { durable = durable; run = Some run }) events) [
+          | true ↦ λ e plan. subst (StoredAsked (record { durable = durable; run = Some run })) (sym plan.0) (delivery_stored durable run c found (λ bytes_of is. takes_law bytes_of durable run c found e is))
+          | false ↦ λ e plan. subst (StoredAsked (record { durable = durable; run = Some run })) (sym plan.1) (λ map h. tt)
+        ] refl plan
+
     pub deliver_by : (c : Cid) (found : Option (List ℕ)) (more : ℕ) (rose : Type 0) (result : Result Delivered CoreError) (s new : ReplicaState) → IsSound s.state → all_processes (delivery s.state.durable.graph c found) ≤ more
         → Call (Is (read_refusal s)) (DeliverEvents s c found) (DeliverShort s c) rose result s new → LeadsBy (is_fault result) (count s + more) (λ known kept. IsFoundFor known c found) (λ known kept. known c ≡ found) s new
     deliver_by c found more rose (Ok answer) s new sound few call =
         let asked = delivers_asked c found s.state.durable s.state.run call.events answer call.makes in
-        goes_by grow_law goes_law stay_law (λ known kept. IsFoundFor known c found) (λ known kept. known c ≡ found) call.events s new (count s + more) call.goes sound (omega (arith, asked.1, few)) (delivers_paced (has c (queue_in s.state.run).flight) s.state.durable c found call.events answer call.makes) asked.0
+        goes_by grow_law goes_law stay_law (λ known kept. IsFoundFor known c found) (λ known kept. known c ≡ found) call.events s new (count s + more) call.goes sound (omega (arith, asked.1, few)) (delivers_paced (has c (queue_in s.state.run).flight) s.state.durable c found call.events answer call.makes) asked.0 (delivers_stored c found s.state.durable s.state.run call.events answer call.makes)
     deliver_by c found more rose (Err error) s new sound few call = over (kind_of error) call
       where
         over : (kind : Kind) → ByKind (IsRefused (Is (read_refusal s)) error s new) (Faults (DeliverEvents s c found) rose s new) (DeliverShort s c new) kind → LeadsBy (is_fault_kind kind) (count s + more) (λ known kept. IsFoundFor known c found) (λ known kept. known c ≡ found) s new
@@ -242,7 +253,7 @@ module _ (grow_law : GrowLaw) (goes_law : GoesLaw) (stay_law : StayLaw) where
               breaks_by grow_law goes_law stay_law (λ known kept. IsFoundFor known c found) (λ known kept. known c ≡ found) faults.events rose s new (count s + more) faults.breaks sound (omega (arith, asked.1, few)) (delivers_paced (has c (queue_in s.state.run).flight) s.state.durable c found faults.events answer plan) asked.0)
         ]
         over Shortage short = goes_by grow_law goes_law stay_law (λ known kept. IsFoundFor known c found) (λ known kept. known c ≡ found) (GiveBack c ∷ []) s new (count s + more) short.1 sound (omega arith) (back_paced true c)
-            (λ known kept p. (takes_back known c s.state.durable s.state.run short.1.may.0, tt), λ known kept p. (tt, tt))
+            (λ known kept p. (takes_back known c s.state.durable s.state.run short.1.may.0, tt), λ known kept p. (tt, tt)) (λ map h. (takes_back map c s.state.durable s.state.run short.1.may.0, tt))
 
 -- two parts of a call
 pub leads_then : (failed : Bool) (first most : ℕ) (P Q R : Map → List Cid → Type 0) (s mid new : ReplicaState) → Leads false first P s mid → Leads failed most Q mid new
@@ -254,6 +265,7 @@ leads_then failed first most P Q R s mid new a b join = record {
   goes = λ e known kept r old start h. let both = join known kept old start r h in b.goes e known kept both.1 old start (a.goes refl known kept both.0 old start h);
   parts = λ e known kept r old start h f. let both = join known kept old start r h in b.parts e known kept both.1 old start (a.goes refl known kept both.0 old start h) (a.parts refl known kept both.0 old start h f);
   breaks = λ e known kept r old start h. let both = join known kept old start r h in b.breaks e known kept both.1 old start (a.goes refl known kept both.0 old start h);
+  whatever = λ e. drains_then s mid new b.grows (a.whatever refl) (b.whatever e);
 }
 
 -- a part of a call that allows more, for less
@@ -265,6 +277,7 @@ leads_weaker failed few most P Q s new a more weaker = record {
   goes = λ e known kept q. a.goes e known kept (weaker known kept q);
   parts = λ e known kept q. a.parts e known kept (weaker known kept q);
   breaks = λ e known kept q. a.breaks e known kept (weaker known kept q);
+  whatever = a.whatever;
 }
 
 -- the same of a delivery where all is known that is found
@@ -276,4 +289,5 @@ leads_alike failed most P R s new a weaker = record {
   goes = λ e known kept r. a.goes e known kept (weaker known kept r);
   parts = a.parts;
   breaks = λ e known kept r. a.breaks e known kept (weaker known kept r);
+  whatever = a.whatever;
 }

@@ -20,6 +20,7 @@ use Rattle.mc_drain.specs.declared.end.DrainEnd.TheVariants.{Spent}
 use Rattle.mc_drain.specs.Leads.{Always, Leads, count, up_to}
 use Rattle.mc_drain.specs.Words.{AllGood, DrainLeads, Fetched, NothingStuck, is_keeper}
 use Rattle.mc_drain.proofs.FuseFacts.{burns_then, longer}
+use Rattle.mc_drain.proofs.StoredFacts.{drains_then}
 
 -- after a requeue nothing is stuck
 pub nothing_stuck : (told : Option Kept) (fuse : Option Fuse) (stop : Bool) (run : Running) (q : Queue) → stop ≡ false → run.queue ≡ requeue q → IfSome (state_of told fuse (run_of stop run)) NothingStuck
@@ -50,6 +51,7 @@ drain_ended end limit offers (Some s) (Some mid) (Some new) unspent first stuck 
   parts = λ e map kept f old start h. next.parts e map kept f old start (first.goes refl map kept tt old start h) (stuck_fits map (queue_in mid.state.run) stuck.0 stuck.1);
   breaks = λ e map kept f old start h. next.breaks e map kept f old start (first.goes refl map kept tt old start h);
   good = λ e. absurd (unspent e);
+  whatever = λ e. drains_then s mid new next.grows (first.whatever refl) (next.whatever e);
 }
 
 -- it came to the limit, and what waits was parted
@@ -71,6 +73,7 @@ drain_parted end limit offers waiting (Some s) (Some mid) (Some now) (Some new) 
       (next.parts refl map kept f old start (first.goes refl map kept tt old start h) (stuck_fits map (queue_in mid.state.run) stuck.0 stuck.1));
   breaks = λ e map kept f old start h. last.breaks e map kept f old start (come map kept f old start h);
   good = λ e map kept f old start h c w. good e map kept f old start (come map kept f old start h) c (subst (λ (cids : List Cid). has c cids ≡ true) (shown e) w);
+  whatever = λ e. drains_then s now new last.grows (drains_then s mid now next.grows (first.whatever refl) (next.whatever refl)) (last.whatever e);
 }
   where
     come_on : GoesOn s.state.durable now.state.durable

@@ -14,7 +14,8 @@ use Rattle.mc_keep.specs.Causes.{fires, CommitFails}
 use Rattle.mc_core.specs.Events.{Breaks, Goes, IsCutShort, ReplicaState, all_happen}
 use Rattle.mc_core.proofs.GrowthFacts.{GrowLaw, breaks_grows, goes_grows, same_goes}
 use Rattle.mc_core.proofs.SoundFacts.{all_after, goes_sound, may_all}
-use Rattle.mc_drain.specs.Leads.{HasBrokenOff, Leads, LeadsBy, all_processes, count, processes}
+use Rattle.mc_drain.specs.Leads.{Always, HasBrokenOff, Leads, LeadsBy, StoredIn, all_processes, count, processes}
+use Rattle.mc_drain.proofs.StoredFacts.{StoredAsked}
 use Rattle.mc_drain.proofs.FuseFacts.{IsPaced, breaks_burns, burns_none, goes_burns}
 
 abbrev order_of : State → List Cid
@@ -123,6 +124,10 @@ AskedBy P R state events =
 pub asked_by : (P : Map → List Cid → Type 0) (state : State) (events : List Event) → Asked P state events → AskedBy P P state events
 asked_by P state events asked = (λ map kept p. (asked map kept p).0, λ map kept p. (asked map kept p).1)
 
+-- what needs nothing to be known of what is found
+pub always_stored : (state : State) (events : List Event) → Asked Always state events → StoredAsked state events
+always_stored state events asked = λ map h. (asked map [] tt).0
+
 -- what is left where the keeper failed at a commit
 pub fails_left : (map : Map) (old : Durable) (start : List Cid) (fire : Option Bool) (rose : Type 0) (before whole left : Durable) → CommitFails fire rose before whole left → HasBrokenOff map old start before → HasBrokenOff map old start whole
     → HasBrokenOff map old start left
@@ -141,8 +146,8 @@ fails_count (Some true) rose before whole left more (inr (r, e)) p = let l = ap 
 
 module _ (grow_law : GrowLaw) (goes_law : GoesLaw) (stay_law : StayLaw) where
   -- all events have happened
-  pub goes_by : (P R : Map → List Cid → Type 0) (events : List Event) (s new : ReplicaState) (most : ℕ) → Goes events s new → IsSound s.state → count s + all_processes events ≤ most → IsPaced events → AskedBy P R s.state events → LeadsBy false most P R s new
-  goes_by P R events s new most goes sound few paced asked =
+  pub goes_by : (P R : Map → List Cid → Type 0) (events : List Event) (s new : ReplicaState) (most : ℕ) → Goes events s new → IsSound s.state → count s + all_processes events ≤ most → IsPaced events → AskedBy P R s.state events → StoredAsked s.state events → LeadsBy false most P R s new
+  goes_by P R events s new most goes sound few paced asked stored =
       let is : new.state ≡ after s.state events = ap (λ (x : ReplicaState). x.state) goes.ends ∙ all_after events s in
       let grown = all_grown s.state events in
       let len : count new ≡ length (order_of (after s.state events)) = ap (λ (x : State). length (order_of x)) is in
@@ -153,10 +158,11 @@ module _ (grow_law : GrowLaw) (goes_law : GoesLaw) (stay_law : StayLaw) where
         goes = λ ok map kept p old start h. subst (HasDrained map kept old start) (sym is) (goes_law map kept old start s.state events sound (may_all events s goes.may) (asked.0 map kept p) h);
         parts = λ ok map kept p old start h f. subst (λ (x : State). PartsFit (offers_of map) (queue_in x.run)) (sym is) (stay_law (offers_of map) s.state events (asked.1 map kept p) f);
         breaks = λ e. absurd (false≢true e);
+        whatever = λ ok map kept h old start d. subst (HasDrained map kept old start) (sym is) (goes_law map kept old start s.state events sound (may_all events s goes.may) (stored map (subst (λ (x : State). StoredIn map x.durable) is h)) d);
       }
 
-  pub goes_leads : (P : Map → List Cid → Type 0) (events : List Event) (s new : ReplicaState) (most : ℕ) → Goes events s new → IsSound s.state → count s + all_processes events ≤ most → IsPaced events → Asked P s.state events → Leads false most P s new
-  goes_leads P events s new most goes sound few paced asked = goes_by P P events s new most goes sound few paced (asked_by P s.state events asked)
+  pub goes_leads : (P : Map → List Cid → Type 0) (events : List Event) (s new : ReplicaState) (most : ℕ) → Goes events s new → IsSound s.state → count s + all_processes events ≤ most → IsPaced events → Asked P s.state events → StoredAsked s.state events → Leads false most P s new
+  goes_leads P events s new most goes sound few paced asked stored = goes_by P P events s new most goes sound few paced (asked_by P s.state events asked) stored
 
   -- nothing has happened
   pub stays_by : (P R : Map → List Cid → Type 0) (s new : ReplicaState) (most : ℕ) → new ≡ s → count s ≤ most → LeadsBy false most P R s new
@@ -167,6 +173,7 @@ module _ (grow_law : GrowLaw) (goes_law : GoesLaw) (stay_law : StayLaw) where
     goes = λ ok map kept p old start h. subst (λ (x : ReplicaState). HasDrained map kept old start x.state) (sym same) h;
     parts = λ ok map kept p old start h f. subst (λ (x : ReplicaState). PartsFit (offers_of map) (queue_in x.state.run)) (sym same) f;
     breaks = λ e. absurd (false≢true e);
+    whatever = λ ok map kept stored old start h. subst (λ (x : ReplicaState). HasDrained map kept old start x.state) (sym same) h;
   }
 
   pub stays_leads : (P : Map → List Cid → Type 0) (s new : ReplicaState) (most : ℕ) → new ≡ s → count s ≤ most → Leads false most P s new
@@ -209,6 +216,7 @@ module _ (grow_law : GrowLaw) (goes_law : GoesLaw) (stay_law : StayLaw) where
             cut_left map kept old start b.rest rose mid new b.fate (goes_sound b.so_far s mid (record { may = b.may; ends = refl }) sound)
             (subst (λ (x : State). TakesAll map x b.rest) (sym is) (takes_back map s.state b.so_far b.rest takes))
             (subst (HasDrained map kept old start) (sym is) (goes_law map kept old start s.state b.so_far sound (may_all b.so_far s b.may) (takes_front map s.state b.so_far b.rest takes) h));
+        whatever = λ e. absurd (false≢true (sym e));
       }
 
   pub breaks_leads : (P : Map → List Cid → Type 0) (events : List Event) (rose : Type 0) (s new : ReplicaState) (most : ℕ) → Breaks events rose s new → IsSound s.state → count s + all_processes events ≤ most → IsPaced events → Asked P s.state events → Leads true most P s new

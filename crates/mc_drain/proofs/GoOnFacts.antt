@@ -10,6 +10,7 @@ use Rattle.mc_core.specs.Events.{ReplicaState}
 use Rattle.mc_core.proofs.GrowthFacts.{same_goes}
 use Rattle.mc_drain.specs.Leads.{LeadsBy, Never, commits_between, count}
 use Rattle.mc_drain.proofs.FuseFacts.{burns_then, fuse_stays, longer}
+use Rattle.mc_drain.proofs.StoredFacts.{drains_itself, drains_then}
 
 -- a state leads to itself
 pub leads_itself : (most : ℕ) (P R : Map → List Cid → Type 0) (s : ReplicaState) → count s ≤ most → LeadsBy false most P R s s
@@ -20,6 +21,7 @@ leads_itself most P R s few = record {
   goes = λ well map kept p old start h. h;
   parts = λ well map kept p old start h f. f;
   breaks = λ e. absurd (false≢true e);
+  whatever = λ well. drains_itself s;
 }
 
 -- what calls led to, and the next call
@@ -32,4 +34,5 @@ leads_go_on failed first most last P Q R s mid new before next more join = recor
   goes = λ well map kept p old start h. next.goes well map kept (join map kept old start p h) old start (before.goes refl map kept p old start h);
   parts = λ well map kept never. absurd never;
   breaks = λ e map kept p old start h. next.breaks e map kept (join map kept old start p h) old start (before.goes refl map kept p old start h);
+  whatever = λ well. drains_then s mid new next.grows (before.whatever refl) (next.whatever well);
 }

@@ -5,11 +5,13 @@ pub mod FuseFacts
 pub mod GoOnFacts
 pub mod JobFacts
 pub mod LeaveFacts
+pub mod LostFacts
 pub mod QueueFacts
 pub mod ReachFacts
 pub mod RepairAnswers
 pub mod RepairFacts
 pub mod SortFacts
+pub mod StoredFacts
 pub mod TakeFacts
 pub mod TurnFacts
 pub mod WalkFacts

@@ -5,12 +5,13 @@ use Rattle.std.proofs.lemmas.Bool.{false≢true}
 use Rattle.mc_base.specs.Told.{Told}
 use Rattle.mc_base.specs.declared.cid.Cid.{Cid}
 use Rattle.mc_fetch.specs.Fits.{Map}
-use Rattle.mc_model.specs.Draining.{HasDrained, bytes_in, queue_in}
+use Rattle.mc_model.specs.Drain.{IsDrained}
+use Rattle.mc_model.specs.Draining.{HasDrained, bytes_in, offers_of, queue_in}
 use Rattle.mc_model.specs.Events.{GoesOn}
 use Rattle.mc_model.specs.Graph.{Vertex, cids_in, has}
 use Rattle.mc_model.specs.Repairing.{HasRepaired, with_gaps}
 use Rattle.mc_model.specs.State.{Durable, IsSound, IsWhole, Running, State, kept_of, wanted_in}
-use Rattle.mc_model.specs.Wanted.{wanted}
+use Rattle.mc_model.specs.Wanted.{Queue, wanted}
 use Rattle.mc_keep.specs.declared.fuse.Fuse.{Fuse}
 use Rattle.mc_model.specs.Kept.{Kept}
 use Rattle.mc_model.proofs.Prefix.{goes_on_then}
@@ -26,15 +27,18 @@ use Rattle.mc_drain.specs.declared.end.DrainEnd.TheVariants as end
 use Rattle.mc_drain.specs.declared.repairing.Repaired.{Repaired}
 use Rattle.mc_drain.specs.declared.working.WorkError.{WorkError}
 use Rattle.mc_drain.specs.declared.working.WorkError.TheVariants as error
-use Rattle.mc_drain.specs.Finds.{first_bytes, found_from}
-use Rattle.mc_drain.specs.Leads.{Always, FuseGoes, Leads, LeadsBy, Never, commits_between, count, up_to}
+use Rattle.mc_drain.specs.Finds.{Finds, first_bytes, found_from, surely_from}
+use Rattle.mc_drain.specs.Leads.{Always, DrainsOn, FuseGoes, Leads, LeadsBy, Never, commits_between, count, up_to}
 use Rattle.mc_drain.specs.Repairs.{IsPartRepaired, RepairAnswer, RepairLeads, Walks, repair_start, repaired_of, walk_error}
 use Rattle.mc_drain.specs.Rounds.{FindsFrom, HasWalkedFrom, HasWorkedFrom}
 use Rattle.mc_drain.specs.Words.{DrainLeads, Fetched, IsBroken, is_keeper}
-use Rattle.mc_drain.specs.Works.{IsAtEnd, IsPartOf}
+use Rattle.mc_drain.specs.Lost.{AreLost}
+use Rattle.mc_drain.specs.Works.{IsAtEnd, IsPartOf, IsPartly, stored_bytes}
 use Rattle.mc_drain.proofs.EventFacts.{broken_at}
 use Rattle.mc_drain.proofs.FuseFacts.{burns_around, burns_before, fuse_more, fuse_stays, fuse_then, longer}
 use Rattle.mc_drain.proofs.GoOnFacts.{leads_go_on, leads_itself}
+use Rattle.mc_drain.proofs.LostFacts.{drained_so, lost_at, none_lost}
+use Rattle.mc_drain.proofs.StoredFacts.{stored_back}
 use Rattle.mc_drain.proofs.ReachFacts.{MayReach}
 use Rattle.mc_drain.proofs.WalkFacts.{broken_repair, walks_stay}
 use Rattle.mc_drain.proofs.WorkFacts.{BeginsLaw, ClosedLaw, DrainedLaw, Leaves, begun, drain_after, drained_at, kept_bytes, some_is, wanted_same}
@@ -77,10 +81,18 @@ still_found graph more None map grows stored is = is
 still_found graph more (Some offered) map grows stored is =
     let each = same_bytes graph more offered map grows stored (some_is (λ c. first_bytes (bytes_in graph c) (offered c)) map is) in λ i. Some (λ c. each c i)
 
+-- what is stored at last is found where less is stored
+found_stored : (s new : ReplicaState) → GoesOn s.state.durable new.state.durable → found_from s.state.durable.graph (Some (stored_bytes new)) ≡ Some (stored_bytes new)
+found_stored s new grows = let each : (c : Cid) → first_bytes (bytes_in s.state.durable.graph c) (stored_bytes new c) ≡ stored_bytes new c = λ c. over c (bytes_in s.state.durable.graph c) refl in λ i. Some (λ c. each c i)
+  where
+    over : (c : Cid) (own : Option (List ℕ)) → bytes_in s.state.durable.graph c ≡ own → first_bytes (bytes_in s.state.durable.graph c) (stored_bytes new c) ≡ stored_bytes new c
+    over c None e = ap (λ (o : Option (List ℕ)). first_bytes o (stored_bytes new c)) e
+    over c (Some bytes) e = ap (λ (o : Option (List ℕ)). first_bytes o (stored_bytes new c)) e ∙ sym (stored_back (stored_bytes new) s.state.durable new.state.durable grows (λ d other h. h) c bytes e)
+
 -- a replica that had stopped
-pub still_repairs : (budget : ℕ) (offers : Option Map) (a : Option ReplicaState) → IfSome a (λ s. IsSound s.state) → Told a a (λ s new. RepairLeads budget offers (Err error.Stopped) s new)
-still_repairs budget offers None sound = tt
-still_repairs budget offers (Some s) sound = record {
+pub still_repairs : (budget : ℕ) (finds : Finds) (a : Option ReplicaState) → IfSome a (λ s. IsSound s.state) → Told a a (λ s new. RepairLeads budget finds (Err error.Stopped) s new)
+still_repairs budget finds None sound = tt
+still_repairs budget finds (Some s) sound = record {
   grows = same_goes s.state.durable;
   within = omega arith;
   fuse = fuse_stays false (commits_between false s s + 1) s.fuse;
@@ -88,11 +100,12 @@ still_repairs budget offers (Some s) sound = record {
   reaches = tt;
   sound = sound;
   is = λ map here. refl;
+  surely = refl;
 }
 
-pub repairs_still : (a : Option ReplicaState) → IfSome a (λ s. IsSound s.state) → Told a a (λ s new. (budget : ℕ) (offers : Option Map) → RepairLeads budget offers (Err error.Stopped) s new)
+pub repairs_still : (a : Option ReplicaState) → IfSome a (λ s. IsSound s.state) → Told a a (λ s new. (budget : ℕ) (finds : Finds) → RepairLeads budget finds (Err error.Stopped) s new)
 repairs_still None sound = tt
-repairs_still (Some s) sound = λ budget offers. still_repairs budget offers (Some s) sound
+repairs_still (Some s) sound = λ budget finds. still_repairs budget finds (Some s) sound
 
 -- both are told, and nothing is said of them
 pub nothing_walked : (failed : Bool) (a r b : Option ReplicaState) → Told a r (λ s new. Leads false (count s) Always s new) → Told r b (λ s new. Walks failed 1 s new) → Told a b (λ s new. ⊤)
@@ -163,23 +176,35 @@ module _ (begins : BeginsLaw) (repair_begins : RepairBeginsLaw) (joins : JoinsLa
         record { repairing = repair.repairing; stored = repair.stored; taken = repair.taken; own = own },
       )
 
+  -- whatever was found
+  partly_from : (s m new : ReplicaState) → IsSound new.state → GoesOn m.state.durable new.state.durable → HasWalkedFrom s m → DrainsOn m new → IsPartly (repair_start s) s new × IsPartRepaired (stored_bytes new) s new
+  partly_from s m new sound more here on =
+      on_from_walk (Some (stored_bytes new)) (stored_bytes new) s m new (found_stored s new (goes_on_then s.state.durable m.state.durable new.state.durable here.grows more)) sound more here
+      (λ old start h. on (stored_bytes new) (cids_in m.state.durable.graph) (λ c bytes e. e) old start h)
+
   module _ (closed : ClosedLaw) (drained : DrainedLaw) where
-    repair_is : (stop : DrainEnd) (budget limit before : ℕ) (offers : Option Map) (result : Result Repaired WorkError) (s m new : ReplicaState) → limit ≡ capped (before + budget) → before ≡ capped (count m) → RepairAnswer stop before (Some new) result
-        → HasWalkedFrom s m → Leaves stop new → MayReach new → DrainLeads stop limit (FindsFrom offers m.state.durable.graph) m new → RepairLeads budget offers result s new
-    repair_is end.Idle budget limit before offers result s m new is at answer here leaves reached leads =
-        subst (λ (x : Result Repaired WorkError). RepairLeads budget offers x s new) (sym answer.1) (by_gaps answer.0 answer.2)
+    repair_is : (stop : DrainEnd) (budget limit before : ℕ) (finds : Finds) (result : Result Repaired WorkError) (s m new : ReplicaState) → limit ≡ capped (before + budget) → before ≡ capped (count m) → RepairAnswer stop before (Some new) result
+        → HasWalkedFrom s m → Leaves stop new → MayReach new → DrainLeads stop limit (FindsFrom finds.all m.state.durable.graph) m new → (is_keeper stop ≡ false → AreLost finds.surely s.state.durable.graph (queue_in new.state.run)) → RepairLeads budget finds result s new
+    repair_is end.Idle budget limit before finds result s m new is at answer here leaves reached leads lost =
+        subst (λ (x : Result Repaired WorkError). RepairLeads budget finds x s new) (sym answer.1) (by_gaps answer.0 answer.2)
       where
-        at_end : (map : Map) → found_from s.state.durable.graph offers ≡ Some map → IsAtEnd map (repair_start s) s new
+        at_end : (map : Map) → found_from s.state.durable.graph finds.all ≡ Some map → IsAtEnd map (repair_start s) s new
         at_end map f =
-            let finds = here.finds offers map f in
+            let at_walk = here.finds finds.all map f in
             let kept : List Cid = cids_in m.state.durable.graph in
-            let parts = leads.parts refl map kept (finds.0, refl) s.state.durable (repair_start s) finds.1 in
+            let parts = leads.parts refl map kept (at_walk.0, refl) s.state.durable (repair_start s) at_walk.1 in
             record {
-              closure = closed map kept s.state.durable (repair_start s) new.state leaves.sound (drained_at drained map new.state.run parts (leaves.waiting refl) (leaves.flight refl)) (leads.goes refl map kept (finds.0, refl) s.state.durable (repair_start s) finds.1);
+              closure = closed map kept s.state.durable (repair_start s) new.state leaves.sound (drained_at drained map new.state.run parts (leaves.waiting refl) (leaves.flight refl)) (leads.goes refl map kept (at_walk.0, refl) s.state.durable (repair_start s) at_walk.1);
               parts = parts;
             }
 
-        by_gaps : (left : Settled) → left ≡ settled_with (gap_count (kept_of new.state.durable)) → RepairLeads budget offers (Ok (repaired_of left)) s new
+        done : IsPartly (repair_start s) s new × IsDrained (offers_of (surely_from s.state.durable.graph finds)) new.state
+        done = (
+          (partly_from s m new leaves.sound leads.grows here (leads.whatever refl)).0,
+          drained_so (surely_from s.state.durable.graph finds) new.state.run (none_lost finds s.state.durable.graph (queue_in new.state.run) (lost refl)) (leaves.waiting refl) (leaves.flight refl),
+        )
+
+        by_gaps : (left : Settled) → left ≡ settled_with (gap_count (kept_of new.state.durable)) → RepairLeads budget finds (Ok (repaired_of left)) s new
         by_gaps settled.Clean e = record {
           grows = goes_on_then s.state.durable m.state.durable new.state.durable here.grows leads.grows;
           within = let more = longer m new leads.grows in omega (arith, here.same, leads.within, more, is, at);
@@ -188,6 +213,7 @@ module _ (begins : BeginsLaw) (repair_begins : RepairBeginsLaw) (joins : JoinsLa
           reaches = reached (sym e);
           sound = leaves.sound;
           is = at_end;
+          surely = done;
         }
         by_gaps (settled.Open gaps) e = record {
           grows = goes_on_then s.state.durable m.state.durable new.state.durable here.grows leads.grows;
@@ -197,9 +223,10 @@ module _ (begins : BeginsLaw) (repair_begins : RepairBeginsLaw) (joins : JoinsLa
           reaches = tt;
           sound = leaves.sound;
           is = at_end;
+          surely = done;
         }
-    repair_is end.Spent budget limit before offers result s m new is at answer here leaves reached leads =
-        subst (λ (x : Result Repaired WorkError). RepairLeads budget offers x s new) (sym answer.1) (record {
+    repair_is end.Spent budget limit before finds result s m new is at answer here leaves reached leads lost =
+        subst (λ (x : Result Repaired WorkError). RepairLeads budget finds x s new) (sym answer.1) (record {
           grows = goes_on_then s.state.durable m.state.durable new.state.durable here.grows leads.grows;
           within = let more = longer m new leads.grows in omega (arith, here.same, leads.within, more, is, at);
           fuse = burns_walked false s m new here.same (longer m new leads.grows) here.fuse leads.fuse;
@@ -207,26 +234,28 @@ module _ (begins : BeginsLaw) (repair_begins : RepairBeginsLaw) (joins : JoinsLa
           reaches = tt;
           sound = leaves.sound;
           is = λ map f.
-              let finds = here.finds offers map f in
+              let at_walk = here.finds finds.all map f in
               let kept : List Cid = cids_in m.state.durable.graph in
               record {
-                drained = (on_from_walk offers map s m new f leaves.sound leads.grows here (leads.goes refl map kept (finds.0, refl))).0;
-                parts = leads.parts refl map kept (finds.0, refl) s.state.durable (repair_start s) finds.1;
-                good = leads.good refl map kept (finds.0, refl) s.state.durable (repair_start s) finds.1;
+                drained = (on_from_walk finds.all map s m new f leaves.sound leads.grows here (leads.goes refl map kept (at_walk.0, refl))).0;
+                parts = leads.parts refl map kept (at_walk.0, refl) s.state.durable (repair_start s) at_walk.1;
+                good = leads.good refl map kept (at_walk.0, refl) s.state.durable (repair_start s) at_walk.1;
               };
+          surely = ((partly_from s m new leaves.sound leads.grows here (leads.whatever refl)).0, none_lost finds s.state.durable.graph (queue_in new.state.run) (lost refl));
         })
-    repair_is end.KeeperFault budget limit before offers result s m new is at answer here leaves reached leads =
-        subst (λ (x : Result Repaired WorkError). RepairLeads budget offers x s new) (sym answer) (record {
+    repair_is end.KeeperFault budget limit before finds result s m new is at answer here leaves reached leads lost =
+        subst (λ (x : Result Repaired WorkError). RepairLeads budget finds x s new) (sym answer) (record {
           grows = goes_on_then s.state.durable m.state.durable new.state.durable here.grows leads.grows;
           within = let more = longer m new leads.grows in omega (arith, here.same, leads.within, more, is, at);
           fuse = burns_walked true s m new here.same (longer m new leads.grows) here.fuse leads.fuse;
           counts = tt;
           reaches = tt;
           sound = leaves.sound;
-          is = λ map f. let finds = here.finds offers map f in leads.breaks refl map (cids_in m.state.durable.graph) (finds.0, refl) s.state.durable (repair_start s) finds.1;
+          is = λ map f. let at_walk = here.finds finds.all map f in leads.breaks refl map (cids_in m.state.durable.graph) (at_walk.0, refl) s.state.durable (repair_start s) at_walk.1;
+          surely = tt;
         })
-    repair_is end.PeerFault budget limit before offers result s m new is at answer here leaves reached leads =
-        subst (λ (x : Result Repaired WorkError). RepairLeads budget offers x s new) (sym answer) (record {
+    repair_is end.PeerFault budget limit before finds result s m new is at answer here leaves reached leads lost =
+        subst (λ (x : Result Repaired WorkError). RepairLeads budget finds x s new) (sym answer) (record {
           grows = goes_on_then s.state.durable m.state.durable new.state.durable here.grows leads.grows;
           within = let more = longer m new leads.grows in omega (arith, here.same, leads.within, more, is, at);
           fuse = burns_walked false s m new here.same (longer m new leads.grows) here.fuse leads.fuse;
@@ -234,14 +263,15 @@ module _ (begins : BeginsLaw) (repair_begins : RepairBeginsLaw) (joins : JoinsLa
           reaches = tt;
           sound = leaves.sound;
           is = λ map f.
-              let finds = here.finds offers map f in
+              let at_walk = here.finds finds.all map f in
               let kept : List Cid = cids_in m.state.durable.graph in
-              let goes = leads.goes refl map kept (finds.0, refl) in
-              let on = on_from_walk offers map s m new f leaves.sound leads.grows here goes in
-              (on.0, on.1, broken_at map kept s.state.durable (repair_start s) new.state (goes s.state.durable (repair_start s) finds.1));
+              let goes = leads.goes refl map kept (at_walk.0, refl) in
+              let on = on_from_walk finds.all map s m new f leaves.sound leads.grows here goes in
+              (on.0, on.1, broken_at map kept s.state.durable (repair_start s) new.state (goes s.state.durable (repair_start s) at_walk.1));
+          surely = partly_from s m new leaves.sound leads.grows here (leads.whatever refl);
         })
-    repair_is end.Memory budget limit before offers result s m new is at answer here leaves reached leads =
-        subst (λ (x : Result Repaired WorkError). RepairLeads budget offers x s new) (sym answer) (record {
+    repair_is end.Memory budget limit before finds result s m new is at answer here leaves reached leads lost =
+        subst (λ (x : Result Repaired WorkError). RepairLeads budget finds x s new) (sym answer) (record {
           grows = goes_on_then s.state.durable m.state.durable new.state.durable here.grows leads.grows;
           within = let more = longer m new leads.grows in omega (arith, here.same, leads.within, more, is, at);
           fuse = burns_walked false s m new here.same (longer m new leads.grows) here.fuse leads.fuse;
@@ -249,37 +279,40 @@ module _ (begins : BeginsLaw) (repair_begins : RepairBeginsLaw) (joins : JoinsLa
           reaches = tt;
           sound = leaves.sound;
           is = λ map f.
-              let finds = here.finds offers map f in
+              let at_walk = here.finds finds.all map f in
               let kept : List Cid = cids_in m.state.durable.graph in
-              let goes = leads.goes refl map kept (finds.0, refl) in
-              ((on_from_walk offers map s m new f leaves.sound leads.grows here goes).1, broken_at map kept s.state.durable (repair_start s) new.state (goes s.state.durable (repair_start s) finds.1));
+              let goes = leads.goes refl map kept (at_walk.0, refl) in
+              ((on_from_walk finds.all map s m new f leaves.sound leads.grows here goes).1, broken_at map kept s.state.durable (repair_start s) new.state (goes s.state.durable (repair_start s) at_walk.1));
+          surely = (partly_from s m new leaves.sound leads.grows here (leads.whatever refl)).1;
         })
 
     -- where workers have led from the walk's end, and a drain from there
-    pub finish_repair_told : (stop : DrainEnd) (budget limit before : ℕ) (offers : Option Map) (result : Result Repaired WorkError) (a b : Option ReplicaState) → limit ≡ capped (before + budget) → RepairAnswer stop before b result
-        → IfSome b (Leaves stop) → IfSome b MayReach → Told a b (λ s new. DrainLeads stop limit (Fetched offers) s new)
-        → Told a b (λ s new. (root walked : ReplicaState) → HasWalkedFrom root walked → HasWorkedFrom false before budget offers walked s → RepairLeads budget offers result root new)
-    finish_repair_told stop budget limit before offers result None b is answer leaves reached leads = tt
-    finish_repair_told stop budget limit before offers result (Some s) None is answer leaves reached leads = absurd leads
-    finish_repair_told stop budget limit before offers result (Some s) (Some new) is answer leaves reached leads = λ root walked here worked.
-        repair_is stop budget limit before offers result root walked new is worked.counted answer here leaves reached
-        (drain_after begins stop limit offers walked s new (subst (λ (n : ℕ). LeadsBy false (up_to n walked) (FindsFrom offers walked.state.durable.graph) Never walked s) (sym is) worked.leads) leads)
+    pub finish_repair_told : (stop : DrainEnd) (budget limit before : ℕ) (finds : Finds) (q : Queue) (result : Result Repaired WorkError) (a b : Option ReplicaState) → limit ≡ capped (before + budget) → RepairAnswer stop before b result
+        → IfSome b (Leaves stop) → IfSome b MayReach → Told a b (λ s new. DrainLeads stop limit (Fetched finds.all) s new) → IfSome a (λ s. is_keeper stop ≡ false → AreLost finds.surely s.state.durable.graph q) → IfSome b (λ s. is_keeper stop ≡ false → queue_in s.state.run ≡ q)
+        → Told a b (λ s new. (root walked : ReplicaState) → HasWalkedFrom root walked → HasWorkedFrom false before budget finds.all walked s → RepairLeads budget finds result root new)
+    finish_repair_told stop budget limit before finds q result None b is answer leaves reached leads lost shows = tt
+    finish_repair_told stop budget limit before finds q result (Some s) None is answer leaves reached leads lost shows = absurd leads
+    finish_repair_told stop budget limit before finds q result (Some s) (Some new) is answer leaves reached leads lost shows = λ root walked here worked.
+        repair_is stop budget limit before finds result root walked new is worked.counted answer here leaves reached
+        (drain_after begins stop limit finds.all walked s new (subst (λ (n : ℕ). LeadsBy false (up_to n walked) (FindsFrom finds.all walked.state.durable.graph) Never walked s) (sym is) worked.leads) leads)
+        (λ e. lost_at finds.surely root s new q (goes_on_then root.state.durable walked.state.durable s.state.durable here.grows worked.leads.grows) (lost e) (shows e))
 
     -- the keeper of the workers failed
-    pub repair_broken : (before budget : ℕ) (offers : Option Map) (root m s : ReplicaState) → IsSound s.state → HasWalkedFrom root m → HasWorkedFrom true before budget offers m s → RepairLeads budget offers (Err error.KeeperFault) root s
-    repair_broken before budget offers root m s sound here worked = record {
+    pub repair_broken : (before budget : ℕ) (finds : Finds) (root m s : ReplicaState) → IsSound s.state → HasWalkedFrom root m → HasWorkedFrom true before budget finds.all m s → RepairLeads budget finds (Err error.KeeperFault) root s
+    repair_broken before budget finds root m s sound here worked = record {
       grows = goes_on_then root.state.durable m.state.durable s.state.durable here.grows worked.leads.grows;
       within = let few = worked.leads.few in let at = worked.counted in omega (arith, here.same, few, at);
       fuse = burns_walked true root m s here.same (longer m s worked.leads.grows) here.fuse worked.leads.fuse;
       counts = tt;
       reaches = tt;
       sound = sound;
-      is = λ map f. let finds = here.finds offers map f in worked.leads.breaks refl map (cids_in m.state.durable.graph) (finds.0, refl) root.state.durable (repair_start root) finds.1;
+      is = λ map f. let at_walk = here.finds finds.all map f in worked.leads.breaks refl map (cids_in m.state.durable.graph) (at_walk.0, refl) root.state.durable (repair_start root) at_walk.1;
+      surely = tt;
     }
 
     -- a fetch of theirs failed, and all was recalled
-    pub repair_recalled : (before budget : ℕ) (offers : Option Map) (root m s new : ReplicaState) → IsSound new.state → HasWalkedFrom root m → HasWorkedFrom false before budget offers m s → Leads false (count s) Always s new → RepairLeads budget offers (Err error.PeerFault) root new
-    repair_recalled before budget offers root m s new sound here worked recalled = record {
+    pub repair_recalled : (before budget : ℕ) (finds : Finds) (root m s new : ReplicaState) → IsSound new.state → HasWalkedFrom root m → HasWorkedFrom false before budget finds.all m s → Leads false (count s) Always s new → RepairLeads budget finds (Err error.PeerFault) root new
+    repair_recalled before budget finds root m s new sound here worked recalled = record {
       grows = goes_on_then root.state.durable m.state.durable new.state.durable here.grows leads.grows;
       within = let few = leads.few in let at = worked.counted in omega (arith, here.same, few, at);
       fuse = burns_walked false root m new here.same (longer m new leads.grows) here.fuse leads.fuse;
@@ -287,31 +320,33 @@ module _ (begins : BeginsLaw) (repair_begins : RepairBeginsLaw) (joins : JoinsLa
       reaches = tt;
       sound = sound;
       is = λ map f.
-          let finds = here.finds offers map f in
+          let at_walk = here.finds finds.all map f in
           let kept : List Cid = cids_in m.state.durable.graph in
-          let goes = leads.goes refl map kept (finds.0, refl) in
-          let on = on_from_walk offers map root m new f sound leads.grows here goes in
-          (on.0, on.1, broken_at map kept root.state.durable (repair_start root) new.state (goes root.state.durable (repair_start root) finds.1));
+          let goes = leads.goes refl map kept (at_walk.0, refl) in
+          let on = on_from_walk finds.all map root m new f sound leads.grows here goes in
+          (on.0, on.1, broken_at map kept root.state.durable (repair_start root) new.state (goes root.state.durable (repair_start root) at_walk.1));
+      surely = partly_from root m new sound leads.grows here (leads.whatever refl);
     }
       where
-        leads : LeadsBy false (up_to (capped (before + budget)) m) (FindsFrom offers m.state.durable.graph) Never m new
-        leads = leads_go_on false (up_to (capped (before + budget)) m) (count s) (up_to (capped (before + budget)) m) (FindsFrom offers m.state.durable.graph) Always Always m s new worked.leads recalled worked.leads.few (λ map kept old start p h. tt)
+        leads : LeadsBy false (up_to (capped (before + budget)) m) (FindsFrom finds.all m.state.durable.graph) Never m new
+        leads = leads_go_on false (up_to (capped (before + budget)) m) (count s) (up_to (capped (before + budget)) m) (FindsFrom finds.all m.state.durable.graph) Always Always m s new worked.leads recalled worked.leads.few (λ map kept old start p h. tt)
 
   -- the walk came to no end
-  cut_is : (stop : DrainEnd) (budget : ℕ) (offers : Option Map) (s r new : ReplicaState) → IsBroken stop → IsSound s.state → IsSound r.state → IsSound new.state → Leads false (count s) Always s r → Walks (is_keeper stop) 1 r new → RepairLeads budget offers (Err (walk_error stop)) s new
-  cut_is end.Idle budget offers s r new broken sound sound_r sound_new first walks = absurd broken
-  cut_is end.Spent budget offers s r new broken sound sound_r sound_new first walks = absurd broken
-  cut_is end.PeerFault budget offers s r new broken sound sound_r sound_new first walks = absurd broken
-  cut_is end.KeeperFault budget offers s r new broken sound sound_r sound_new first walks = record {
+  cut_is : (stop : DrainEnd) (budget : ℕ) (finds : Finds) (s r new : ReplicaState) → IsBroken stop → IsSound s.state → IsSound r.state → IsSound new.state → Leads false (count s) Always s r → Walks (is_keeper stop) 1 r new → RepairLeads budget finds (Err (walk_error stop)) s new
+  cut_is end.Idle budget finds s r new broken sound sound_r sound_new first walks = absurd broken
+  cut_is end.Spent budget finds s r new broken sound sound_r sound_new first walks = absurd broken
+  cut_is end.PeerFault budget finds s r new broken sound sound_r sound_new first walks = absurd broken
+  cut_is end.KeeperFault budget finds s r new broken sound sound_r sound_new first walks = record {
     grows = goes_on_then s.state.durable r.state.durable new.state.durable first.grows walks.grows;
     within = omega (arith, first.few, walks.same);
     fuse = burns_before true s r new (longer s r first.grows) walks.same first.fuse walks.fuse;
     counts = tt;
     reaches = tt;
     sound = sound_new;
-    is = λ map f. walks.breaks refl map (cids_in s.state.durable.graph) s.state.durable (wanted_in s.state.run) (started offers map s r f sound sound_r first);
+    is = λ map f. walks.breaks refl map (cids_in s.state.durable.graph) s.state.durable (wanted_in s.state.run) (started finds.all map s r f sound sound_r first);
+    surely = tt;
   }
-  cut_is end.Memory budget offers s r new broken sound sound_r sound_new first walks = record {
+  cut_is end.Memory budget finds s r new broken sound sound_r sound_new first walks = record {
     grows = goes_on_then s.state.durable r.state.durable new.state.durable first.grows walks.grows;
     within = omega (arith, first.few, walks.same);
     fuse = burns_before false s r new (longer s r first.grows) walks.same first.fuse walks.fuse;
@@ -319,39 +354,41 @@ module _ (begins : BeginsLaw) (repair_begins : RepairBeginsLaw) (joins : JoinsLa
     reaches = tt;
     sound = sound_new;
     is = λ map f.
-        let on = walks.goes refl map (cids_in s.state.durable.graph) s.state.durable (wanted_in s.state.run) (started offers map s r f sound sound_r first) in
+        let on = walks.goes refl map (cids_in s.state.durable.graph) s.state.durable (wanted_in s.state.run) (started finds.all map s r f sound sound_r first) in
         (on, broken_repair map (cids_in s.state.durable.graph) s.state.durable (wanted_in s.state.run) new.state on);
+    surely = walks.goes refl (stored_bytes new) (cids_in s.state.durable.graph) s.state.durable (wanted_in s.state.run)
+        (started (Some (stored_bytes new)) (stored_bytes new) s r (found_stored s new (goes_on_then s.state.durable r.state.durable new.state.durable first.grows walks.grows)) sound sound_r first);
   }
 
   pub cut_each : (stop : DrainEnd) (error : WorkError) (a r b : Option ReplicaState) → error ≡ walk_error stop → IsBroken stop → IfSome a (λ s. IsSound s.state) → IfSome r (λ s. IsSound s.state) → IfSome b (λ s. IsSound s.state) → Told a r (λ s new. Leads false (count s) Always s new)
-      → Told r b (λ s new. Walks (is_keeper stop) 1 s new) → Told a b (λ s new. (budget : ℕ) (offers : Option Map) → RepairLeads budget offers (Err error) s new)
+      → Told r b (λ s new. Walks (is_keeper stop) 1 s new) → Told a b (λ s new. (budget : ℕ) (finds : Finds) → RepairLeads budget finds (Err error) s new)
   cut_each stop error None r b is broken sound sound_r sound_new first walks = tt
   cut_each stop error (Some s) None b is broken sound sound_r sound_new first walks = absurd first
   cut_each stop error (Some s) (Some r) None is broken sound sound_r sound_new first walks = absurd walks
-  cut_each stop error (Some s) (Some r) (Some new) is broken sound sound_r sound_new first walks = λ budget offers.
-      subst (λ (e : WorkError). RepairLeads budget offers (Err e) s new) (sym is) (cut_is stop budget offers s r new broken sound sound_r sound_new first walks)
+  cut_each stop error (Some s) (Some r) (Some new) is broken sound sound_r sound_new first walks = λ budget finds.
+      subst (λ (e : WorkError). RepairLeads budget finds (Err e) s new) (sym is) (cut_is stop budget finds s r new broken sound sound_r sound_new first walks)
 
   -- it was given up before the walk
-  pub given_up_told : (budget : ℕ) (offers : Option Map) (a b : Option ReplicaState) → IfSome a (λ s. IsSound s.state) → IfSome b (λ s. IsSound s.state) → Told a b (λ s new. Leads false (count s) Always s new)
-      → Told a b (λ s new. RepairLeads budget offers (Err error.Memory) s new)
-  given_up_told budget offers None b sound sound_new first = tt
-  given_up_told budget offers (Some s) None sound sound_new first = absurd first
-  given_up_told budget offers (Some s) (Some new) sound sound_new first = cut_is end.Memory budget offers s new new tt sound sound_new sound_new first (walks_stay 1 new new refl)
+  pub given_up_told : (budget : ℕ) (finds : Finds) (a b : Option ReplicaState) → IfSome a (λ s. IsSound s.state) → IfSome b (λ s. IsSound s.state) → Told a b (λ s new. Leads false (count s) Always s new)
+      → Told a b (λ s new. RepairLeads budget finds (Err error.Memory) s new)
+  given_up_told budget finds None b sound sound_new first = tt
+  given_up_told budget finds (Some s) None sound sound_new first = absurd first
+  given_up_told budget finds (Some s) (Some new) sound sound_new first = cut_is end.Memory budget finds s new new tt sound sound_new sound_new first (walks_stay 1 new new refl)
 
 -- it has come to no walk's end, whatever the budget and the offers are
-pub unwalked_told : (budget : ℕ) (offers : Option Map) (error : WorkError) (a b : Option ReplicaState) → Told a b (λ s new. (budget : ℕ) (offers : Option Map) → RepairLeads budget offers (Err error) s new) → Told a b (λ s new. RepairLeads budget offers (Err error) s new)
-unwalked_told budget offers error None b leads = tt
-unwalked_told budget offers error (Some s) None leads = absurd leads
-unwalked_told budget offers error (Some s) (Some new) leads = leads budget offers
+pub unwalked_told : (budget : ℕ) (finds : Finds) (error : WorkError) (a b : Option ReplicaState) → Told a b (λ s new. (budget : ℕ) (finds : Finds) → RepairLeads budget finds (Err error) s new) → Told a b (λ s new. RepairLeads budget finds (Err error) s new)
+unwalked_told budget finds error None b leads = tt
+unwalked_told budget finds error (Some s) None leads = absurd leads
+unwalked_told budget finds error (Some s) (Some new) leads = leads budget finds
 
 -- where nobody has worked since the walk
-pub repair_alone_told : (before budget : ℕ) (offers : Option Map) (result : Result Repaired WorkError) (a m b : Option ReplicaState) → Told a m (λ s mid. (before ≡ capped (count mid)) × HasWalkedFrom s mid)
-    → Told m b (λ s new. (root walked : ReplicaState) → HasWalkedFrom root walked → HasWorkedFrom false before budget offers walked s → RepairLeads budget offers result root new) → Told a b (λ s new. RepairLeads budget offers result s new)
-repair_alone_told before budget offers result None m b walked leads = tt
-repair_alone_told before budget offers result (Some s) None b walked leads = absurd walked
-repair_alone_told before budget offers result (Some s) (Some mid) None walked leads = absurd leads
-repair_alone_told before budget offers result (Some s) (Some mid) (Some new) walked leads =
-    leads s mid walked.1 (record { counted = walked.0; leads = leads_itself (up_to (capped (before + budget)) mid) (FindsFrom offers mid.state.durable.graph) Never mid (omega arith) })
+pub repair_alone_told : (before budget : ℕ) (finds : Finds) (result : Result Repaired WorkError) (a m b : Option ReplicaState) → Told a m (λ s mid. (before ≡ capped (count mid)) × HasWalkedFrom s mid)
+    → Told m b (λ s new. (root walked : ReplicaState) → HasWalkedFrom root walked → HasWorkedFrom false before budget finds.all walked s → RepairLeads budget finds result root new) → Told a b (λ s new. RepairLeads budget finds result s new)
+repair_alone_told before budget finds result None m b walked leads = tt
+repair_alone_told before budget finds result (Some s) None b walked leads = absurd walked
+repair_alone_told before budget finds result (Some s) (Some mid) None walked leads = absurd leads
+repair_alone_told before budget finds result (Some s) (Some mid) (Some new) walked leads =
+    leads s mid walked.1 (record { counted = walked.0; leads = leads_itself (up_to (capped (before + budget)) mid) (FindsFrom finds.all mid.state.durable.graph) Never mid (omega arith) })
 
 -- what is known after the walk, as its state has it
 pub walked_shown : (told : Option Kept) (fuse : Option Fuse) (down : Bool) (run : Running) → down ≡ false → run.whole ≡ true → IfSome (state_of told fuse (run_of down run)) (λ s. IsSound s.state) → IfSome (state_of told fuse (run_of down run)) IsWalked

@@ -1,20 +1,25 @@
 -- What blocks of an inbox that come in together lead to.
-use Rattle.std.proofs.Common.{◌≡◌, ◌≤◌, ◌+◌, ℕ, suc, Bool, true, false, List, [], ◌∷◌, ◌++◌, length, take, drop, Option, Some, None, Result, Ok, Err, refl, sym, ap, ◌∙◌, subst, arith, inl, inr}
+use Rattle.std.proofs.Common.{◌≡◌, ◌≤◌, ◌+◌, ◌||◌, ℕ, suc, Bool, true, false, cond, find, List, [], ◌∷◌, ◌++◌, length, take, drop, Option, Some, None, Result, Ok, Err, refl, sym, ap, ◌∙◌, subst, arith, inl, inr}
 use Rattle.std.specs.Prelude.{⊤, IfSome, if◌then◌else◌, is_some}
-use Rattle.std.proofs.lemmas.Bool.{false≢true}
+use Rattle.std.specs.Option.{option_map}
+use Rattle.std.proofs.lemmas.Bool.{false≢true, or_cases}
 use Rattle.std.proofs.lemmas.List.{length-take}
 use Rattle.mc_base.specs.Told.{Told}
 use Rattle.mc_base.specs.declared.cid.Cid.{Cid}
 use Rattle.mc_fetch.specs.Fits.{Map}
 use Rattle.mc_keep.specs.Causes.{Kind, Refusal, Fault, Shortage, is_fault_kind}
 use Rattle.mc_model.specs.declared.block.Stored.{Stored}
-use Rattle.mc_model.specs.Draining.{AllSayRight, FoundBytes, TakesAll, offers_of, queue_in}
+use Rattle.mc_model.specs.Draining.{AllSayRight, FoundBytes, TakesAll, bytes_in, offers_of, queue_in}
 use Rattle.mc_model.specs.Events.{Event, Store, Process}
 use Rattle.mc_model.specs.Found.{Offers}
+use Rattle.mc_model.specs.Front.{same_cid}
 use Rattle.mc_model.specs.Graph.{Vertex, has, in_graph}
 use Rattle.mc_model.specs.Kept.{cids_of}
-use Rattle.mc_model.specs.State.{Durable, IsSound, Running}
-use Rattle.mc_model.specs.Wanted.{Queue}
+use Rattle.mc_model.specs.State.{Durable, IsSound, Running, vertex_of, vertices}
+use Rattle.mc_model.specs.Wanted.{Queue, wanted}
+use Rattle.mc_model.proofs.Counts.{cid_is, has_times, times_has}
+use Rattle.mc_model.proofs.Deliveries.{flight_wanted}
+use Rattle.mc_inbox.proofs.GroupFacts.{group_flight, store_within}
 use Rattle.mc_inbox.specs.Groups.{AreOffered, group_events, group_of, process_events, store_events, to_store}
 use Rattle.mc_group.specs.Inboxes.{GroupEvents, GroupWants, InboxAfter, taken_of}
 use Rattle.mc_group.specs.declared.grouped.Grouped.{Grouped}
@@ -28,6 +33,7 @@ use Rattle.mc_drain.specs.Groups.{OfferedFor}
 use Rattle.mc_drain.specs.Leads.{Leads, all_processes, count}
 use Rattle.mc_drain.proofs.EventFacts.{Asked, GoesLaw, StayLaw, breaks_leads, goes_leads, stays_leads}
 use Rattle.mc_drain.proofs.FuseFacts.{IsPaced, all_extras}
+use Rattle.mc_drain.proofs.StoredFacts.{StoredAsked, bytes_behind}
 
 -- the laws of groups
 abbrev pub GroupTakes : Type 0
@@ -95,6 +101,52 @@ none_flies : (items : List Stored) → group_of [] items ≡ []
 none_flies [] = refl
 none_flies (item ∷ items) = none_flies items
 
+-- what a group stores is of the group, and new
+stores_of : (stores : List Stored) (c : Cid) (bytes : List ℕ) → bytes_in (vertices stores) c ≡ Some bytes → has c (cids_of stores) ≡ true
+stores_of [] c bytes e = absurd (false≢true (ap is_some e))
+stores_of (x ∷ stores) c bytes e =
+    elim (same_cid c x.cid) as (λ t. option_map (λ (vertex : Vertex). vertex.bytes) (cond t (Some (vertex_of x)) (find (λ (vertex : Vertex). same_cid c vertex.cid) (vertices stores))) ≡ Some bytes → (t || has c (cids_of stores)) ≡ true) [
+      | true ↦ λ h. refl
+      | false ↦ λ h. stores_of stores c bytes h
+    ] e
+
+stores_new : (graph : List Vertex) (group : List Stored) (c : Cid) → has c (cids_of (to_store graph group)) ≡ true → in_graph graph c ≡ false
+stores_new graph [] c e = absurd (false≢true e)
+stores_new graph (item ∷ group) c e =
+    (elim (in_graph graph item.cid) as (λ t. in_graph graph item.cid ≡ t → has c (cids_of (if t then to_store graph group else (item ∷ to_store graph group))) ≡ true → in_graph graph c ≡ false) [
+      | true ↦ λ there h. stores_new graph group c h
+      | false ↦ λ new h. elim (or_cases (same_cid c item.cid) (has c (cids_of (to_store graph group))) h) [
+        | inl same ↦ ap (in_graph graph) (cid_is c item.cid same) ∙ new
+        | inr rest ↦ stores_new graph group c rest
+      ]
+    ]) refl e
+
+module _ (durable : Durable) (run : Running) where
+  takes_stored : (stores : List Stored) (cids : List Cid) → ((c : Cid) (bytes : List ℕ) → bytes_in (vertices stores) c ≡ Some bytes → (has c (wanted run.queue) ≡ true) × (in_graph durable.graph c ≡ false)) → ((c : Cid) → has c cids ≡ true → has c (wanted run.queue) ≡ true)
+      → StoredAsked (record { durable = durable; run = Some run }) (store_events stores ++ process_events cids)
+  takes_stored [] [] s p = λ map h. tt
+  takes_stored [] (d ∷ cids) s p = λ map h. (p, tt)
+  takes_stored (x ∷ stores) [] s p = λ map h. (λ c bytes e. let is = s c bytes e in (is.0, h c bytes (bytes_behind durable.graph (vertices (x ∷ stores)) c bytes is.1 e)), tt)
+  takes_stored (x ∷ stores) (d ∷ cids) s p = λ map h. (λ c bytes e. let is = s c bytes e in (is.0, h c bytes (bytes_behind durable.graph (vertices (x ∷ stores)) c bytes is.1 e)), (p, tt))
+
+  group_stored : (items : List Stored) → StoredAsked (record { durable = durable; run = Some run }) (group_events durable.graph (group_of run.queue.flight items))
+  group_stored items =
+      let group : List Stored = group_of run.queue.flight items in
+      let wants : (c : Cid) → has c (cids_of group) ≡ true → has c (wanted run.queue) ≡ true =
+      λ c e. let t = times_has c (cids_of group) e in let w = group_flight run.queue.flight items c in flight_wanted run.queue c (has_times c run.queue.flight (omega (arith, t, w))) in
+      takes_stored (to_store durable.graph group) (cids_of group)
+      (λ c bytes e. let there = stores_of (to_store durable.graph group) c bytes e in
+      let t = times_has c (cids_of (to_store durable.graph group)) there in let w = store_within durable.graph group c in
+      (wants c (has_times c (cids_of group) (omega (arith, t, w))), stores_new durable.graph group c there))
+      wants
+
+planned_stored : (items : List Stored) (s : ReplicaState) (events : List Event) → events ≡ group_events s.state.durable.graph (taken_of (queue_in s.state.run) items) → StoredAsked s.state events
+planned_stored items s events is = subst (StoredAsked s.state) (sym is) (over s.state.run)
+  where
+    over : (run : Option Running) → StoredAsked (record { durable = s.state.durable; run = run }) (group_events s.state.durable.graph (taken_of (queue_in run) items))
+    over None = subst (λ (g : List Stored). StoredAsked (record { durable = s.state.durable; run = None }) (group_events s.state.durable.graph g)) (sym (none_flies items)) (λ map h. tt)
+    over (Some run) = group_stored s.state.durable run items
+
 module _ (grow_law : GrowLaw) (goes_law : GoesLaw) (stay_law : StayLaw) (takes_law : GroupTakes) (says_law : GroupSays) (few_law : GroupFew) where
   -- a plan of a group: as many blocks, paced, and no more asked than that their bytes are found
   planned : (items : List Stored) (s : ReplicaState) (events : List Event) → events ≡ group_events s.state.durable.graph (taken_of (queue_in s.state.run) items)
@@ -113,7 +165,7 @@ module _ (grow_law : GrowLaw) (goes_law : GoesLaw) (stay_law : StayLaw) (takes_l
       → Leads (is_fault result) (count s + most) (OfferedFor items) s new
   group_leads items most rose (Ok grouped) s new few sound call =
       let p = planned items s call.events call.makes.are in
-      let n = p.0 in goes_leads grow_law goes_law stay_law (OfferedFor items) call.events s new (count s + most) call.goes sound (omega (arith, n, few)) p.1 p.2
+      let n = p.0 in goes_leads grow_law goes_law stay_law (OfferedFor items) call.events s new (count s + most) call.goes sound (omega (arith, n, few)) p.1 p.2 (planned_stored items s call.events call.makes.are)
   group_leads items most rose (Err error) s new few sound call = over (kind_of error) call
     where
       nothing : (events : List Event) → events ≡ [] → (all_processes events ≤ 0) × IsPaced events × Asked (OfferedFor items) s.state events

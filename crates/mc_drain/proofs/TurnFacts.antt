@@ -90,7 +90,7 @@ turn_told failed bound offers cid own a m b mono digest p q is =
     then_told failed bound (FetchedFor offers cid own) (Fetched offers) (λ s. own ≡ bytes_in s.state.durable.graph cid) a m b mono
     (λ s is known kept old start f h. (f, own_fits known kept s.state.durable.graph cid own h.stored h.own is digest)) p q is
 
-found_same : (found : Found) → bytes_of found ≡ found_in found
+pub found_same : (found : Found) → bytes_of found ≡ found_in found
 found_same (Bytes bytes) = refl
 found_same NotFound = refl
 

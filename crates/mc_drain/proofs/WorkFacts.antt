@@ -8,6 +8,7 @@ use Rattle.mc_base.specs.declared.cid.Cid.{Cid}
 use Rattle.mc_fetch.specs.Fits.{Map}
 use Rattle.mc_model.specs.Drain.{IsClosure, IsDrained, PartsFit}
 use Rattle.mc_model.specs.Draining.{HasDrained, bytes_in, offers_of, queue_in}
+use Rattle.mc_model.specs.Events.{GoesOn}
 use Rattle.mc_model.specs.Found.{Offers, is_found}
 use Rattle.mc_model.specs.Front.{same_cid}
 use Rattle.mc_model.specs.Graph.{Vertex, cids_in, has}
@@ -25,13 +26,16 @@ use Rattle.mc_drain.specs.declared.working.WorkError.{WorkError}
 use Rattle.mc_drain.specs.declared.working.WorkError.TheVariants as error
 use Rattle.mc_drain.specs.declared.working.Worked.{Worked}
 use Rattle.mc_drain.specs.declared.working.Worked.TheVariants as worked
-use Rattle.mc_drain.specs.Finds.{first_bytes, found_from}
-use Rattle.mc_drain.specs.Leads.{Always, Leads, LeadsBy, Never, commits_between, count, up_to}
+use Rattle.mc_drain.specs.Finds.{Finds, first_bytes, found_from, surely_from}
+use Rattle.mc_drain.specs.Leads.{Always, DrainsOn, Leads, LeadsBy, Never, commits_between, count, up_to}
 use Rattle.mc_drain.specs.Rounds.{FindsFrom, HasWorkedFrom}
 use Rattle.mc_drain.specs.Words.{DrainLeads, Fetched, is_keeper, is_peer}
-use Rattle.mc_drain.specs.Works.{AnswerIs, IsPartOf, WorkLeads, WorkWants, keeper_broke, peer_broke}
+use Rattle.mc_drain.specs.Lost.{AreLost}
+use Rattle.mc_drain.specs.Works.{AnswerIs, IsPartOf, IsPartly, WorkLeads, WorkWants, keeper_broke, peer_broke, stored_bytes}
 use Rattle.mc_drain.proofs.FuseFacts.{burns_then, fuse_stays, longer}
 use Rattle.mc_drain.proofs.GoOnFacts.{leads_go_on, leads_itself}
+use Rattle.mc_drain.proofs.LostFacts.{drained_so, lost_at, none_lost}
+use Rattle.mc_drain.proofs.StoredFacts.{drains_then, stored_back}
 
 -- what is stored has bytes, and nothing else has
 pub kept_bytes : (graph : List Vertex) (c : Cid) → has c (cids_in graph) ≡ true → is_some (bytes_in graph c) ≡ true
@@ -98,6 +102,7 @@ drain_after begins stop limit offers root s new first next = record {
   parts = λ e map kept p old start h. next.parts e map kept (fetched map kept p) old start (first.goes refl map kept p old start h);
   breaks = λ e map kept p old start h. next.breaks e map kept (fetched map kept p) old start (first.goes refl map kept p old start h);
   good = λ e map kept p old start h. next.good e map kept (fetched map kept p) old start (first.goes refl map kept p old start h);
+  whatever = λ e. drains_then root s new next.grows (first.whatever refl) (next.whatever e);
 }
   where
     fetched : (map : Map) (kept : List Cid) → FindsFrom offers root.state.durable.graph map kept → Fetched offers map kept
@@ -120,117 +125,138 @@ module _ (begins : BeginsLaw) (closed : ClosedLaw) (drained : DrainedLaw) where
   partly offers map s new is goes =
       goes map (cids_in s.state.durable.graph) (is, refl) s.state.durable (wanted_in s.state.run) (begun begins s offers map is).0
 
-  work_is : (stop : DrainEnd) (budget limit before : ℕ) (offers : Option Map) (q : Queue) (result : Result Worked WorkError) (s new : ReplicaState) → limit ≡ capped (before + budget) → before ≡ capped (count s) → AnswerIs stop before (Some new) q result
-      → Leaves stop new → DrainLeads stop limit (FindsFrom offers s.state.durable.graph) s new → WorkLeads budget offers result s new
-  work_is end.Idle budget limit before offers q result s new is first answer leaves leads = subst (λ (r : Result Worked WorkError). WorkLeads budget offers r s new) (sym answer.1) (record {
+  -- whatever was found
+  partly_so : (s new : ReplicaState) → GoesOn s.state.durable new.state.durable → DrainsOn s new → IsPartly (wanted_in s.state.run) s new
+  partly_so s new grows on =
+      let graph : List Vertex = s.state.durable.graph in
+      let began = begins (stored_bytes new) (cids_in graph) s.state (stored_back (stored_bytes new) s.state.durable new.state.durable grows (λ c bytes e. e)) (kept_bytes graph) in
+      on (stored_bytes new) (cids_in graph) (λ c bytes e. e) s.state.durable (wanted_in s.state.run)
+      (subst (λ (start : List Cid). HasDrained (stored_bytes new) (cids_in graph) s.state.durable start s.state) (wanted_same s.state.run) began)
+
+  work_is : (stop : DrainEnd) (budget limit before : ℕ) (finds : Finds) (q : Queue) (result : Result Worked WorkError) (s new : ReplicaState) → limit ≡ capped (before + budget) → before ≡ capped (count s) → AnswerIs stop before (Some new) q result
+      → Leaves stop new → DrainLeads stop limit (FindsFrom finds.all s.state.durable.graph) s new → (is_keeper stop ≡ false → AreLost finds.surely s.state.durable.graph (queue_in new.state.run)) → WorkLeads budget finds result s new
+  work_is end.Idle budget limit before finds q result s new is first answer leaves leads lost = subst (λ (r : Result Worked WorkError). WorkLeads budget finds r s new) (sym answer.1) (record {
     grows = leads.grows;
     within = let more = longer s new leads.grows in omega (arith, leads.within, more, is, first);
     fuse = leads.fuse;
     counts = answer.2 ∙ ap (λ (n : ℕ). capped (count new) - n) first;
     sound = leaves.sound;
-    is = λ map here. let start = begun begins s offers map here in
+    is = λ map here. let start = begun begins s finds.all map here in
         let parts = leads.parts refl map (cids_in s.state.durable.graph) (here, refl) s.state.durable (wanted_in s.state.run) start.0 in
         record {
           closure = closed map (cids_in s.state.durable.graph) s.state.durable (wanted_in s.state.run) new.state leaves.sound
               (drained_at drained map new.state.run parts (leaves.waiting refl) (leaves.flight refl)) (leads.goes refl map (cids_in s.state.durable.graph) (here, refl) s.state.durable (wanted_in s.state.run) start.0);
           parts = parts;
         };
+    surely = (
+      partly_so s new leads.grows (leads.whatever refl),
+      drained_so (surely_from s.state.durable.graph finds) new.state.run (none_lost finds s.state.durable.graph (queue_in new.state.run) (lost refl)) (leaves.waiting refl) (leaves.flight refl),
+    );
   })
-  work_is end.Spent budget limit before offers q result s new is first answer leaves leads = subst (λ (r : Result Worked WorkError). WorkLeads budget offers r s new) (sym answer.1) (record {
+  work_is end.Spent budget limit before finds q result s new is first answer leaves leads lost = subst (λ (r : Result Worked WorkError). WorkLeads budget finds r s new) (sym answer.1) (record {
     grows = leads.grows;
     within = let more = longer s new leads.grows in omega (arith, leads.within, more, is, first);
     fuse = leads.fuse;
     counts = (answer.2 ∙ ap (λ (n : ℕ). capped (count new) - n) first, let spent = leads.spent refl in omega (arith, spent, is, first));
     sound = leaves.sound;
-    is = λ map here. let start = begun begins s offers map here in record {
-      drained = partly offers map s new here (leads.goes refl);
+    is = λ map here. let start = begun begins s finds.all map here in record {
+      drained = partly finds.all map s new here (leads.goes refl);
       parts = leads.parts refl map (cids_in s.state.durable.graph) (here, refl) s.state.durable (wanted_in s.state.run) start.0;
       good = leads.good refl map (cids_in s.state.durable.graph) (here, refl) s.state.durable (wanted_in s.state.run) start.0;
     };
+    surely = (partly_so s new leads.grows (leads.whatever refl), none_lost finds s.state.durable.graph (queue_in new.state.run) (lost refl));
   })
-  work_is end.KeeperFault budget limit before offers q result s new is first answer leaves leads = subst (λ (r : Result Worked WorkError). WorkLeads budget offers r s new) (sym answer) (record {
+  work_is end.KeeperFault budget limit before finds q result s new is first answer leaves leads lost = subst (λ (r : Result Worked WorkError). WorkLeads budget finds r s new) (sym answer) (record {
     grows = leads.grows;
     within = let more = longer s new leads.grows in omega (arith, leads.within, more, is, first);
     fuse = leads.fuse;
     counts = tt;
     sound = leaves.sound;
-    is = λ map here. let start = begun begins s offers map here in leads.breaks refl map (cids_in s.state.durable.graph) (here, refl) s.state.durable (wanted_in s.state.run) start.0;
+    is = λ map here. let start = begun begins s finds.all map here in leads.breaks refl map (cids_in s.state.durable.graph) (here, refl) s.state.durable (wanted_in s.state.run) start.0;
+    surely = tt;
   })
-  work_is end.PeerFault budget limit before offers q result s new is first answer leaves leads = subst (λ (r : Result Worked WorkError). WorkLeads budget offers r s new) (sym answer) (record {
+  work_is end.PeerFault budget limit before finds q result s new is first answer leaves leads lost = subst (λ (r : Result Worked WorkError). WorkLeads budget finds r s new) (sym answer) (record {
     grows = leads.grows;
     within = let more = longer s new leads.grows in omega (arith, leads.within, more, is, first);
     fuse = leads.fuse;
     counts = tt;
     sound = leaves.sound;
-    is = λ map here. partly offers map s new here (leads.goes refl);
+    is = λ map here. partly finds.all map s new here (leads.goes refl);
+    surely = partly_so s new leads.grows (leads.whatever refl);
   })
-  work_is end.Memory budget limit before offers q result s new is first answer leaves leads = subst (λ (r : Result Worked WorkError). WorkLeads budget offers r s new) (sym answer) (record {
+  work_is end.Memory budget limit before finds q result s new is first answer leaves leads lost = subst (λ (r : Result Worked WorkError). WorkLeads budget finds r s new) (sym answer) (record {
     grows = leads.grows;
     within = let more = longer s new leads.grows in omega (arith, leads.within, more, is, first);
     fuse = leads.fuse;
     counts = tt;
     sound = leaves.sound;
-    is = λ map here. partly offers map s new here (leads.goes refl);
+    is = λ map here. partly finds.all map s new here (leads.goes refl);
+    surely = partly_so s new leads.grows (leads.whatever refl);
   })
 
   -- where workers have led from the beginning of the work, and a drain from there
-  pub finish_told : (stop : DrainEnd) (budget limit before : ℕ) (offers : Option Map) (q : Queue) (result : Result Worked WorkError) (a b : Option ReplicaState) → limit ≡ capped (before + budget) → AnswerIs stop before b q result
-      → IfSome b (Leaves stop) → Told a b (λ s new. DrainLeads stop limit (Fetched offers) s new) → Told a b (λ s new. (root : ReplicaState) → HasWorkedFrom false before budget offers root s → WorkLeads budget offers result root new)
-  finish_told stop budget limit before offers q result None b is answer leaves leads = tt
-  finish_told stop budget limit before offers q result (Some s) None is answer leaves leads = absurd leads
-  finish_told stop budget limit before offers q result (Some s) (Some new) is answer leaves leads = λ root worked.
-      work_is stop budget limit before offers q result root new is worked.counted answer leaves
-      (drain_after begins stop limit offers root s new (subst (λ (n : ℕ). LeadsBy false (up_to n root) (FindsFrom offers root.state.durable.graph) Never root s) (sym is) worked.leads) leads)
+  pub finish_told : (stop : DrainEnd) (budget limit before : ℕ) (finds : Finds) (q : Queue) (result : Result Worked WorkError) (a b : Option ReplicaState) → limit ≡ capped (before + budget) → AnswerIs stop before b q result
+      → IfSome b (Leaves stop) → Told a b (λ s new. DrainLeads stop limit (Fetched finds.all) s new) → IfSome a (λ s. is_keeper stop ≡ false → AreLost finds.surely s.state.durable.graph q) → IfSome b (λ s. is_keeper stop ≡ false → queue_in s.state.run ≡ q) → Told a b (λ s new. (root : ReplicaState) → HasWorkedFrom false before budget finds.all root s → WorkLeads budget finds result root new)
+  finish_told stop budget limit before finds q result None b is answer leaves leads lost shows = tt
+  finish_told stop budget limit before finds q result (Some s) None is answer leaves leads lost shows = absurd leads
+  finish_told stop budget limit before finds q result (Some s) (Some new) is answer leaves leads lost shows = λ root worked.
+      work_is stop budget limit before finds q result root new is worked.counted answer leaves
+      (drain_after begins stop limit finds.all root s new (subst (λ (n : ℕ). LeadsBy false (up_to n root) (FindsFrom finds.all root.state.durable.graph) Never root s) (sym is) worked.leads) leads)
+      (λ e. lost_at finds.surely root s new q worked.leads.grows (lost e) (shows e))
 
   -- the keeper of the workers failed
-  pub worked_broken : (before budget : ℕ) (offers : Option Map) (root s : ReplicaState) → IsSound s.state → HasWorkedFrom true before budget offers root s → WorkLeads budget offers (Err error.KeeperFault) root s
-  worked_broken before budget offers root s sound worked = record {
+  pub worked_broken : (before budget : ℕ) (finds : Finds) (root s : ReplicaState) → IsSound s.state → HasWorkedFrom true before budget finds.all root s → WorkLeads budget finds (Err error.KeeperFault) root s
+  worked_broken before budget finds root s sound worked = record {
     grows = worked.leads.grows;
     within = let few = worked.leads.few in let at = worked.counted in omega (arith, few, at);
     fuse = worked.leads.fuse;
     counts = tt;
     sound = sound;
-    is = λ map here. worked.leads.breaks refl map (cids_in root.state.durable.graph) (here, refl) root.state.durable (wanted_in root.state.run) (begun begins root offers map here).0;
+    is = λ map here. worked.leads.breaks refl map (cids_in root.state.durable.graph) (here, refl) root.state.durable (wanted_in root.state.run) (begun begins root finds.all map here).0;
+    surely = tt;
   }
 
   -- a fetch of theirs failed, and all was recalled
-  pub worked_recalled : (before budget : ℕ) (offers : Option Map) (root s new : ReplicaState) → IsSound new.state → HasWorkedFrom false before budget offers root s → Leads false (count s) Always s new → WorkLeads budget offers (Err error.PeerFault) root new
-  worked_recalled before budget offers root s new sound worked recalled = record {
+  pub worked_recalled : (before budget : ℕ) (finds : Finds) (root s new : ReplicaState) → IsSound new.state → HasWorkedFrom false before budget finds.all root s → Leads false (count s) Always s new → WorkLeads budget finds (Err error.PeerFault) root new
+  worked_recalled before budget finds root s new sound worked recalled = record {
     grows = leads.grows;
     within = let few = leads.few in let at = worked.counted in omega (arith, few, at);
     fuse = leads.fuse;
     counts = tt;
     sound = sound;
-    is = λ map here. partly offers map root new here (leads.goes refl);
+    is = λ map here. partly finds.all map root new here (leads.goes refl);
+    surely = partly_so root new leads.grows (leads.whatever refl);
   }
     where
-      leads : LeadsBy false (up_to (capped (before + budget)) root) (FindsFrom offers root.state.durable.graph) Never root new
-      leads = leads_go_on false (up_to (capped (before + budget)) root) (count s) (up_to (capped (before + budget)) root) (FindsFrom offers root.state.durable.graph) Always Always root s new worked.leads recalled worked.leads.few (λ map kept old start p h. tt)
+      leads : LeadsBy false (up_to (capped (before + budget)) root) (FindsFrom finds.all root.state.durable.graph) Never root new
+      leads = leads_go_on false (up_to (capped (before + budget)) root) (count s) (up_to (capped (before + budget)) root) (FindsFrom finds.all root.state.durable.graph) Always Always root s new worked.leads recalled worked.leads.few (λ map kept old start p h. tt)
 
   -- it was given up before it began
-  pub work_given_up : (budget : ℕ) (offers : Option Map) (a b : Option ReplicaState) → IfSome b (λ s. IsSound s.state) → Told a b (λ s new. Leads false (count s) Always s new)
-      → Told a b (λ s new. WorkLeads budget offers (Err error.Memory) s new)
-  work_given_up budget offers None b sound leads = tt
-  work_given_up budget offers (Some s) None sound leads = absurd leads
-  work_given_up budget offers (Some s) (Some new) sound leads = record {
+  pub work_given_up : (budget : ℕ) (finds : Finds) (a b : Option ReplicaState) → IfSome b (λ s. IsSound s.state) → Told a b (λ s new. Leads false (count s) Always s new)
+      → Told a b (λ s new. WorkLeads budget finds (Err error.Memory) s new)
+  work_given_up budget finds None b sound leads = tt
+  work_given_up budget finds (Some s) None sound leads = absurd leads
+  work_given_up budget finds (Some s) (Some new) sound leads = record {
     grows = leads.grows;
     within = omega (arith, leads.few);
     fuse = leads.fuse;
     counts = tt;
     sound = sound;
-    is = λ map here. partly offers map s new here (λ known kept f. leads.goes refl known kept tt);
+    is = λ map here. partly finds.all map s new here (λ known kept f. leads.goes refl known kept tt);
+    surely = partly_so s new leads.grows (leads.whatever refl);
   }
 
 -- a replica that had stopped
-pub still_works : (budget : ℕ) (offers : Option Map) (a : Option ReplicaState) → IfSome a (λ s. IsSound s.state) → Told a a (λ s new. WorkLeads budget offers (Err error.Stopped) s new)
-still_works budget offers None sound = tt
-still_works budget offers (Some s) sound = record {
+pub still_works : (budget : ℕ) (finds : Finds) (a : Option ReplicaState) → IfSome a (λ s. IsSound s.state) → Told a a (λ s new. WorkLeads budget finds (Err error.Stopped) s new)
+still_works budget finds None sound = tt
+still_works budget finds (Some s) sound = record {
   grows = same_goes s.state.durable;
   within = omega arith;
   fuse = fuse_stays false (commits_between false s s) s.fuse;
   counts = tt;
   sound = sound;
   is = λ map here. refl;
+  surely = refl;
 }
 
 abbrev is_stopped : Result Worked WorkError → Bool
@@ -282,13 +308,18 @@ leaves_shown stop (Some kept) fuse down run up sound flight idle = record {
   waiting = λ e. subst (λ (b : Bool). (queue_in (run_of b run)).waiting ≡ []) (sym (up (ap is_keeper e))) (idle e);
 }
 
+-- what is wanted then, as its state has it
+pub queue_shown : (stop : DrainEnd) (told : Option Kept) (fuse : Option Fuse) (down : Bool) (run : Running) → (is_keeper stop ≡ false → down ≡ false) → IfSome (state_of told fuse (run_of down run)) (λ s. is_keeper stop ≡ false → queue_in s.state.run ≡ run.queue)
+queue_shown stop None fuse down run up = tt
+queue_shown stop (Some kept) fuse down run up = λ e. ap (λ (b : Bool). queue_in (run_of b run)) (up e)
+
 -- where nobody has worked before
-pub alone_told : (before budget : ℕ) (offers : Option Map) (result : Result Worked WorkError) (a b : Option ReplicaState) → IfSome a (λ s. before ≡ capped (count s))
-    → Told a b (λ s new. (root : ReplicaState) → HasWorkedFrom false before budget offers root s → WorkLeads budget offers result root new) → Told a b (λ s new. WorkLeads budget offers result s new)
-alone_told before budget offers result None b at leads = tt
-alone_told before budget offers result (Some s) None at leads = absurd leads
-alone_told before budget offers result (Some s) (Some new) at leads =
-    leads s (record { counted = at; leads = leads_itself (up_to (capped (before + budget)) s) (FindsFrom offers s.state.durable.graph) Never s (omega arith) })
+pub alone_told : (before budget : ℕ) (finds : Finds) (result : Result Worked WorkError) (a b : Option ReplicaState) → IfSome a (λ s. before ≡ capped (count s))
+    → Told a b (λ s new. (root : ReplicaState) → HasWorkedFrom false before budget finds.all root s → WorkLeads budget finds result root new) → Told a b (λ s new. WorkLeads budget finds result s new)
+alone_told before budget finds result None b at leads = tt
+alone_told before budget finds result (Some s) None at leads = absurd leads
+alone_told before budget finds result (Some s) (Some new) at leads =
+    leads s (record { counted = at; leads = leads_itself (up_to (capped (before + budget)) s) (FindsFrom finds.all s.state.durable.graph) Never s (omega arith) })
 
 -- what is not true is false
 pub not_true : (b : Bool) → (b ≡ true → ⊥) → b ≡ false

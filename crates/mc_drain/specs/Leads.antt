@@ -12,6 +12,10 @@ use Rattle.mc_fetch.specs.Fits.{Map}
 use Rattle.mc_keep.specs.declared.fuse.Fuse.{Fuse}
 use Rattle.mc_core.specs.Events.{ReplicaState}
 
+-- each stored block has the bytes that are found for it
+abbrev pub StoredIn : Map → Durable → Type 0
+StoredIn map durable = (c : Cid) (bytes : List ℕ) → bytes_in durable.graph c ≡ Some bytes → map c ≡ Some bytes
+
 -- whether a drain may have left the block stored where it broke off: it was before, or it is added, or it has a good
 -- offer, and was wanted at the start or is linked by a block added
 abbrev pub may_be_left : Map → Durable → List Cid → List Cid → Cid → Bool
@@ -62,10 +66,17 @@ FuseGoes failed most (Some old) (Some new) =
 abbrev pub commits_between : Bool → ReplicaState → ReplicaState → ℕ
 commits_between failed s new = 2 * (count new - count s) + cond failed 2 0
 
+-- Whatever is found: a drain that had come to the first state has come to the second, where what is found are the bytes
+-- that are stored at last.
+abbrev pub DrainsOn : ReplicaState → ReplicaState → Type 0
+DrainsOn s new = (map : Map) (kept : List Cid) → StoredIn map new.state.durable → (old : Durable) (start : List Cid)
+    → HasDrained map kept old start s.state → HasDrained map kept old start new.state
+
 -- What some calls lead to, of which the last alone may have failed, and did so where `failed` is true: no block is
 -- lost, no more than `most` are processed then, and the fuse burns by their commits at most; and where P holds of what
 -- is found and of the blocks that were stored at a drain's beginning, a drain that had come to the first state has come
 -- to the second, or has broken off there; and where R holds, missing and bad go on holding what their names say.
+-- Whatever is found, a drain goes on.
 pub record LeadsBy (failed : Bool) (most : ℕ) (P R : Map → List Cid → Type 0) (s new : ReplicaState) : Type 0 where
   pub grows : GoesOn s.state.durable new.state.durable
   pub few : count new ≤ most
@@ -77,6 +88,7 @@ pub record LeadsBy (failed : Bool) (most : ℕ) (P R : Map → List Cid → Type
       → PartsFit (offers_of map) (queue_in new.state.run)
   pub breaks : failed ≡ true → (map : Map) (kept : List Cid) → P map kept → (old : Durable) (start : List Cid)
       → HasDrained map kept old start s.state → HasBrokenOff map old start new.state.durable
+  pub whatever : failed ≡ false → DrainsOn s new
 
 -- the same where both are one
 abbrev pub Leads : Bool → ℕ → (Map → List Cid → Type 0) → ReplicaState → ReplicaState → Type 0

@@ -2,6 +2,7 @@ pub mod Finds
 pub mod Groups
 pub mod JobCalls
 pub mod Leads
+pub mod Lost
 pub mod Reached
 pub mod Repairs
 pub mod Rounds

@@ -3,6 +3,8 @@ use Rattle.std.specs.Prelude.{◌≡◌, ◌≢◌, ◌≤◌, ◌+◌, ◌-◌,
 use Rattle.std.specs.Prelude.{IfSome}
 use Rattle.mc_base.specs.declared.cid.Cid.{Cid}
 use Rattle.mc_fetch.specs.Fits.{Map}
+use Rattle.mc_model.specs.Drain.{IsDrained}
+use Rattle.mc_model.specs.Draining.{offers_of, queue_in}
 use Rattle.mc_model.specs.Events.{GoesOn}
 use Rattle.mc_model.specs.Graph.{cids_in}
 use Rattle.mc_model.specs.Repairing.{HasRepaired, with_gaps}
@@ -19,10 +21,11 @@ use Rattle.mc_drain.specs.declared.repairing.Repaired.{Repaired}
 use Rattle.mc_drain.specs.declared.repairing.Repaired.TheVariants.{Clean, Open, Again}
 use Rattle.mc_drain.specs.declared.working.WorkError.{WorkError}
 use Rattle.mc_drain.specs.declared.working.WorkError.TheVariants.{KeeperFault, PeerFault, Stopped, Memory}
-use Rattle.mc_drain.specs.Finds.{found_from}
+use Rattle.mc_drain.specs.Finds.{Finds, found_from, surely_from}
 use Rattle.mc_drain.specs.Leads.{FuseGoes, HasBrokenOff, commits_between, count}
 use Rattle.mc_drain.specs.Reached.{AreReached}
-use Rattle.mc_drain.specs.Works.{IsAtEnd, IsBefore, IsPartOf, came_between, keeper_broke, limit_of}
+use Rattle.mc_drain.specs.Works.{IsAtEnd, IsBefore, IsPartOf, IsPartly, NoneLost, came_between, keeper_broke}
+use Rattle.mc_drain.specs.Works.{limit_of, stored_bytes}
 
 -- how many commits a step of a walk may make, by whether it was the last one
 abbrev pub step_commits : Result Bool DrainEnd → ℕ
@@ -75,6 +78,19 @@ RepairIs map (Err Stopped) s new = new ≡ s
 RepairIs map (Err Memory) s new = IsPartRepaired map s new
     × HasBrokenOff map s.state.durable (repair_start s) new.state.durable
 
+-- What a repair leads to, by its answer, where these bytes are surely found, whatever else is: as of a work, from what
+-- was wanted and the gaps; where the walk may not have come to its end, from what was wanted.
+abbrev pub RepairSurely : Map → Result Repaired WorkError → ReplicaState → ReplicaState → Type 0
+RepairSurely surely (Ok Clean) s new = IsPartly (repair_start s) s new × IsDrained (offers_of surely) new.state
+RepairSurely surely (Ok (Open gaps)) s new = IsPartly (repair_start s) s new × IsDrained (offers_of surely) new.state
+RepairSurely surely (Ok (Again processed)) s new =
+    IsPartly (repair_start s) s new × NoneLost (offers_of surely) (queue_in new.state.run)
+RepairSurely surely (Err KeeperFault) s new = ⊤
+RepairSurely surely (Err PeerFault) s new =
+    IsPartly (repair_start s) s new × IsPartRepaired (stored_bytes new) s new
+RepairSurely surely (Err Stopped) s new = new ≡ s
+RepairSurely surely (Err Memory) s new = IsPartRepaired (stored_bytes new) s new
+
 -- where the answer is that no gap is left, the processed blocks are those that the heads reach
 abbrev pub RepairReaches : Result Repaired WorkError → ReplicaState → Type 0
 RepairReaches (Ok Clean) new = AreReached new.state.durable
@@ -88,8 +104,9 @@ repair_commits result s new = commits_between (keeper_broke result) s new + 1
 
 -- What a repair with this budget leads to, where the keeper tells: no block is lost, no more come than the budget, the
 -- fuse burns by its commits at most, the state is sound, a clean replica has what its heads reach, and where it is
--- known what is found, the answer is that of the closure of what was wanted and of the gaps.
-pub record RepairLeads (budget : ℕ) (offers : Option Map) (result : Result Repaired WorkError) (s new : ReplicaState)
+-- known what is found, the answer is that of the closure of what was wanted and of the gaps, and what is surely found
+-- is left nowhere.
+pub record RepairLeads (budget : ℕ) (finds : Finds) (result : Result Repaired WorkError) (s new : ReplicaState)
     : Type 0 where
   pub grows : GoesOn s.state.durable new.state.durable
   pub within : count new ≤ count s + budget
@@ -97,7 +114,8 @@ pub record RepairLeads (budget : ℕ) (offers : Option Map) (result : Result Rep
   pub counts : RepairCounts budget result s new
   pub reaches : RepairReaches result new
   pub sound : IsSound new.state
-  pub is : (map : Map) → found_from s.state.durable.graph offers ≡ Some map → RepairIs map result s new
+  pub is : (map : Map) → found_from s.state.durable.graph finds.all ≡ Some map → RepairIs map result s new
+  pub surely : RepairSurely (surely_from s.state.durable.graph finds) result s new
 
 -- whether the walk of a repair with this answer has come to its end
 abbrev pub has_walked : Result Repaired WorkError → Bool

@@ -20,7 +20,7 @@ use Rattle.mc_core.specs.Events.{ReplicaState}
 use Rattle.mc_core.specs.Jobs.{WantsAfter}
 use Rattle.mc_drain.specs.declared.end.DrainEnd.{DrainEnd}
 use Rattle.mc_drain.specs.declared.end.DrainEnd.TheVariants.{Idle, Spent, KeeperFault, PeerFault, Memory}
-use Rattle.mc_drain.specs.Leads.{FuseGoes, HasBrokenOff, commits_between, count, up_to}
+use Rattle.mc_drain.specs.Leads.{DrainsOn, FuseGoes, HasBrokenOff, commits_between, count, up_to}
 
 -- the end where a fetch gave none
 abbrev pub end_by : FetchError → DrainEnd
@@ -154,3 +154,4 @@ pub record DrainLeads (end : DrainEnd) (limit : ℕ) (P : Map → List Cid → T
       → (old : Durable) (start : List Cid) → HasDrained map kept old start s.state →
       HasBrokenOff map old start new.state.durable
   pub good : end ≡ Spent → AllGood P s (queue_in new.state.run).waiting
+  pub whatever : is_keeper end ≡ false → DrainsOn s new

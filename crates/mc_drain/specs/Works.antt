@@ -3,8 +3,8 @@ use Rattle.std.specs.Prelude.{◌≡◌, ◌≢◌, ◌≤◌, ◌+◌, ◌-◌,
 use Rattle.std.specs.Prelude.{Ok, Err, IfSome}
 use Rattle.mc_base.specs.declared.cid.Cid.{Cid}
 use Rattle.mc_fetch.specs.Fits.{Map}
-use Rattle.mc_model.specs.Drain.{IsClosure, PartsFit}
-use Rattle.mc_model.specs.Draining.{HasDrained, offers_of, queue_in}
+use Rattle.mc_model.specs.Drain.{IsClosure, IsDrained, PartsFit}
+use Rattle.mc_model.specs.Draining.{HasDrained, bytes_in, offers_of, queue_in}
 use Rattle.mc_model.specs.Events.{GoesOn}
 use Rattle.mc_model.specs.Found.{Offers, is_found}
 use Rattle.mc_model.specs.Graph.{cids_in, has}
@@ -18,8 +18,9 @@ use Rattle.mc_drain.specs.declared.working.WorkError.{WorkError}
 use Rattle.mc_drain.specs.declared.working.WorkError.TheVariants.{KeeperFault, PeerFault, Stopped, Memory}
 use Rattle.mc_drain.specs.declared.working.Worked.{Worked}
 use Rattle.mc_drain.specs.declared.working.Worked.TheVariants.{Done, Again}
-use Rattle.mc_drain.specs.Finds.{found_from}
+use Rattle.mc_drain.specs.Finds.{Finds, found_from, surely_from}
 use Rattle.mc_drain.specs.Leads.{FuseGoes, HasBrokenOff, commits_between, count}
+use Rattle.mc_drain.specs.Lost.{is_stuck}
 
 -- whether a keeper failed, and whether a fetch did
 abbrev pub keeper_broke : {T : Type 0} → Result T WorkError → Bool
@@ -82,6 +83,31 @@ WorkIs map (Err PeerFault) s new = IsPartOf map (wanted_in s.state.run) s new
 WorkIs map (Err Stopped) s new = new ≡ s
 WorkIs map (Err Memory) s new = IsPartOf map (wanted_in s.state.run) s new
 
+-- the bytes of the blocks that are stored
+abbrev pub stored_bytes : ReplicaState → Map
+stored_bytes s c = bytes_in s.state.durable.graph c
+
+-- the drain of these blocks has come so far, whatever was found: what is stored now is what was
+abbrev pub IsPartly : List Cid → ReplicaState → ReplicaState → Type 0
+IsPartly start s new = IsPartOf (stored_bytes new) start s new
+
+-- no block with a good offer is missing or bad
+abbrev pub NoneLost : Offers → Queue → Type 0
+NoneLost found q = (c : Cid) → is_stuck c q ≡ true → is_found (found c) ≡ false
+
+-- What a work leads to, by its answer, where these bytes are surely found, whatever else is: each block that was wanted
+-- is processed or still wanted, and so is what an added block links to; where it is done, nothing that is wanted is
+-- surely found, and where it is to come again, nothing that is missing or bad is.
+abbrev pub WorkSurely : Map → Result Worked WorkError → ReplicaState → ReplicaState → Type 0
+WorkSurely surely (Ok (Done processed missing bad)) s new =
+    IsPartly (wanted_in s.state.run) s new × IsDrained (offers_of surely) new.state
+WorkSurely surely (Ok (Again processed)) s new =
+    IsPartly (wanted_in s.state.run) s new × NoneLost (offers_of surely) (queue_in new.state.run)
+WorkSurely surely (Err KeeperFault) s new = ⊤
+WorkSurely surely (Err PeerFault) s new = IsPartly (wanted_in s.state.run) s new
+WorkSurely surely (Err Stopped) s new = new ≡ s
+WorkSurely surely (Err Memory) s new = IsPartly (wanted_in s.state.run) s new
+
 -- the numbers of an answer: how many blocks came, and where there are to come again the limit is reached
 abbrev pub WorkCounts : ℕ → Result Worked WorkError → ReplicaState → ReplicaState → Type 0
 WorkCounts budget (Ok (Done processed missing bad)) s new = processed ≡ came_between s new
@@ -89,16 +115,17 @@ WorkCounts budget (Ok (Again processed)) s new = (processed ≡ came_between s n
 WorkCounts budget (Err error) s new = ⊤
 
 -- What a work of this budget leads to, where the keeper tells: no block is lost, no more come than the budget, the fuse
--- burns by their commits at most, the state is sound, and where it is known what is found, the answer is that of the
--- closure of what was wanted.
-pub record WorkLeads (budget : ℕ) (offers : Option Map) (result : Result Worked WorkError) (s new : ReplicaState)
+-- burns by their commits at most, the state is sound, where it is known what is found, the answer is that of the
+-- closure of what was wanted, and what is surely found is left nowhere.
+pub record WorkLeads (budget : ℕ) (finds : Finds) (result : Result Worked WorkError) (s new : ReplicaState)
     : Type 0 where
   pub grows : GoesOn s.state.durable new.state.durable
   pub within : count new ≤ count s + budget
   pub fuse : FuseGoes (keeper_broke result) (commits_between (keeper_broke result) s new) s.fuse new.fuse
   pub counts : WorkCounts budget result s new
   pub sound : IsSound new.state
-  pub is : (map : Map) → found_from s.state.durable.graph offers ≡ Some map → WorkIs map result s new
+  pub is : (map : Map) → found_from s.state.durable.graph finds.all ≡ Some map → WorkIs map result s new
+  pub surely : WorkSurely (surely_from s.state.durable.graph finds) result s new
 
 -- what is wanted after a work, over every keeper: nothing is in flight, unless the replica has stopped; where it is
 -- done nothing waits, and the numbers are those of the missing and the bad ones

@@ -1,14 +1,15 @@
 // The drain.
 ghost use Rattle.std.specs.Prelude.{◌≡◌, ◌≢◌, ◌≤◌, [], false, None, Some, IfSome};
 ghost use Rattle.mc_fetch.specs.Calls.{Asks};
-ghost use Rattle.mc_fetch.specs.Offers.{found_by};
+ghost use Rattle.mc_fetch.specs.Offers.{found_by, surely_by};
 ghost use Rattle.mc_queue.specs.Views.{shown};
 ghost use Rattle.mc_core.specs.Exact.{RestSame};
 ghost use Rattle.mc_core.specs.Replica.{replica_state};
 ghost use Rattle.mc_core.specs.Words.{Becomes, Continues};
 ghost use Rattle.mc_drain.specs.Leads.{Always, Leads, count, up_to};
+ghost use Rattle.mc_drain.specs.Lost.{AreLost, IsLost, Sticks};
 ghost use Rattle.mc_drain.specs.Words.{AllGood, DrainLeads, Fetched, NothingStuck, is_keeper, is_peer, keeper_failed};
-ghost use Rattle.mc_drain.specs.Words.{peer_failed};
+ghost use Rattle.mc_drain.specs.Words.{NoneStuck, peer_failed};
 
 use crate::DrainEnd;
 use crate::jobs::{recall, requeue};
@@ -40,6 +41,8 @@ pub fn drain<K: Keeper, F: Fetch, W: Wait>(
     ensures rest { RestSame replica.old replica.new }
     ensures asks { Asks F.Fetch (is_peer result) fetch.old fetch.new }
     ensures flight { is_keeper result ≡ false → (shown replica.new.queue).flight ≡ [] }
+    ensures lost { IfSome (replica_state K.told K.fuse replica.old) (λ s. is_keeper result ≡ false →
+        AreLost (surely_by (F.leading fetch.old)) s.state.durable.graph (shown replica.new.queue)) }
     ensures idle { result ≡ DrainEnd.Idle → (shown replica.new.queue).waiting ≡ [] }
     ensures spent { result ≡ DrainEnd.Spent → (shown replica.new.queue).waiting ≢ [] }
 {
@@ -57,6 +60,7 @@ fn restart<K: Keeper>(replica: &mut Replica<K>)
     ensures keeps { Continues K.Keeper false replica.old replica.new }
     ensures rest { RestSame replica.old replica.new }
     ensures flight { (shown replica.new.queue).flight ≡ [] }
+    ensures freed { NoneStuck (shown replica.new.queue) }
     ensures fresh { IfSome (replica_state K.told K.fuse replica.new) NothingStuck }
 {
     recall(replica);
@@ -80,6 +84,9 @@ fn take_turns<K: Keeper, F: Fetch, W: Wait>(
     ensures asks { Asks F.Fetch (peer_failed result) fetch.old fetch.new }
     ensures flight { keeper_failed result ≡ false → (shown replica.new.queue).flight ≡ [] }
     ensures idle { result ≡ Some DrainEnd.Idle → (shown replica.new.queue).waiting ≡ [] }
+    ensures sticks { IfSome (replica_state K.told K.fuse replica.old) (λ s. keeper_failed result ≡ false →
+        Sticks (IsLost (surely_by (F.leading fetch.old)) s.state.durable.graph) (shown replica.old.queue)
+        (shown replica.new.queue)) }
     ensures spent { IfSome (replica_state K.told K.fuse replica.new) (λ s. result ≡ None → limit ≤ count s) }
     ensures unspent { result ≢ Some DrainEnd.Spent }
 {
@@ -114,6 +121,9 @@ fn part<K: Keeper, F: Fetch, W: Wait>(
     ensures flight { is_keeper result ≡ false → (shown replica.new.queue).flight ≡ [] }
     ensures idle { result ≡ DrainEnd.Idle → (shown replica.new.queue).waiting ≡ [] }
     ensures spent { result ≡ DrainEnd.Spent → (shown replica.new.queue).waiting ≢ [] }
+    ensures sticks { IfSome (replica_state K.told K.fuse replica.old) (λ s. is_keeper result ≡ false →
+        Sticks (IsLost (surely_by (F.leading fetch.old)) s.state.durable.graph) (shown replica.old.queue)
+        (shown replica.new.queue)) }
     ensures good { IfSome (replica_state K.told K.fuse replica.old) (λ s. result ≡ DrainEnd.Spent →
         AllGood (Fetched (found_by (F.offers fetch.old))) s (shown replica.new.queue).waiting) }
 {

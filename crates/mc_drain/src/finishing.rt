@@ -1,13 +1,13 @@
 // What the caller does after a round of workers: it goes on alone, or leaves off.
-ghost use Rattle.std.specs.Prelude.{◌≡◌, ◌≢◌, ◌+◌, ℕ, [], true, false, cond, Err, Option};
+ghost use Rattle.std.specs.Prelude.{◌≡◌, ◌≢◌, ◌+◌, ℕ, [], true, false, cond, Err};
 ghost use Rattle.mc_fetch.specs.Calls.{Asks};
-ghost use Rattle.mc_fetch.specs.Fits.{Map};
 ghost use Rattle.mc_fetch.specs.Offers.{found_by};
 ghost use Rattle.mc_queue.specs.Views.{shown};
 ghost use Rattle.mc_core.specs.Events.{ReplicaState};
 ghost use Rattle.mc_core.specs.Exact.{RestSame};
 ghost use Rattle.mc_core.specs.Replica.{replica_state};
 ghost use Rattle.mc_core.specs.Words.{Becomes, Continues};
+ghost use Rattle.mc_drain.specs.Finds.{Finds, finds_by};
 ghost use Rattle.mc_drain.specs.Repairs.{RepairLeads, RepairWants};
 ghost use Rattle.mc_drain.specs.Rounds.{HasWalkedFrom, HasWorkedFrom};
 ghost use Rattle.mc_drain.specs.Words.{is_keeper};
@@ -37,7 +37,8 @@ pub fn finish_work<K: Keeper, F: Fetch, W: Wait>(
     requires runs { replica.old.stopped ≡ false }
     ensures leads { Becomes K.Keeper (λ rose s new. (root : ReplicaState) →
         HasWorkedFrom false before budget (found_by (F.offers fetch.old)) root s →
-        WorkLeads budget (found_by (F.offers fetch.old)) result root new) replica.old replica.new }
+        WorkLeads budget (finds_by (F.offers fetch.old) (F.leading fetch.old)) result root new)
+        replica.old replica.new }
     ensures keeps { Continues K.Keeper (keeper_broke result) replica.old replica.new }
     ensures rest { RestSame replica.old replica.new }
     ensures asks { Asks F.Fetch (peer_broke result) fetch.old fetch.new }
@@ -75,13 +76,13 @@ fn answer<K: Keeper>(replica: &Replica<K>, end: DrainEnd, before: u64) -> Result
 /// Leaves a work or a repair after workers of whom the keeper or a fetch failed, and says why: `KeeperFault` exactly
 /// where the replica has stopped, and then nothing changes; else `PeerFault`, and all that was in flight waits again.
 pub fn leave_off<K: Keeper>(replica: &mut Replica<K>) -> WorkError
-    ensures works { Becomes K.Keeper (λ rose s new. (before budget : ℕ) (offers : Option Map) (root : ReplicaState) →
-        HasWorkedFrom replica.old.stopped before budget offers root s →
-        WorkLeads budget offers (Err result) root new) replica.old replica.new }
+    ensures works { Becomes K.Keeper (λ rose s new. (before budget : ℕ) (finds : Finds) (root : ReplicaState) →
+        HasWorkedFrom replica.old.stopped before budget finds.all root s →
+        WorkLeads budget finds (Err result) root new) replica.old replica.new }
     ensures repairs { Becomes K.Keeper (λ rose s new.
-        (before budget : ℕ) (offers : Option Map) (root walked : ReplicaState) → HasWalkedFrom root walked →
-        HasWorkedFrom replica.old.stopped before budget offers walked s →
-        RepairLeads budget offers (Err result) root new) replica.old replica.new }
+        (before budget : ℕ) (finds : Finds) (root walked : ReplicaState) → HasWalkedFrom root walked →
+        HasWorkedFrom replica.old.stopped before budget finds.all walked s →
+        RepairLeads budget finds (Err result) root new) replica.old replica.new }
     ensures keeps { Continues K.Keeper false replica.old replica.new }
     ensures rest { RestSame replica.old replica.new }
     ensures why { result ≡ cond replica.old.stopped WorkError.KeeperFault WorkError.PeerFault }

@@ -1,9 +1,9 @@
 // A work or a repair that can't begin.
-ghost use Rattle.std.specs.Prelude.{◌≡◌, ◌↔◌, ℕ, false, true, Option, Err};
-ghost use Rattle.mc_fetch.specs.Fits.{Map};
+ghost use Rattle.std.specs.Prelude.{◌≡◌, ◌↔◌, ℕ, false, true, Err};
 ghost use Rattle.mc_queue.specs.Views.{shown};
 ghost use Rattle.mc_core.specs.Exact.{RestSame};
 ghost use Rattle.mc_core.specs.Words.{Becomes, Continues};
+ghost use Rattle.mc_drain.specs.Finds.{Finds};
 ghost use Rattle.mc_drain.specs.Repairs.{RepairLeads};
 ghost use Rattle.mc_drain.specs.Works.{GivesUp, WorkLeads};
 
@@ -16,10 +16,10 @@ use mc_model::{found_drains_go_on, found_repairs_go_on, parts_stay_right};
 /// Leaves a replica as a work and a repair do that can't begin, and says why: `Stopped` comes exactly where it had
 /// stopped, and changes nothing; else it is `Memory`, and all that was in flight waits again.
 pub fn give_up<K: Keeper>(replica: &mut Replica<K>) -> WorkError
-    ensures works { (budget : ℕ) (offers : Option Map) → Becomes K.Keeper (λ rose s new.
-        WorkLeads budget offers (Err result) s new) replica.old replica.new }
-    ensures repairs { (budget : ℕ) (offers : Option Map) → Becomes K.Keeper (λ rose s new.
-        RepairLeads budget offers (Err result) s new) replica.old replica.new }
+    ensures works { (budget : ℕ) (finds : Finds) → Becomes K.Keeper (λ rose s new.
+        WorkLeads budget finds (Err result) s new) replica.old replica.new }
+    ensures repairs { (budget : ℕ) (finds : Finds) → Becomes K.Keeper (λ rose s new.
+        RepairLeads budget finds (Err result) s new) replica.old replica.new }
     ensures keeps { Continues K.Keeper false replica.old replica.new }
     ensures rest { RestSame replica.old replica.new }
     ensures stopped { result ≡ WorkError.Stopped ↔ replica.old.stopped ≡ true }

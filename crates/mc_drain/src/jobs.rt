@@ -15,6 +15,7 @@ ghost use Rattle.mc_core.specs.Replica.{replica_state};
 ghost use Rattle.mc_core.specs.Words.{Becomes, Continues, HappensTo};
 ghost use Rattle.mc_drain.specs.JobCalls.{JobCall, back_events};
 ghost use Rattle.mc_drain.specs.Leads.{Always, Leads, LeadsBy, all_processes, count};
+ghost use Rattle.mc_drain.specs.Lost.{Nobody, Sticks, StuckOf};
 ghost use Rattle.mc_drain.specs.Words.{Begins, EndsJob, FoundFor, TakenFor, IsBroken, IsNoBlock, begin_failed};
 ghost use Rattle.mc_drain.specs.Words.{is_keeper};
 ghost use Rattle.mc_drain.specs.Words.{keeper_failed};
@@ -144,6 +145,8 @@ pub(crate) fn begin<K: Keeper>(
         IfSome job (λ (job : Begun). job.own ≡ bytes_in s.state.durable.graph job.cid))) }
     ensures broken { IfErr result IsBroken }
     ensures flight { IfErr result (λ end. is_keeper end ≡ false → (shown replica.new.queue).flight ≡ []) }
+    ensures sticks { begin_failed result ≡ false →
+        Sticks Nobody (shown replica.old.queue) (shown replica.new.queue) }
 {
     match begin_job(alloc, replica) {
         Ok(job) => Ok(job),
@@ -175,6 +178,8 @@ pub(crate) fn deliver<K: Keeper>(
     ensures broken { IfSome result IsBroken }
     ensures flight { keeper_failed result ≡ false → (shown replica.new.queue).flight ≡ [] }
     ensures ends { result ≡ None → EndsJob (shown replica.old.queue) (shown replica.new.queue) job.cid }
+    ensures sticks { keeper_failed result ≡ false →
+        Sticks (StuckOf job.cid (found_in found)) (shown replica.old.queue) (shown replica.new.queue) }
     ensures stuck { IfSome (replica_state K.told K.fuse replica.old) (λ s. result ≡ None →
         IsNoBlock job.cid (found_in found) → (shown replica.new.queue).waiting ≡ (shown replica.old.queue).waiting) }
 {
@@ -197,6 +202,7 @@ pub(crate) fn back<K: Keeper>(replica: &mut Replica<K>, job: Job)
     ensures keeps { Continues K.Keeper false replica.old replica.new }
     ensures rest { RestSame replica.old replica.new }
     ensures flight { (shown replica.new.queue).flight ≡ [] }
+    ensures sticks { Sticks Nobody (shown replica.old.queue) (shown replica.new.queue) }
     ensures waits { (shown replica.new.queue).waiting ≡ (shown replica.old.queue).waiting ++ job.cid ∷ [] }
 {
     give_job_back(replica, job);

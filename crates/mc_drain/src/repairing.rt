@@ -1,7 +1,6 @@
 // A repair.
-ghost use Rattle.std.specs.Prelude.{◌≡◌, ◌≢◌, ◌↔◌, ℕ, true, false, Option, Err, IfErr, IfOk, IfSome, OnOk};
+ghost use Rattle.std.specs.Prelude.{◌≡◌, ◌≢◌, ◌↔◌, ℕ, true, false, Err, IfErr, IfOk, IfSome, OnOk};
 ghost use Rattle.mc_fetch.specs.Calls.{Asks};
-ghost use Rattle.mc_fetch.specs.Fits.{Map};
 ghost use Rattle.mc_fetch.specs.Offers.{found_by};
 ghost use Rattle.mc_queue.specs.Views.{shown};
 ghost use Rattle.mc_model.specs.State.{kept_of};
@@ -11,6 +10,7 @@ ghost use Rattle.mc_core.specs.Exact.{RestSame};
 ghost use Rattle.mc_core.specs.Replica.{replica_state};
 ghost use Rattle.mc_core.specs.Walks.{gap_count, settled_with};
 ghost use Rattle.mc_core.specs.Words.{Becomes, Continues};
+ghost use Rattle.mc_drain.specs.Finds.{Finds, finds_by};
 ghost use Rattle.mc_drain.specs.Repairs.{RepairAnswer, RepairLeads, RepairWants, has_walked, repaired_of, walk_error};
 ghost use Rattle.mc_drain.specs.Leads.{count};
 ghost use Rattle.mc_drain.specs.Rounds.{HasWalkedFrom, HasWorkedFrom};
@@ -57,7 +57,8 @@ pub fn repair<K: Keeper, F: Fetch, W: Wait>(
     budget: u64,
     wait: &W,
 ) -> Result<Repaired, WorkError>
-    ensures leads { Becomes K.Keeper (λ rose s new. RepairLeads budget (found_by (F.offers fetch.old)) result s new)
+    ensures leads { Becomes K.Keeper (λ rose s new.
+        RepairLeads budget (finds_by (F.offers fetch.old) (F.leading fetch.old)) result s new)
         replica.old replica.new }
     ensures keeps { Continues K.Keeper (keeper_broke result) replica.old replica.new }
     ensures batch { replica.new.batch ≡ replica.old.batch }
@@ -83,8 +84,8 @@ pub fn begin_repair<K: Keeper, W: Wait>(
 ) -> Result<u64, WorkError>
     ensures walks { Becomes K.Keeper (λ rose s new. IfOk result (λ before.
         (before ≡ capped (count new)) × HasWalkedFrom s new)) replica.old replica.new }
-    ensures leads { Becomes K.Keeper (λ rose s new. IfErr result (λ error. (budget : ℕ) (offers : Option Map) →
-        RepairLeads budget offers (Err error) s new)) replica.old replica.new }
+    ensures leads { Becomes K.Keeper (λ rose s new. IfErr result (λ error. (budget : ℕ) (finds : Finds) →
+        RepairLeads budget finds (Err error) s new)) replica.old replica.new }
     ensures keeps { Continues K.Keeper (keeper_broke result) replica.old replica.new }
     ensures batch { replica.new.batch ≡ replica.old.batch }
     ensures whole { OnOk result (replica.new.whole ≡ true) }
@@ -130,7 +131,8 @@ pub fn finish_repair<K: Keeper, F: Fetch, W: Wait>(
     requires whole { replica.old.whole ≡ true }
     ensures leads { Becomes K.Keeper (λ rose s new. (root walked : ReplicaState) → HasWalkedFrom root walked →
         HasWorkedFrom false before budget (found_by (F.offers fetch.old)) walked s →
-        RepairLeads budget (found_by (F.offers fetch.old)) result root new) replica.old replica.new }
+        RepairLeads budget (finds_by (F.offers fetch.old) (F.leading fetch.old)) result root new)
+        replica.old replica.new }
     ensures keeps { Continues K.Keeper (keeper_broke result) replica.old replica.new }
     ensures rest { RestSame replica.old replica.new }
     ensures asks { Asks F.Fetch (peer_broke result) fetch.old fetch.new }

@@ -2,13 +2,14 @@
 ghost use Rattle.std.specs.Prelude.{◌≡◌, ◌≢◌, ◌∷◌, [], false, None, Some, IfOk, IfSome};
 ghost use Rattle.mc_fetch.specs.Calls.{Asks};
 ghost use Rattle.mc_fetch.specs.Fits.{FoundHas};
-ghost use Rattle.mc_fetch.specs.Offers.{HasDigest, found_by};
+ghost use Rattle.mc_fetch.specs.Offers.{HasDigest, found_by, surely_by};
 ghost use Rattle.mc_queue.specs.Views.{shown};
 ghost use Rattle.mc_core.specs.Exact.{RestSame};
 ghost use Rattle.mc_core.specs.Jobs.{found_in};
 ghost use Rattle.mc_core.specs.Replica.{replica_state};
 ghost use Rattle.mc_core.specs.Words.{Becomes, Continues};
 ghost use Rattle.mc_drain.specs.Leads.{Leads, count};
+ghost use Rattle.mc_drain.specs.Lost.{IsLost, Sticks, StuckFor, StuckOf};
 ghost use Rattle.mc_drain.specs.Words.{AllGood, Fetched, FetchedFor, FoundFor, IsBroken, IsGoodness, Sorts, SortsFirst};
 ghost use Rattle.mc_drain.specs.Words.{keeper_failed, peer_failed};
 
@@ -43,6 +44,9 @@ pub(crate) fn sort_waiting<K: Keeper, F: Fetch, W: Wait>(
     ensures flight { keeper_failed result ≡ false → (shown replica.new.queue).flight ≡ [] }
     ensures idle { result ≡ Some DrainEnd.Idle → (shown replica.new.queue).waiting ≡ [] }
     ensures unspent { result ≢ Some DrainEnd.Spent }
+    ensures sticks { IfSome (replica_state K.told K.fuse replica.old) (λ s. keeper_failed result ≡ false →
+        Sticks (IsLost (surely_by (F.leading fetch.old)) s.state.durable.graph) (shown replica.old.queue)
+        (shown replica.new.queue)) }
     ensures good { IfSome (replica_state K.told K.fuse replica.old) (λ s. result ≡ None →
         AllGood (Fetched (found_by (F.offers fetch.old))) s (shown replica.new.queue).waiting) }
 {
@@ -76,10 +80,14 @@ fn sort_turn<K: Keeper, F: Fetch, W: Wait>(
     ensures flight { keeper_failed result ≡ false → (shown replica.new.queue).flight ≡ [] }
     ensures idle { result ≡ Some DrainEnd.Idle → (shown replica.new.queue).waiting ≡ [] }
     ensures unspent { result ≢ Some DrainEnd.Spent }
+    ensures sticks { IfSome (replica_state K.told K.fuse replica.old) (λ s. keeper_failed result ≡ false →
+        Sticks (IsLost (surely_by (F.leading fetch.old)) s.state.durable.graph) (shown replica.old.queue)
+        (shown replica.new.queue)) }
     ensures sorts { IfSome (replica_state K.told K.fuse replica.old) (λ s. result ≡ None →
         SortsFirst (found_by (F.offers fetch.old)) s (shown replica.old.queue).waiting
         (shown replica.new.queue).waiting) }
 {
+    replica.is_sound();
     match begin(alloc, replica) {
         Ok(Some(job)) => sort_job(alloc, replica, fetch, job, wait),
         Ok(None) => Some(DrainEnd::Idle),
@@ -106,6 +114,9 @@ fn sort_job<K: Keeper, F: Fetch, W: Wait>(
     ensures flight { keeper_failed result ≡ false → (shown replica.new.queue).flight ≡ [] }
     ensures idle { result ≢ Some DrainEnd.Idle }
     ensures unspent { result ≢ Some DrainEnd.Spent }
+    ensures sticks { keeper_failed result ≡ false →
+        Sticks (StuckFor (surely_by (F.leading fetch.old)) job.cid job.own) (shown replica.old.queue)
+        (shown replica.new.queue) }
     ensures sorts { IfSome (replica_state K.told K.fuse replica.old) (λ s. result ≡ None →
         Sorts (FetchedFor (found_by (F.offers fetch.old)) job.cid job.own) (shown replica.old.queue).waiting
         (shown replica.new.queue).waiting) }
@@ -136,6 +147,8 @@ fn sort_found<K: Keeper>(
     ensures rest { RestSame replica.old replica.new }
     ensures flight { keeper_failed result ≡ false → (shown replica.new.queue).flight ≡ [] }
     ensures broken { IfSome result IsBroken }
+    ensures sticks { keeper_failed result ≡ false →
+        Sticks (StuckOf job.cid (found_in found)) (shown replica.old.queue) (shown replica.new.queue) }
     ensures sorts { IfSome (replica_state K.told K.fuse replica.old) (λ s. result ≡ None →
         Sorts (FoundFor job.cid (found_in found)) (shown replica.old.queue).waiting
         (shown replica.new.queue).waiting) }

@@ -1,11 +1,13 @@
 // The turns of a drain: each takes the first block that waits.
 ghost use Rattle.std.specs.Prelude.{◌≡◌, ◌≢◌, ◌+◌, ◌∷◌, [], false, None, Some, IfSome};
 ghost use Rattle.mc_fetch.specs.Calls.{Asks};
-ghost use Rattle.mc_fetch.specs.Offers.{HasDigest, found_by};
+ghost use Rattle.mc_fetch.specs.Offers.{HasDigest, found_by, surely_by};
 ghost use Rattle.mc_queue.specs.Views.{shown};
 ghost use Rattle.mc_core.specs.Exact.{RestSame};
+ghost use Rattle.mc_core.specs.Replica.{replica_state};
 ghost use Rattle.mc_core.specs.Words.{Becomes, Continues};
 ghost use Rattle.mc_drain.specs.Leads.{Leads, count};
+ghost use Rattle.mc_drain.specs.Lost.{IsLost, Sticks, StuckFor};
 ghost use Rattle.mc_drain.specs.Words.{EndsJob, Fetched, FetchedFor, Turns, keeper_failed, peer_failed};
 
 use crate::DrainEnd;
@@ -33,10 +35,14 @@ pub(crate) fn take_turn<K: Keeper, F: Fetch, W: Wait>(
     ensures rest { RestSame replica.old replica.new }
     ensures asks { Asks F.Fetch (peer_failed result) fetch.old fetch.new }
     ensures flight { keeper_failed result ≡ false → (shown replica.new.queue).flight ≡ [] }
+    ensures sticks { IfSome (replica_state K.told K.fuse replica.old) (λ s. keeper_failed result ≡ false →
+        Sticks (IsLost (surely_by (F.leading fetch.old)) s.state.durable.graph) (shown replica.old.queue)
+        (shown replica.new.queue)) }
     ensures turn { result ≡ None → Turns (shown replica.old.queue) (shown replica.new.queue) }
     ensures idle { result ≡ Some DrainEnd.Idle → (shown replica.new.queue).waiting ≡ [] }
     ensures unspent { result ≢ Some DrainEnd.Spent }
 {
+    replica.is_sound();
     match begin(alloc, replica) {
         Ok(Some(job)) => do_job(alloc, replica, fetch, job, wait),
         Ok(None) => Some(DrainEnd::Idle),
@@ -61,6 +67,9 @@ fn do_job<K: Keeper, F: Fetch, W: Wait>(
     ensures rest { RestSame replica.old replica.new }
     ensures asks { Asks F.Fetch (peer_failed result) fetch.old fetch.new }
     ensures flight { keeper_failed result ≡ false → (shown replica.new.queue).flight ≡ [] }
+    ensures sticks { keeper_failed result ≡ false →
+        Sticks (StuckFor (surely_by (F.leading fetch.old)) job.cid job.own) (shown replica.old.queue)
+        (shown replica.new.queue) }
     ensures ends { result ≡ None → EndsJob (shown replica.old.queue) (shown replica.new.queue) job.cid }
     ensures idle { result ≢ Some DrainEnd.Idle }
     ensures unspent { result ≢ Some DrainEnd.Spent }

@@ -1,10 +1,10 @@
 // A work of the wanted blocks.
 ghost use Rattle.std.specs.Prelude.{◌≡◌, ◌↔◌, true, Err};
 ghost use Rattle.mc_fetch.specs.Calls.{Asks};
-ghost use Rattle.mc_fetch.specs.Offers.{found_by};
 ghost use Rattle.mc_queue.specs.Views.{shown};
 ghost use Rattle.mc_core.specs.Exact.{RestSame};
 ghost use Rattle.mc_core.specs.Words.{Becomes, Continues};
+ghost use Rattle.mc_drain.specs.Finds.{finds_by};
 ghost use Rattle.mc_drain.specs.Works.{WorkLeads, WorkWants, keeper_broke, peer_broke};
 
 use crate::finish_work;
@@ -55,8 +55,9 @@ pub enum WorkError {
 /// blocks that wait are looked up and processed, until nothing waits or as many are processed as the budget says. Where
 /// it is known what is found, `Done` comes exactly where no wanted block has a good offer any more, and the processed
 /// blocks are then the closure of what was wanted; else it is `Again`, and all that wait have a good offer. After
-/// `Again`, `PeerFault` and `Memory` each block that was wanted is processed or still wanted. `Stopped` comes exactly
-/// where an earlier call answered `KeeperFault`, and changes nothing.
+/// `Again`, `PeerFault` and `Memory` each block that was wanted is processed or still wanted. Where some places are
+/// silent, no block with a good offer at a leading place is wanted after `Done`, nor missing or bad after `Again`.
+/// `Stopped` comes exactly where an earlier call answered `KeeperFault`, and changes nothing.
 pub fn work<K: Keeper, F: Fetch, W: Wait>(
     alloc: Global,
     replica: &mut Replica<K>,
@@ -64,8 +65,8 @@ pub fn work<K: Keeper, F: Fetch, W: Wait>(
     budget: u64,
     wait: &W,
 ) -> Result<Worked, WorkError>
-    ensures leads { Becomes K.Keeper (λ rose s new. WorkLeads budget (found_by (F.offers fetch.old)) result s new)
-        replica.old replica.new }
+    ensures leads { Becomes K.Keeper (λ rose s new.
+        WorkLeads budget (finds_by (F.offers fetch.old) (F.leading fetch.old)) result s new) replica.old replica.new }
     ensures keeps { Continues K.Keeper (keeper_broke result) replica.old replica.new }
     ensures rest { RestSame replica.old replica.new }
     ensures asks { Asks F.Fetch (peer_broke result) fetch.old fetch.new }

@@ -89,6 +89,7 @@ group_step limit cap most failed items s new under right fits a = record {
     goes = λ e known kept k. a.goes e known kept (right_known limit.found known items k.0 right);
     parts = λ e known kept k. a.parts e known kept (right_known limit.found known items k.0 right);
     breaks = λ e known kept k. a.breaks e known kept (right_known limit.found known items k.0 right);
+    whatever = a.whatever;
   };
   few = λ in_bound. let f = a.few in within_more limit.most cap (count new) under (omega (arith, f, fits));
 }

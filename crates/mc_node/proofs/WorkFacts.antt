@@ -27,6 +27,7 @@ use Rattle.mc_drain.specs.Words.{FoundFor}
 use Rattle.mc_drain.proofs.CallFacts.{delivery_processes}
 use Rattle.mc_drain.proofs.EventFacts.{broken_at}
 use Rattle.mc_drain.proofs.FuseFacts.{burns_none, burns_then, fuse_stays, longer}
+use Rattle.mc_drain.proofs.StoredFacts.{drains_itself, drains_then}
 use Rattle.mc_node.specs.Ties.{IsWithin}
 use Rattle.mc_node.specs.Works.{Bounds, HasLed, IsBurnt, IsFired, IsKnown, IsUnder, WorkersLead, bound_of}
 use Rattle.mc_node.proofs.StuckFacts.{parts_from, stuck_from}
@@ -75,6 +76,7 @@ led_of limit failed s new w = record {
   goes = w.goes;
   parts = λ e map kept known old start h p. stuck_from (offers_of map) (queue_in new.state.run) (w.parts e map kept known old start h (parts_from (offers_of map) (queue_in s.state.run) p));
   breaks = w.breaks;
+  whatever = w.whatever;
 }
 
 pub lead_of : (limit : Bounds) (failed : Bool) (s new : ReplicaState) → HasLed limit failed s new → WorkersLead limit failed s new
@@ -90,6 +92,7 @@ lead_of limit failed s new h = record {
   goes = h.goes;
   parts = λ e map kept known old start drained p. parts_from (offers_of map) (queue_in new.state.run) (h.parts e map kept known old start drained (stuck_from (offers_of map) (queue_in s.state.run) p));
   breaks = h.breaks;
+  whatever = h.whatever;
 }
 
 -- what one call more of a worker leads to
@@ -105,6 +108,7 @@ step_then limit failed s mid new a b = record {
   goes = λ e known kept k old start h. b.leads.goes e known kept k old start (a.goes refl known kept k old start h);
   parts = λ e known kept k old start h p. b.leads.parts e known kept k old start (a.goes refl known kept k old start h) (a.parts refl known kept k old start h p);
   breaks = λ e known kept k old start h. b.leads.breaks e known kept k old start (a.goes refl known kept k old start h);
+  whatever = λ e. drains_then s mid new b.leads.grows (a.whatever refl) (b.leads.whatever e);
 }
 
 -- within the bounds
@@ -129,6 +133,7 @@ none_leads limit s few = record {
   goes = λ e known kept k old start h. h;
   parts = λ e known kept k old start h p. p;
   breaks = λ e. absurd (false≢true e);
+  whatever = λ e. drains_itself s;
 }
 
 -- a call that processes nothing
@@ -141,6 +146,7 @@ still_step limit failed s new a = record {
     goes = λ e known kept k. a.goes e known kept tt;
     parts = λ e known kept k. a.parts e known kept tt;
     breaks = λ e known kept k. a.breaks e known kept tt;
+    whatever = a.whatever;
   };
   few = bound_still limit.most (count s) (count new) a.few;
 }
@@ -170,6 +176,7 @@ deliver_step limit cap failed c found s new under fits less a = record {
     goes = λ e known kept k. a.goes e known kept (fits_known limit known c found k.0 fits);
     parts = λ e known kept k. a.parts e known kept (found_known limit known c found k.0 fits);
     breaks = λ e known kept k. a.breaks e known kept (fits_known limit known c found k.0 fits);
+    whatever = a.whatever;
   };
   few = λ in_bound. let d = delivery_processes s.state.durable.graph c (found_in found) in let f = a.few in bound_more limit.most cap (count s) (count new) under less (omega (arith, d, f));
 }
@@ -184,6 +191,7 @@ halt_step limit s = record {
     goes = λ e. absurd (false≢true (sym e));
     parts = λ e. absurd (false≢true (sym e));
     breaks = λ e known kept k old start h. broken_at known kept old start s.state h;
+    whatever = λ e. absurd (false≢true (sym e));
   };
   few = λ in_bound. in_bound;
 }

@@ -15,7 +15,7 @@ use Rattle.mc_model.specs.Graph.{has}
 use Rattle.mc_model.specs.State.{Durable}
 use Rattle.mc_model.specs.Wanted.{Queue}
 use Rattle.mc_core.specs.Events.{ReplicaState}
-use Rattle.mc_drain.specs.Leads.{HasBrokenOff, Leads, commits_between, count}
+use Rattle.mc_drain.specs.Leads.{DrainsOn, HasBrokenOff, Leads, commits_between, count}
 use Rattle.mc_node.specs.Items.{Shown}
 
 -- what a node is limited to: whether it may walk, how much it may process, which bytes are found, and what is stored
@@ -83,6 +83,7 @@ pub record HasLed (limit : Bounds) (failed : Bool) (s new : ReplicaState) : Type
   pub breaks : failed ≡ true → (map : Map) (kept : List Cid) → IsKnown limit map kept →
       (old : Durable) (start : List Cid)
       → HasDrained map kept old start s.state → HasBrokenOff map old start new.state.durable
+  pub whatever : failed ≡ false → DrainsOn s new
 
 -- so many reads and commits were made, where that is known
 abbrev pub reads_in : Option Schedule → ℕ

@@ -2,9 +2,9 @@
 use Rattle.std.proofs.Common.{◌≡◌, ◌↔◌, ℕ, Bool, true, false, Option, Some, None, Result, Ok, Err, refl, sym, ap, ◌∙◌, subst}
 use Rattle.std.proofs.lemmas.Bool.{false≢true}
 use Rattle.mc_base.specs.Told.{Told}
-use Rattle.mc_fetch.specs.Fits.{Map}
 use Rattle.mc_model.specs.Wanted.{Queue}
 use Rattle.mc_core.specs.Events.{ReplicaState}
+use Rattle.mc_drain.specs.Finds.{Finds}
 use Rattle.mc_drain.specs.Repairs.{RepairLeads, RepairWants, has_walked}
 use Rattle.mc_drain.specs.Works.{GivesUp, WorkLeads, WorkWants, keeper_broke, peer_broke}
 use Rattle.mc_drain.specs.declared.repairing.Repaired.{Repaired}
@@ -70,36 +70,36 @@ walked_shows shows (Err Memory) e = e
 
 -- ---- what it leads to
 
-work_leads : (shows : Bool) (drained : Result Worked WorkError) (budget : ℕ) (offers : Option Map) (s new : ReplicaState) → WorkLeads budget offers drained s new → WorkLeads budget offers (answered shows drained) s new
-work_leads shows (Ok value) budget offers s new leads = leads
-work_leads shows (Err KeeperFault) budget offers s new leads = leads
-work_leads true (Err PeerFault) budget offers s new leads = leads
-work_leads false (Err PeerFault) budget offers s new leads = record { grows = leads.grows; within = leads.within; fuse = leads.fuse; counts = tt; sound = leads.sound; is = λ map f. leads.is map f }
-work_leads shows (Err Stopped) budget offers s new leads = leads
-work_leads shows (Err Memory) budget offers s new leads = leads
+work_leads : (shows : Bool) (drained : Result Worked WorkError) (budget : ℕ) (finds : Finds) (s new : ReplicaState) → WorkLeads budget finds drained s new → WorkLeads budget finds (answered shows drained) s new
+work_leads shows (Ok value) budget finds s new leads = leads
+work_leads shows (Err KeeperFault) budget finds s new leads = leads
+work_leads true (Err PeerFault) budget finds s new leads = leads
+work_leads false (Err PeerFault) budget finds s new leads = record { grows = leads.grows; within = leads.within; fuse = leads.fuse; counts = tt; sound = leads.sound; is = λ map f. leads.is map f; surely = leads.surely }
+work_leads shows (Err Stopped) budget finds s new leads = leads
+work_leads shows (Err Memory) budget finds s new leads = leads
 
-pub work_told : (shows : Bool) (drained result : Result Worked WorkError) (budget : ℕ) (found offers : Option Map) (a b : Option ReplicaState) → result ≡ answered shows drained → found ≡ offers → Told a b (λ s new. WorkLeads budget found drained s new)
-    → Told a b (λ s new. WorkLeads budget offers result s new)
-work_told shows drained result budget found offers None b is same t = tt
-work_told shows drained result budget found offers (Some s) None is same t = absurd t
-work_told shows drained result budget found offers (Some s) (Some new) is same t =
-    subst (λ (r : Result Worked WorkError). WorkLeads budget offers r s new) (sym is) (subst (λ (o : Option Map). WorkLeads budget o (answered shows drained) s new) same (work_leads shows drained budget found s new t))
+pub work_told : (shows : Bool) (drained result : Result Worked WorkError) (budget : ℕ) (found finds : Finds) (a b : Option ReplicaState) → result ≡ answered shows drained → found ≡ finds → Told a b (λ s new. WorkLeads budget found drained s new)
+    → Told a b (λ s new. WorkLeads budget finds result s new)
+work_told shows drained result budget found finds None b is same t = tt
+work_told shows drained result budget found finds (Some s) None is same t = absurd t
+work_told shows drained result budget found finds (Some s) (Some new) is same t =
+    subst (λ (r : Result Worked WorkError). WorkLeads budget finds r s new) (sym is) (subst (λ (o : Finds). WorkLeads budget o (answered shows drained) s new) same (work_leads shows drained budget found s new t))
 
-repair_leads : (shows : Bool) (drained : Result Repaired WorkError) (budget : ℕ) (offers : Option Map) (s new : ReplicaState) → RepairLeads budget offers drained s new → RepairLeads budget offers (answered shows drained) s new
-repair_leads shows (Ok value) budget offers s new leads = leads
-repair_leads shows (Err KeeperFault) budget offers s new leads = leads
-repair_leads true (Err PeerFault) budget offers s new leads = leads
-repair_leads false (Err PeerFault) budget offers s new leads =
-    record { grows = leads.grows; within = leads.within; fuse = leads.fuse; counts = tt; reaches = tt; sound = leads.sound; is = λ map f. let is = leads.is map f in (is.1, is.2) }
-repair_leads shows (Err Stopped) budget offers s new leads = leads
-repair_leads shows (Err Memory) budget offers s new leads = leads
+repair_leads : (shows : Bool) (drained : Result Repaired WorkError) (budget : ℕ) (finds : Finds) (s new : ReplicaState) → RepairLeads budget finds drained s new → RepairLeads budget finds (answered shows drained) s new
+repair_leads shows (Ok value) budget finds s new leads = leads
+repair_leads shows (Err KeeperFault) budget finds s new leads = leads
+repair_leads true (Err PeerFault) budget finds s new leads = leads
+repair_leads false (Err PeerFault) budget finds s new leads =
+    record { grows = leads.grows; within = leads.within; fuse = leads.fuse; counts = tt; reaches = tt; sound = leads.sound; is = λ map f. let is = leads.is map f in (is.1, is.2); surely = leads.surely.1 }
+repair_leads shows (Err Stopped) budget finds s new leads = leads
+repair_leads shows (Err Memory) budget finds s new leads = leads
 
-pub repair_told : (shows : Bool) (drained result : Result Repaired WorkError) (budget : ℕ) (found offers : Option Map) (a b : Option ReplicaState) → result ≡ answered shows drained → found ≡ offers → Told a b (λ s new. RepairLeads budget found drained s new)
-    → Told a b (λ s new. RepairLeads budget offers result s new)
-repair_told shows drained result budget found offers None b is same t = tt
-repair_told shows drained result budget found offers (Some s) None is same t = absurd t
-repair_told shows drained result budget found offers (Some s) (Some new) is same t =
-    subst (λ (r : Result Repaired WorkError). RepairLeads budget offers r s new) (sym is) (subst (λ (o : Option Map). RepairLeads budget o (answered shows drained) s new) same (repair_leads shows drained budget found s new t))
+pub repair_told : (shows : Bool) (drained result : Result Repaired WorkError) (budget : ℕ) (found finds : Finds) (a b : Option ReplicaState) → result ≡ answered shows drained → found ≡ finds → Told a b (λ s new. RepairLeads budget found drained s new)
+    → Told a b (λ s new. RepairLeads budget finds result s new)
+repair_told shows drained result budget found finds None b is same t = tt
+repair_told shows drained result budget found finds (Some s) None is same t = absurd t
+repair_told shows drained result budget found finds (Some s) (Some new) is same t =
+    subst (λ (r : Result Repaired WorkError). RepairLeads budget finds r s new) (sym is) (subst (λ (o : Finds). RepairLeads budget o (answered shows drained) s new) same (repair_leads shows drained budget found s new t))
 
 -- ---- what is wanted then
 

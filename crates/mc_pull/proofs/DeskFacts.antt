@@ -7,14 +7,16 @@ use Rattle.std.proofs.lemmas.Bool.Decides.{nat_tests}
 use Rattle.std.proofs.lemmas.Bool.{and_from, and_parts}
 use Rattle.std.proofs.lemmas.List.Sums.{sum_by-cons}
 use Rattle.mc_base.specs.declared.cid.Cid.{Cid}
-use Rattle.mc_pull.specs.Hands.{FetchLeft, found_first}
+use Rattle.mc_drain.specs.Finds.{finds_by}
+use Rattle.mc_pull.specs.Hands.{FetchLeft, first_finds, found_first}
 use Rattle.mc_fetch.specs.Calls.{Members as Asked}
 use Rattle.mc_fetch.specs.Fits.{Map}
-use Rattle.mc_fetch.specs.Offers.{found_by}
-use Rattle.mc_fetch.specs.Peers.{SamePlan, ViewGoes, offers_at, offers_told, onto_peers, peers_told, places_of}
+use Rattle.mc_fetch.specs.Offers.{first_offer, found_by}
+use Rattle.mc_fetch.specs.Peers.{SamePlan, ViewGoes, leading_told, offers_at, offers_told, onto_peers, onto_stored, peers_told, places_of}
 use Rattle.mc_fetch.specs.declared.peers.PeerFetch.{PeerFetch}
 use Rattle.mc_fetch.specs.declared.peers.PeerView.{PeerView}
 use Rattle.mc_fetch.specs.declared.plants.Planted.{Planted}
+use Rattle.mc_fetch.specs.Plants.{planted_at}
 use Rattle.mc_fetch.specs.Views.{views_of}
 use Rattle.mc_keep.specs.Calls.{Members}
 use Rattle.mc_keep.specs.Plan.{DeskSchedule}
@@ -23,7 +25,7 @@ use Rattle.mc_lend.specs.Rows.{AllViewed, lists_of}
 use Rattle.mc_lend.specs.declared.site.Site.{Site}
 use Rattle.mc_model.specs.Found.{PeerOffers}
 use Rattle.mc_model.specs.Kept.{Kept}
-use Rattle.mc_pull.specs.Pulls.{DeskGoes, DeskListGoes, DesksGo, are_quiet, found_at, is_calm, sites_told, told_at}
+use Rattle.mc_pull.specs.Pulls.{DeskGoes, DeskListGoes, DesksGo, are_quiet, finds_at, found_at, is_calm, leading_sites, sites_told, told_at}
 
 -- ---- how many views there are
 
@@ -56,6 +58,29 @@ module _ {K D : Type 0} (told : K → Option Kept) where
   pub found_same : (sites : List (Site K)) (views : List (PeerView K D)) → AreViewsOf sites views → found_by (offers_told told views) ≡ found_at told sites
   found_same sites views of = ap (λ (peers : Option (List (Cid → PeerOffers))). found_by (option_map places_of peers)) (told_same sites views of)
 
+  -- and what the leading places offer
+  abbrev SameLed : List (Site K) → List (PeerView K D) → Type 0
+  SameLed sites views = (cid : Cid) → leading_told told cid views ≡ leading_sites told sites cid
+
+  led_by : (mark : Bool) (site : Site K) (sites : List (Site K)) (views : List (PeerView K D)) → AllZip IsViewOf (cond mark (site ∷ peers_in sites) (peers_in sites)) views → ((rest : List (PeerView K D)) → AreViewsOf sites rest → SameLed sites rest)
+      → (cid : Cid) → leading_told told cid views ≡ cond mark (planted_at site.planted.now cid ∷ onto_stored (told site.keeper.now) cid (leading_sites told sites cid)) (leading_sites told sites cid)
+  led_by false site sites views of rest cid = rest views of cid
+  led_by true site sites [] of rest cid = absurd of
+  led_by true site sites (view ∷ views) of rest cid =
+      ap (λ (planted : List Planted). planted_at planted cid ∷ onto_stored (told view.keeper.now) cid (leading_told told cid views)) of.0.planted
+      ∙ ap (λ (keeper : K). planted_at site.planted.now cid ∷ onto_stored (told keeper) cid (leading_told told cid views)) of.0.keeper
+      ∙ ap (λ (behind : List (Option (List ℕ))). planted_at site.planted.now cid ∷ onto_stored (told site.keeper.now) cid behind) (rest views of.1 cid)
+
+  led_same : (sites : List (Site K)) (views : List (PeerView K D)) → AreViewsOf sites views → SameLed sites views
+  led_same [] [] of = λ cid. refl
+  led_same [] (view ∷ views) of = absurd of
+  led_same (site ∷ sites) views of = λ cid. led_by site.peer site sites views of (λ rest. led_same sites rest) cid
+
+  finds_same : (sites : List (Site K)) (views : List (PeerView K D)) → AreViewsOf sites views → finds_by (offers_told told views) (λ cid. leading_told told cid views) ≡ finds_at told sites
+  finds_same sites views of =
+      let all = found_same sites views of in
+      let led = led_same sites views of in λ i. record { all = all i; surely = λ cid. first_offer cid (led cid i) }
+
   -- all fetches find the same
   pub all_found : (sites : List (Site K)) (fetches : List (PeerFetch K D)) (found : Option Map) → found ≡ found_at told sites → AreFetches sites fetches → All (λ fetch. found_by (offers_told told (views_of fetch)) ≡ found) fetches
   all_found sites [] found is of = λ at d less. absurd (omega (arith, less))
@@ -69,6 +94,11 @@ module _ {K D : Type 0} (told : K → Option Kept) where
   pub first_found : (sites : List (Site K)) (fetches : List (PeerFetch K D)) → 1 ≤ length fetches → AreFetches sites fetches → found_first (λ (fetch : PeerFetch K D). offers_told told (views_of fetch)) fetches ≡ found_at told sites
   first_found sites [] some of = absurd (omega (arith, some))
   first_found sites (fetch ∷ fetches) some of = found_same sites (views_of fetch) of.0
+
+  pub first_finds_at : (sites : List (Site K)) (fetches : List (PeerFetch K D)) → 1 ≤ length fetches → AreFetches sites fetches
+      → first_finds (λ (fetch : PeerFetch K D). offers_told told (views_of fetch)) (λ (fetch : PeerFetch K D) cid. leading_told told cid (views_of fetch)) fetches ≡ finds_at told sites
+  first_finds_at sites [] some of = absurd (omega (arith, some))
+  first_finds_at sites (fetch ∷ fetches) some of = finds_same sites (views_of fetch) of.0
 
 -- ---- what calls leave of the views
 

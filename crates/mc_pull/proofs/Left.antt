@@ -1,14 +1,15 @@
 -- What the workers of a round leave of their fetches.
-use Rattle.std.proofs.Common.{◌≡◌, ◌<◌, ℕ, zero, suc, Bool, true, false, ◌||◌, List, [], ◌∷◌, length, map, All, slice_index_or, refl, sym, ap, subst, arith, inl, inr}
+use Rattle.std.proofs.Common.{◌≡◌, ◌<◌, ℕ, zero, suc, Bool, true, false, ◌||◌, List, [], ◌∷◌, length, map, All, slice_index_or, Option, refl, sym, ap, ◌∙◌, subst, arith, inl, inr}
 use Rattle.std.specs.List.{AllZip, list_any}
 use Rattle.std.proofs.lemmas.Bool.{false≢true, or_cases}
 use Rattle.mc_base.specs.Causes.{Rose}
 use Rattle.mc_fetch.specs.Calls.{Asks, Members}
-use Rattle.mc_fetch.specs.Offers.{found_by}
+use Rattle.mc_fetch.specs.Offers.{Offered, found_by}
 use Rattle.mc_fetch.proofs.AskFacts.{asks_more, asks_none}
 use Rattle.mc_worker.specs.declared.ends.HandEnd.{HandEnd}
 use Rattle.mc_worker.specs.Ends.{is_peer}
-use Rattle.mc_pull.specs.Hands.{FetchLeft, SomeRose, found_first}
+use Rattle.mc_drain.specs.Finds.{finds_by}
+use Rattle.mc_pull.specs.Hands.{FetchLeft, SomeRose, first_finds, found_first}
 
 -- the relation of each two
 pub zip_map : {F H : Type 0} (R : H → H → Type 0) (S : F → F → Type 0) (fetch : H → F) → ((x y : H) → R x y → S (fetch x) (fetch y)) → (xs ys : List H) → AllZip R xs ys → AllZip S (map fetch xs) (map fetch ys)
@@ -124,6 +125,17 @@ module _ {F : Type 0} (f : Members F) where
   found_left [] (y ∷ ys) all = absurd all
   found_left (x ∷ xs) [] all = absurd all
   found_left (x ∷ xs) (y ∷ ys) all = ap found_by all.0.asked.offers_same
+
+  -- and all that is known of that
+  pub finds_left : (xs ys : List F) → AllZip (FetchLeft f) xs ys → first_finds f.offers f.leading ys ≡ first_finds f.offers f.leading xs
+  finds_left [] [] all = refl
+  finds_left [] (y ∷ ys) all = absurd all
+  finds_left (x ∷ xs) [] all = absurd all
+  finds_left (x ∷ xs) (y ∷ ys) all = ap (λ (o : Option Offered). finds_by o (f.leading y)) all.0.asked.offers_same ∙ ap (λ (o : Offered). finds_by (f.offers x) o) all.0.asked.leading_same
+
+pub all_first : {F : Type 0} (offers : F → Option Offered) (leading : F → Offered) (xs : List F) → found_first offers xs ≡ (first_finds offers leading xs).all
+all_first offers leading [] = refl
+all_first offers leading (x ∷ xs) = refl
 
 -- the same of lists that were made of the hands
 pub lists_left : {F : Type 0} (R : F → F → Type 0) {xs ys before after : List F} → before ≡ xs → after ≡ ys → AllZip R before ys → AllZip R xs after

@@ -4,10 +4,10 @@ use Rattle.std.specs.Prelude.{Vec, nat_lt}
 use Rattle.std.specs.List.{AllZip}
 use Rattle.std.proofs.lemmas.Bool.Decides.{nat_tests}
 use Rattle.std.proofs.lemmas.Bool.{and_parts}
-use Rattle.mc_pull.specs.Hands.{FetchLeft, SomeRose, found_first}
+use Rattle.mc_pull.specs.Hands.{FetchLeft, SomeRose, first_finds, found_first}
 use Rattle.mc_fetch.specs.Calls.{Members as Asked}
 use Rattle.mc_fetch.specs.Offers.{found_by}
-use Rattle.mc_fetch.specs.Peers.{faults_of, offers_told}
+use Rattle.mc_fetch.specs.Peers.{faults_of, leading_told, offers_told}
 use Rattle.mc_fetch.specs.Views.{views_of}
 use Rattle.mc_fetch.specs.declared.peers.PeerFetch.{PeerFetch}
 use Rattle.mc_keep.specs.Calls.{Members}
@@ -16,9 +16,9 @@ use Rattle.mc_model.specs.Kept.{Kept}
 use Rattle.mc_lend.specs.Lending.{desks_lent, marks_of, with_all}
 use Rattle.mc_lend.specs.Rows.{AllViewed, Holds, IsLent, lists_of}
 use Rattle.mc_lend.specs.declared.site.Site.{Site}
-use Rattle.mc_pull.specs.Pulls.{DeskRose, DesksGo, found_at}
+use Rattle.mc_pull.specs.Pulls.{DeskRose, DesksGo, finds_at, found_at}
 use Rattle.mc_pull.specs.Shows.{AllShow, all_show}
-use Rattle.mc_pull.proofs.DeskFacts.{AskedViews, all_found, all_viewed, desks_go, first_found, left_many, views_asked}
+use Rattle.mc_pull.proofs.DeskFacts.{AskedViews, all_found, all_viewed, desks_go, first_finds_at, first_found, left_many, views_asked}
 use Rattle.mc_pull.proofs.RiseFacts.{desk_rose}
 
 -- a fault more shows in the count of each
@@ -35,6 +35,9 @@ module _ {K D Z : Type 0} (told : K → Option Kept) (count : ℕ) (sites : List
 
   pub finds_first : 1 ≤ count → found_first (λ (fetch : PeerFetch K D). offers_told told (views_of fetch)) fetches ≡ found_at told sites
   finds_first some = first_found told sites fetches (let m = are_lent.many in omega (arith, m, some)) are_lent.of
+
+  pub all_first : 1 ≤ count → first_finds (λ (fetch : PeerFetch K D). offers_told told (views_of fetch)) (λ (fetch : PeerFetch K D) cid. leading_told told cid (views_of fetch)) fetches ≡ finds_at told sites
+  all_first some = first_finds_at told sites fetches (let m = are_lent.many in omega (arith, m, some)) are_lent.of
 
   pub find_same : 1 ≤ count → All (λ fetch. found_by (offers_told told (views_of fetch)) ≡ found_first (λ (fetch : PeerFetch K D). offers_told told (views_of fetch)) fetches) fetches
   find_same some = all_found told sites fetches (found_first (λ (fetch : PeerFetch K D). offers_told told (views_of fetch)) fetches) (finds_first some) are_lent.of

@@ -20,6 +20,7 @@ use Rattle.mc_drain.specs.declared.repairing.Repaired.{Repaired}
 use Rattle.mc_drain.specs.declared.working.WorkError.{WorkError}
 use Rattle.mc_drain.specs.declared.working.WorkError.TheVariants.{KeeperFault, Memory, PeerFault, Stopped}
 use Rattle.mc_drain.specs.declared.working.Worked.{Worked}
+use Rattle.mc_drain.specs.Finds.{Finds}
 use Rattle.mc_drain.specs.Leads.{Always, Leads, LeadsBy, Never, count, up_to}
 use Rattle.mc_drain.specs.Repairs.{RepairLeads, RepairWants}
 use Rattle.mc_drain.specs.Rounds.{FindsFrom, HasWalkedFrom, HasWorkedFrom}
@@ -51,46 +52,50 @@ requeued_led failed limit offers (Some s) (Some mid) (Some new) first same led =
       goes = λ e map kept p. first.goes e map kept tt;
       parts = λ e map kept never. absurd never;
       breaks = λ e map kept p. first.breaks e map kept tt;
+      whatever = first.whatever;
     }
 
 -- the work was left after the round
-pub work_left : (failed : Bool) (before budget limit : ℕ) (offers : Option Map) (why : WorkError) (a m b : Option ReplicaState) → limit ≡ capped (before + budget) → IfSome a (λ s. before ≡ capped (count s)) → Told a m (λ s new. Led failed limit offers s new)
-    → Told m b (λ s new. (before budget : ℕ) (offers : Option Map) (root : ReplicaState) → HasWorkedFrom failed before budget offers root s → WorkLeads budget offers (Err why) root new) → Told a b (λ s new. WorkLeads budget offers (Err why) s new)
-work_left failed before budget limit offers why None m b is at led leaves = tt
-work_left failed before budget limit offers why (Some s) None b is at led leaves = absurd led
-work_left failed before budget limit offers why (Some s) (Some mid) None is at led leaves = absurd leaves
-work_left failed before budget limit offers why (Some s) (Some mid) (Some new) is at led leaves = leaves before budget offers s (worked_from failed before budget limit offers s mid is at led)
+pub work_left : (failed : Bool) (before budget limit : ℕ) (offers : Option Map) (finds : Finds) (why : WorkError) (a m b : Option ReplicaState) → offers ≡ finds.all → limit ≡ capped (before + budget) → IfSome a (λ s. before ≡ capped (count s)) → Told a m (λ s new. Led failed limit offers s new)
+    → Told m b (λ s new. (before budget : ℕ) (finds : Finds) (root : ReplicaState) → HasWorkedFrom failed before budget finds.all root s → WorkLeads budget finds (Err why) root new) → Told a b (λ s new. WorkLeads budget finds (Err why) s new)
+work_left failed before budget limit offers finds why None m b same is at led leaves = tt
+work_left failed before budget limit offers finds why (Some s) None b same is at led leaves = absurd led
+work_left failed before budget limit offers finds why (Some s) (Some mid) None same is at led leaves = absurd leaves
+work_left failed before budget limit offers finds why (Some s) (Some mid) (Some new) same is at led leaves =
+    leaves before budget finds s (subst (λ (o : Option Map). HasWorkedFrom failed before budget o s mid) same (worked_from failed before budget limit offers s mid is at led))
 
 -- it went on
-pub work_gone_on : (failed : Bool) (before budget limit : ℕ) (offers now : Option Map) (result : Result Worked WorkError) (a m b : Option ReplicaState) → failed ≡ false → now ≡ offers → limit ≡ capped (before + budget) → IfSome a (λ s. before ≡ capped (count s)) → Told a m (λ s new. Led failed limit offers s new)
-    → Told m b (λ s new. (root : ReplicaState) → HasWorkedFrom false before budget now root s → WorkLeads budget now result root new) → Told a b (λ s new. WorkLeads budget offers result s new)
-work_gone_on failed before budget limit offers now result None m b up same is at led goes = tt
-work_gone_on failed before budget limit offers now result (Some s) None b up same is at led goes = absurd led
-work_gone_on failed before budget limit offers now result (Some s) (Some mid) None up same is at led goes = absurd goes
-work_gone_on failed before budget limit offers now result (Some s) (Some mid) (Some new) up same is at led goes =
-    subst (λ (o : Option Map). HasWorkedFrom false before budget o s mid → WorkLeads budget o result s new) same (goes s)
-    (worked_from false before budget limit offers s mid is at (subst (λ (f : Bool). Led f limit offers s mid) up led))
+pub work_gone_on : (failed : Bool) (before budget limit : ℕ) (offers now : Option Map) (finds later : Finds) (result : Result Worked WorkError) (a m b : Option ReplicaState) → failed ≡ false → now ≡ offers → later ≡ finds → limit ≡ capped (before + budget) → IfSome a (λ s. before ≡ capped (count s))
+    → Told a m (λ s new. Led failed limit offers s new) → Told m b (λ s new. (root : ReplicaState) → HasWorkedFrom false before budget now root s → WorkLeads budget later result root new) → Told a b (λ s new. WorkLeads budget finds result s new)
+work_gone_on failed before budget limit offers now finds later result None m b up same alike is at led goes = tt
+work_gone_on failed before budget limit offers now finds later result (Some s) None b up same alike is at led goes = absurd led
+work_gone_on failed before budget limit offers now finds later result (Some s) (Some mid) None up same alike is at led goes = absurd goes
+work_gone_on failed before budget limit offers now finds later result (Some s) (Some mid) (Some new) up same alike is at led goes =
+    subst (λ (f : Finds). WorkLeads budget f result s new) alike (goes s (subst (λ (o : Option Map). HasWorkedFrom false before budget o s mid) (sym same)
+    (worked_from false before budget limit offers s mid is at (subst (λ (f : Bool). Led f limit offers s mid) up led))))
 
 -- the same of a repair, after its walk
 
-pub repair_left : (failed : Bool) (before budget limit : ℕ) (offers : Option Map) (why : WorkError) (a w m b : Option ReplicaState) → limit ≡ capped (before + budget) → Told a w (λ s new. (before ≡ capped (count new)) × HasWalkedFrom s new) → Told w m (λ s new. Led failed limit offers s new)
-    → Told m b (λ s new. (before budget : ℕ) (offers : Option Map) (root walked : ReplicaState) → HasWalkedFrom root walked → HasWorkedFrom failed before budget offers walked s → RepairLeads budget offers (Err why) root new) → Told a b (λ s new. RepairLeads budget offers (Err why) s new)
-repair_left failed before budget limit offers why None w m b is walked led leaves = tt
-repair_left failed before budget limit offers why (Some s) None m b is walked led leaves = absurd walked
-repair_left failed before budget limit offers why (Some s) (Some x) None b is walked led leaves = absurd led
-repair_left failed before budget limit offers why (Some s) (Some x) (Some mid) None is walked led leaves = absurd leaves
-repair_left failed before budget limit offers why (Some s) (Some x) (Some mid) (Some new) is walked led leaves = leaves before budget offers s x walked.1 (worked_from failed before budget limit offers x mid is walked.0 led)
-
-pub repair_gone_on : (failed : Bool) (before budget limit : ℕ) (offers now : Option Map) (result : Result Repaired WorkError) (a w m b : Option ReplicaState) → failed ≡ false → now ≡ offers → limit ≡ capped (before + budget) → Told a w (λ s new. (before ≡ capped (count new)) × HasWalkedFrom s new)
+pub repair_left : (failed : Bool) (before budget limit : ℕ) (offers : Option Map) (finds : Finds) (why : WorkError) (a w m b : Option ReplicaState) → offers ≡ finds.all → limit ≡ capped (before + budget) → Told a w (λ s new. (before ≡ capped (count new)) × HasWalkedFrom s new)
     → Told w m (λ s new. Led failed limit offers s new)
-    → Told m b (λ s new. (root walked : ReplicaState) → HasWalkedFrom root walked → HasWorkedFrom false before budget now walked s → RepairLeads budget now result root new) → Told a b (λ s new. RepairLeads budget offers result s new)
-repair_gone_on failed before budget limit offers now result None w m b up same is walked led goes = tt
-repair_gone_on failed before budget limit offers now result (Some s) None m b up same is walked led goes = absurd walked
-repair_gone_on failed before budget limit offers now result (Some s) (Some x) None b up same is walked led goes = absurd led
-repair_gone_on failed before budget limit offers now result (Some s) (Some x) (Some mid) None up same is walked led goes = absurd goes
-repair_gone_on failed before budget limit offers now result (Some s) (Some x) (Some mid) (Some new) up same is walked led goes =
-    subst (λ (o : Option Map). HasWorkedFrom false before budget o x mid → RepairLeads budget o result s new) same (goes s x walked.1)
-    (worked_from false before budget limit offers x mid is walked.0 (subst (λ (f : Bool). Led f limit offers x mid) up led))
+    → Told m b (λ s new. (before budget : ℕ) (finds : Finds) (root walked : ReplicaState) → HasWalkedFrom root walked → HasWorkedFrom failed before budget finds.all walked s → RepairLeads budget finds (Err why) root new) → Told a b (λ s new. RepairLeads budget finds (Err why) s new)
+repair_left failed before budget limit offers finds why None w m b same is walked led leaves = tt
+repair_left failed before budget limit offers finds why (Some s) None m b same is walked led leaves = absurd walked
+repair_left failed before budget limit offers finds why (Some s) (Some x) None b same is walked led leaves = absurd led
+repair_left failed before budget limit offers finds why (Some s) (Some x) (Some mid) None same is walked led leaves = absurd leaves
+repair_left failed before budget limit offers finds why (Some s) (Some x) (Some mid) (Some new) same is walked led leaves =
+    leaves before budget finds s x walked.1 (subst (λ (o : Option Map). HasWorkedFrom failed before budget o x mid) same (worked_from failed before budget limit offers x mid is walked.0 led))
+
+pub repair_gone_on : (failed : Bool) (before budget limit : ℕ) (offers now : Option Map) (finds later : Finds) (result : Result Repaired WorkError) (a w m b : Option ReplicaState) → failed ≡ false → now ≡ offers → later ≡ finds → limit ≡ capped (before + budget)
+    → Told a w (λ s new. (before ≡ capped (count new)) × HasWalkedFrom s new) → Told w m (λ s new. Led failed limit offers s new)
+    → Told m b (λ s new. (root walked : ReplicaState) → HasWalkedFrom root walked → HasWorkedFrom false before budget now walked s → RepairLeads budget later result root new) → Told a b (λ s new. RepairLeads budget finds result s new)
+repair_gone_on failed before budget limit offers now finds later result None w m b up same alike is walked led goes = tt
+repair_gone_on failed before budget limit offers now finds later result (Some s) None m b up same alike is walked led goes = absurd walked
+repair_gone_on failed before budget limit offers now finds later result (Some s) (Some x) None b up same alike is walked led goes = absurd led
+repair_gone_on failed before budget limit offers now finds later result (Some s) (Some x) (Some mid) None up same alike is walked led goes = absurd goes
+repair_gone_on failed before budget limit offers now finds later result (Some s) (Some x) (Some mid) (Some new) up same alike is walked led goes =
+    subst (λ (f : Finds). RepairLeads budget f result s new) alike (goes s x walked.1 (subst (λ (o : Option Map). HasWorkedFrom false before budget o x mid) (sym same)
+    (worked_from false before budget limit offers x mid is walked.0 (subst (λ (f : Bool). Led f limit offers x mid) up led))))
 
 -- what the answer says where it was left
 

@@ -5,6 +5,7 @@ use Rattle.mc_base.specs.declared.cid.Cid.{Cid}
 use Rattle.mc_fetch.specs.Calls.{Asks, Members}
 use Rattle.mc_fetch.specs.Fits.{Map}
 use Rattle.mc_fetch.specs.Offers.{Offered, found_by}
+use Rattle.mc_drain.specs.Finds.{Finds, finds_by}
 
 -- a hand that has not worked: its seat is one of the node's, keeps to the node's limit and has no job out, and its
 -- fetch fits
@@ -36,3 +37,8 @@ SomeRose faults (x ∷ before) (y ∷ after) = Rose (faults x) (faults y) ⊎ So
 abbrev pub found_first : {F : Type 0} → (F → Option Offered) → List F → Option Map
 found_first offers [] = None
 found_first offers (fetch ∷ fetches) = found_by (offers fetch)
+
+-- and what its leading places come to, which it finds whatever the others answer
+abbrev pub first_finds : {F : Type 0} → (F → Option Offered) → (F → Offered) → List F → Finds
+first_finds offers leading [] = record { all = None; surely = λ cid. None }
+first_finds offers leading (fetch ∷ fetches) = finds_by (offers fetch) (leading fetch)

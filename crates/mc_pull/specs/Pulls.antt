@@ -5,8 +5,10 @@ use Rattle.std.specs.List.{AllZip, list_all, sum_by}
 use Rattle.std.specs.Option.{option_map}
 use Rattle.mc_base.specs.declared.cid.Cid.{Cid}
 use Rattle.mc_fetch.specs.Fits.{Map}
-use Rattle.mc_fetch.specs.Offers.{found_by}
-use Rattle.mc_fetch.specs.Peers.{SamePlan, offers_at, onto_peers, places_of}
+use Rattle.mc_fetch.specs.Offers.{found_by, surely_by}
+use Rattle.mc_drain.specs.Finds.{Finds}
+use Rattle.mc_fetch.specs.Peers.{SamePlan, offers_at, onto_peers, onto_stored, places_of}
+use Rattle.mc_fetch.specs.Plants.{planted_at}
 use Rattle.mc_keep.specs.Calls.{Members}
 use Rattle.mc_lend.specs.declared.site.Site.{Site}
 use Rattle.mc_model.specs.Found.{PeerOffers}
@@ -25,6 +27,18 @@ module _ {K : Type 0} (told : K → Option Kept) where
   -- and what is found among them for each block: the first offer that has its digest
   abbrev pub found_at : List (Site K) → Option Map
   found_at sites = found_by (option_map places_of (sites_told sites))
+
+  -- what those offer for a block that are fetched from: those in front of the first whose keeper is silent, and what is
+  -- planted at that one
+  abbrev pub leading_sites : List (Site K) → Cid → List (Option (List ℕ))
+  leading_sites [] cid = []
+  leading_sites (site ∷ sites) cid = cond site.peer
+      (planted_at site.planted.now cid ∷ onto_stored (told site.keeper.now) cid (leading_sites sites cid))
+      (leading_sites sites cid)
+
+  -- and all that is found among them
+  abbrev pub finds_at : List (Site K) → Finds
+  finds_at sites = record { all = found_at sites; surely = surely_by (leading_sites sites) }
 
 module _ {K D : Type 0} (k : Members K D) (desk_faults : D → ℕ) where
   -- whether a desk is known never to fail, and has not

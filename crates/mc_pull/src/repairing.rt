@@ -5,7 +5,7 @@ ghost use Rattle.mc_core.specs.Words.{Becomes, Continues};
 ghost use Rattle.mc_drain.specs.Repairs.{RepairLeads, RepairWants, has_walked};
 ghost use Rattle.mc_drain.specs.Works.{keeper_broke, none_broke, peer_broke};
 ghost use Rattle.mc_lend.specs.Lending.{HaveDesks, marks_of};
-ghost use Rattle.mc_pull.specs.Pulls.{DeskRose, DesksGo, NoneFailed, found_at};
+ghost use Rattle.mc_pull.specs.Pulls.{DeskRose, DesksGo, NoneFailed, finds_at};
 
 use crate::answers::answer;
 use crate::shows::all_show;
@@ -38,7 +38,7 @@ where
     requires some { 1 ≤ workers }
     requires few { workers ≤ 16 }
     requires desked { HaveDesks workers (marks_of sites.now) desks.old }
-    ensures leads { Becomes K.Keeper (λ rose s new. RepairLeads budget (found_at K.told sites.now) result.1 s new)
+    ensures leads { Becomes K.Keeper (λ rose s new. RepairLeads budget (finds_at K.told sites.now) result.1 s new)
         replica result.0 }
     ensures keeps { Continues K.Keeper (keeper_broke result.1) replica result.0 }
     ensures batch { result.0.batch ≡ replica.batch }

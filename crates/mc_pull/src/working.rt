@@ -5,7 +5,7 @@ ghost use Rattle.mc_core.specs.Exact.{RunSame};
 ghost use Rattle.mc_core.specs.Words.{Becomes, Continues};
 ghost use Rattle.mc_drain.specs.Works.{WorkLeads, WorkWants, keeper_broke, none_broke, peer_broke};
 ghost use Rattle.mc_lend.specs.Lending.{HaveDesks, marks_of};
-ghost use Rattle.mc_pull.specs.Pulls.{DeskRose, DesksGo, NoneFailed, found_at};
+ghost use Rattle.mc_pull.specs.Pulls.{DeskRose, DesksGo, NoneFailed, finds_at};
 
 use crate::answers::answer;
 use crate::shows::all_show;
@@ -21,7 +21,8 @@ use std::thread::Threads;
 
 /// Works through the wanted blocks of a replica with so many workers beside one another, each in a thread of its own,
 /// as `crew::work` does, and gives the replica back. The workers fetch from the sites that are peers, in order: of each
-/// its planted offer, and then its stored block, which each worker reads through a desk of its own. The sites and the
+/// its planted offer, and then its stored block, which each worker reads through a desk of its own. A peer whose keeper
+/// is silent silences what it has stored and the peers behind it, and nothing before. The sites and the
 /// lists of their desks are in one order, and the desk at each place afterwards is what calls leave of the one that
 /// stood there: by its count, its plan, and whether it is quiet.
 /// `PeerFault` comes only where a desk of a peer has failed in this call, and after `Memory`, which may be that of the
@@ -44,7 +45,7 @@ where
     requires some { 1 ≤ workers }
     requires few { workers ≤ 16 }
     requires desked { HaveDesks workers (marks_of sites.now) desks.old }
-    ensures leads { Becomes K.Keeper (λ rose s new. WorkLeads budget (found_at K.told sites.now) result.1 s new)
+    ensures leads { Becomes K.Keeper (λ rose s new. WorkLeads budget (finds_at K.told sites.now) result.1 s new)
         replica result.0 }
     ensures keeps { Continues K.Keeper (keeper_broke result.1) replica result.0 }
     ensures rest { RunSame replica result.0 }

@@ -24,7 +24,7 @@ use Rattle.mc_seats.specs.Doing.{At, Calls, Casts, Doing, Hears, Repairs, Steps,
 use Rattle.mc_seats.specs.Effects.{CallsAt, DoneAt, done_by, events_by, happens_by}
 use Rattle.mc_runs.specs.Promises.{fired_at, fuse_at, tells_at}
 use Rattle.mc_seats.specs.Step.{GivesBack, IsFaulted, PeerBreaks, Row, Step, breaks_by, is_fault}
-use Rattle.mc_seats.specs.Works.{budget_of, offered_by, repair_budget}
+use Rattle.mc_seats.specs.Works.{budget_of, finds_of, repair_budget}
 use Rattle.mc_seats.specs.Worlds.{Moved, MovedAt, Place, WorldState, peers_of}
 use Rattle.mc_runs.proofs.PromiseFacts.{back_is, others_stand}
 use Rattle.mc_runs.proofs.ReplyFacts.{done_plainly, refuses_no_fault}
@@ -142,8 +142,8 @@ done_unfired w (At r (Tends tending)) reply p q is tells h = not_fired p.fuse q.
 done_unfired w (At r Casts) reply p q is tells h = now_same p q h
 done_unfired w (At r (Hears message)) reply p q is tells h = same_fuse p.fuse q.fuse h.0.1.1
 done_unfired w (At r Steps) reply p q is tells h = place_unfired w (At r Steps) reply p q tells h.1
-done_unfired w (At r (Works budget)) reply p q is tells h = pulled_unfired _ _ (WorkLeads (budget_of budget) (offered_by (peers_of w r)) (Ok h.value)) (λ s t leads. fuse_stays _ s.fuse t.fuse leads.fuse) p q tells h.works
-done_unfired w (At r Repairs) reply p q is tells h = pulled_unfired _ _ (RepairLeads repair_budget (offered_by (peers_of w r)) (Ok h.value)) (λ s t leads. fuse_stays _ s.fuse t.fuse leads.fuse) p q tells h.repairs
+done_unfired w (At r (Works budget)) reply p q is tells h = pulled_unfired _ _ (WorkLeads (budget_of budget) (finds_of (peers_of w r)) (Ok h.value)) (λ s t leads. fuse_stays _ s.fuse t.fuse leads.fuse) p q tells h.works
+done_unfired w (At r Repairs) reply p q is tells h = pulled_unfired _ _ (RepairLeads repair_budget (finds_of (peers_of w r)) (Ok h.value)) (λ s t leads. fuse_stays _ s.fuse t.fuse leads.fuse) p q tells h.repairs
 done_unfired w (At r (Storms writers writes)) reply p q is tells h = told_unfired (StormLeads writers writes (Ok h.value) ⊥) (λ s t ends. calls_unfired ends.calls s t ends.run) p.content q.content p.fuse q.fuse p.run q.run tells h.told
 done_unfired w d reply p q is tells h = absurd h.0
 
@@ -151,8 +151,8 @@ back_unfired : (p q : Place) → is_some p.content ≡ true → GivesBack p q �
 back_unfired p q tells back = same_fuse p.fuse q.fuse (ap (λ (x : Place). x.fuse) (back_is p q back).1)
 
 peer_unfired : (w : WorldState) (d : Doing) (p q : Place) → is_some p.content ≡ true → breaks_by w d p q → has_fired p.fuse q.fuse ≡ false
-peer_unfired w (At r (Works budget)) p q tells breaks = pulled_unfired _ _ (WorkLeads (budget_of budget) (offered_by (peers_of w r)) (Err PeerFault)) (λ s t leads. fuse_stays _ s.fuse t.fuse leads.fuse) p q tells breaks
-peer_unfired w (At r Repairs) p q tells breaks = pulled_unfired _ _ (RepairLeads repair_budget (offered_by (peers_of w r)) (Err PeerFault)) (λ s t leads. fuse_stays _ s.fuse t.fuse leads.fuse) p q tells breaks
+peer_unfired w (At r (Works budget)) p q tells breaks = pulled_unfired _ _ (WorkLeads (budget_of budget) (finds_of (peers_of w r)) (Err PeerFault)) (λ s t leads. fuse_stays _ s.fuse t.fuse leads.fuse) p q tells breaks
+peer_unfired w (At r Repairs) p q tells breaks = pulled_unfired _ _ (RepairLeads repair_budget (finds_of (peers_of w r)) (Err PeerFault)) (λ s t leads. fuse_stays _ s.fuse t.fuse leads.fuse) p q tells breaks
 peer_unfired w d p q tells back = back_unfired p q tells back
 
 -- where one replica of a world changes

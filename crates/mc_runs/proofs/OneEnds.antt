@@ -46,7 +46,7 @@ use Rattle.mc_seats.specs.declared.error.ActError.{ActError}
 use Rattle.mc_seats.specs.Asks.{is_named}
 use Rattle.mc_seats.specs.Effects.{IsReply, RefusedAt}
 use Rattle.mc_seats.specs.Step.{IsDone, Row, Step}
-use Rattle.mc_seats.specs.Works.{RepairDone, RepairsTo, WorkDone, WorksTo, budget_of, offered_by, repair_budget, repaired_reply, worked_reply}
+use Rattle.mc_seats.specs.Works.{RepairDone, RepairsTo, WorkDone, WorksTo, budget_of, finds_of, offered_by, repair_budget, repaired_reply, worked_reply}
 use Rattle.mc_seats.specs.Worlds.{AtPlace, Place, WorldState, peer_row, peers_of, state_at}
 use Rattle.mc_runs.specs.OneEnd.{AreSame, AreSameAt, AreTold, HasRoom, HaveSameBytes, SameBytes, is_end, is_worked}
 use Rattle.mc_runs.proofs.OneBlocks.{same_blocks}
@@ -188,7 +188,7 @@ work_cases map peers budget p q s reply is known done = over done.value done.say
   where
     over : (value : Worked) → reply ≡ worked_reply value → WorksTo peers budget (Ok value) p q → IsWorked map budget s q reply ⊎ IsSpent map budget s q reply
     over (worked.Again processed) says works =
-        let after = told_after p q s (WorkLeads budget (offered_by peers) (Ok (worked.Again processed))) is works.told in
+        let after = told_after p q s (WorkLeads budget (finds_of peers) (Ok (worked.Again processed))) is works.told in
         let run : q.run ≡ after.0.state.run = run_of_state q after.0 after.1 in
         inr (record {
           state = after.0;
@@ -200,7 +200,7 @@ work_cases map peers budget p q s reply is known done = over done.value done.say
           says = says ∙ ap replies.Again after.2.counts.0;
         })
     over (worked.Done processed missing bad) says works =
-        let after = told_after p q s (WorkLeads budget (offered_by peers) (Ok (worked.Done processed missing bad))) is works.told in
+        let after = told_after p q s (WorkLeads budget (finds_of peers) (Ok (worked.Done processed missing bad))) is works.told in
         let run : q.run ≡ after.0.state.run = run_of_state q after.0 after.1 in
         let still : IsStill (queue_in after.0.state.run) = subst (λ (x : Option Running). IsStill (queue_in x)) run (works.wants.0, works.wants.1) in
         inl (record {
@@ -264,7 +264,7 @@ repair_end map peers p q s reply end is known done = over done.value done.says d
     over : (value : Repaired) → reply ≡ repaired_reply value → RepairsTo peers (Ok value) p q → IsRepaired map s q reply
     over (repaired.Again processed) says repairs = absurd (true≢false (sym end ∙ ap is_end says))
     over repaired.Clean says repairs =
-        let after = told_after p q s (RepairLeads repair_budget (offered_by peers) (Ok repaired.Clean)) is repairs.told in
+        let after = told_after p q s (RepairLeads repair_budget (finds_of peers) (Ok repaired.Clean)) is repairs.told in
         let run : q.run ≡ after.0.state.run = run_of_state q after.0 after.1 in
         record {
           state = after.0;
@@ -273,7 +273,7 @@ repair_end map peers p q s reply end is known done = over done.value done.says d
           says = says ∙ ap (λ (is : Settled). repaired_reply (repaired_of is)) (sym after.2.counts);
         }
     over (repaired.Open gaps) says repairs =
-        let after = told_after p q s (RepairLeads repair_budget (offered_by peers) (Ok (repaired.Open gaps))) is repairs.told in
+        let after = told_after p q s (RepairLeads repair_budget (finds_of peers) (Ok (repaired.Open gaps))) is repairs.told in
         let run : q.run ≡ after.0.state.run = run_of_state q after.0 after.1 in
         record {
           state = after.0;

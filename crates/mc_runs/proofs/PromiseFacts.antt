@@ -37,7 +37,7 @@ use Rattle.mc_seats.specs.Effects.{CallsAt, DoneAt, EventsOf, done_by, events_by
 use Rattle.mc_runs.specs.Promises.{ContentGrows, DoneElsewhere, GrowsAt, OnlyGrows, elsewhere}
 use Rattle.mc_runs.specs.Runs.{Answer, LineStep, Runs}
 use Rattle.mc_seats.specs.Step.{CutShort, FaultsOf, GivesBack, PeerBreaks, Row, Step, breaks_by, faults_by}
-use Rattle.mc_seats.specs.Works.{RepairsTo, WorksTo, budget_of, offered_by, repair_budget}
+use Rattle.mc_seats.specs.Works.{RepairsTo, WorksTo, budget_of, finds_of, repair_budget}
 use Rattle.mc_seats.specs.Worlds.{Moved, MovedAt, Place, WorldState, peers_of, state_at}
 use Rattle.mc_runs.proofs.StormFacts.{calls_grow, storm_breaks_grow}
 use Rattle.mc_runs.proofs.TendFacts.{IsTended, if_runs, tended}
@@ -121,10 +121,10 @@ back_grows p q g = content_is p.content q.content (ap (λ (x : Place). x.content
 
 -- a work and a repair
 work_grows : (peers : List Place) (budget : ℕ) (result : Result Worked WorkError) (p q : Place) → WorksTo peers budget result p q → ContentGrows p.content q.content
-work_grows peers budget result p q works = told_content (WorkLeads budget (offered_by peers) result) (λ s t leads. leads.grows) p.content q.content p.fuse q.fuse p.run q.run works.silent works.told
+work_grows peers budget result p q works = told_content (WorkLeads budget (finds_of peers) result) (λ s t leads. leads.grows) p.content q.content p.fuse q.fuse p.run q.run works.silent works.told
 
 repair_grows : (peers : List Place) (result : Result Repaired WorkError) (p q : Place) → RepairsTo peers result p q → ContentGrows p.content q.content
-repair_grows peers result p q repairs = told_content (RepairLeads repair_budget (offered_by peers) result) (λ s t leads. leads.grows) p.content q.content p.fuse q.fuse p.run q.run repairs.silent repairs.told
+repair_grows peers result p q repairs = told_content (RepairLeads repair_budget (finds_of peers) result) (λ s t leads. leads.grows) p.content q.content p.fuse q.fuse p.run q.run repairs.silent repairs.told
 
 peer_grows : (w : WorldState) (d : Doing) (p q : Place) → breaks_by w d p q → ContentGrows p.content q.content
 peer_grows w (At r (Works budget)) p q breaks = work_grows (peers_of w r) (budget_of budget) (Err PeerFault) p q breaks

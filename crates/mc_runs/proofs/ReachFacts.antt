@@ -2,7 +2,6 @@
 use Rattle.std.proofs.Common.{◌≡◌, ℕ, zero, suc, Bool, true, false, true≢false, List, [], ◌∷◌, Option, Some, None, Result, Ok, Err, refl, sym, ◌∙◌, ap, subst, inl, inr}
 use Rattle.std.specs.Prelude.{IfSome, is_some, slice_get}
 use Rattle.mc_base.specs.Told.{Told}
-use Rattle.mc_fetch.specs.Fits.{Map}
 use Rattle.mc_keep.specs.declared.fuse.Fuse.{Fuse}
 use Rattle.mc_model.specs.Front.{gaps}
 use Rattle.mc_model.specs.Kept.{Kept, processed}
@@ -12,6 +11,7 @@ use Rattle.mc_core.specs.declared.CoreError.{CoreError}
 use Rattle.mc_core.specs.declared.CoreError.TheVariants as core
 use Rattle.mc_core.specs.Walks.{IsClean}
 use Rattle.mc_core.proofs.SettledFacts.{clean_gaps}
+use Rattle.mc_drain.specs.Finds.{Finds}
 use Rattle.mc_drain.specs.Repairs.{RepairLeads}
 use Rattle.mc_drain.specs.declared.repairing.Repaired.{Repaired}
 use Rattle.mc_drain.specs.declared.repairing.Repaired.TheVariants as repaired
@@ -27,7 +27,7 @@ use Rattle.mc_seats.specs.Effects.{IsReply, RefusedAt}
 use Rattle.mc_runs.specs.Promises.{AfterLine, HasSettled, IsLineAt, IsSettled}
 use Rattle.mc_runs.specs.Runs.{Answer, LineStep, Runs}
 use Rattle.mc_seats.specs.Step.{IsDone, Row, Step}
-use Rattle.mc_seats.specs.Works.{RepairOn, RepairsTo, RunsTo, offered_by, repair_budget, repaired_reply}
+use Rattle.mc_seats.specs.Works.{RepairOn, RepairsTo, RunsTo, finds_of, repair_budget, repaired_reply}
 use Rattle.mc_seats.specs.Worlds.{Place, WorldState, peers_of}
 use Rattle.mc_seats.proofs.OpeningFacts.{none_of_length}
 use Rattle.mc_runs.proofs.WrittenFacts.{at_there, moved_stands}
@@ -61,7 +61,7 @@ abbrev pub MarkLaw : Type 0
 MarkLaw = (kept : Kept) (run : Running) → IsSound (record { durable = durable_of kept; run = Some run }) → run.whole ≡ true → IsClean kept → kept.mark ≡ false
 
 module _ (back : BackLaw) (mark : MarkLaw) where
-  told_settled : (offers : Option Map) (old new : Option Kept) (fuse fuse2 : Option Fuse) (run run2 : Option Running) → RunsTo (RepairOn true) run run2 → (old ≡ None → new ≡ None)
+  told_settled : (offers : Finds) (old new : Option Kept) (fuse fuse2 : Option Fuse) (run run2 : Option Running) → RunsTo (RepairOn true) run run2 → (old ≡ None → new ≡ None)
       → Told (state_of old fuse run) (state_of new fuse2 run2) (RepairLeads repair_budget offers (Ok repaired.Clean)) → IfSome (state_of new fuse2 run2) IsSettled
   told_settled offers None new fuse fuse2 run run2 runs silent told = subst (λ (o : Option Kept). IfSome (state_of o fuse2 run2) IsSettled) (sym (silent refl)) tt
   told_settled offers (Some old) None fuse fuse2 run run2 runs silent told = tt
@@ -82,7 +82,7 @@ module _ (back : BackLaw) (mark : MarkLaw) where
       record {
         place = q;
         stands = moved_stands r w.places w2.places _ done.moved;
-        settled = told_settled (offered_by (peers_of w r)) p.content q.content p.fuse q.fuse p.run q.run repairs.runs repairs.silent repairs.told;
+        settled = told_settled (finds_of (peers_of w r)) p.content q.content p.fuse q.fuse p.run q.run repairs.runs repairs.silent repairs.told;
       }
 
   pub clean_settles : (w : WorldState) (r workers : ℕ) (entry : LineEntry) (w2 : WorldState) → Step w (Repair r workers) entry Clean w2 → HasSettled w2 r

@@ -26,7 +26,7 @@ use Rattle.mc_seats.specs.declared.links.Link.{Link}
 use Rattle.mc_seats.specs.Asks.{focus, is_named, is_there, may_fail}
 use Rattle.mc_seats.specs.Doing.{At, Casts, Compares, Doing, Links, Repairs, Sends, Steps, Storms, Works, doing}
 use Rattle.mc_seats.specs.Effects.{DoneAt, RunOn, SameBatch, asks_by, events_by, leaves_by, refused_by, stop_reply}
-use Rattle.mc_seats.specs.Works.{RepairsTo, WorksTo, budget_of, offered_by, repair_budget}
+use Rattle.mc_seats.specs.Works.{RepairsTo, WorksTo, budget_of, finds_of, repair_budget}
 use Rattle.mc_seats.specs.Worlds.{Around, AtPlace, IfRuns, Moved, MovedAt, Place, WorldState, is_marked, joins}
 use Rattle.mc_seats.specs.Worlds.{peer_row, peers_of, state_at}
 
@@ -112,8 +112,8 @@ Says w command reply = says_by w (doing command) reply
 -- and of every other command the events are cut short
 abbrev pub faults_by : WorldState → Doing → Type 0 → ReplicaState → ReplicaState → Type 0
 faults_by w (At r (Works budget)) own =
-    WorkLeads (budget_of budget) (offered_by (peers_of w r)) (Err broke.KeeperFault)
-faults_by w (At r Repairs) own = RepairLeads repair_budget (offered_by (peers_of w r)) (Err broke.KeeperFault)
+    WorkLeads (budget_of budget) (finds_of (peers_of w r)) (Err broke.KeeperFault)
+faults_by w (At r Repairs) own = RepairLeads repair_budget (finds_of (peers_of w r)) (Err broke.KeeperFault)
 faults_by w (At r (Storms writers writes)) own = StormLeads writers writes (Err storm.KeeperFault) own
 faults_by w d own = λ s new. Faults (λ events reply. events_by w s d events reply) own s new
 

@@ -9,6 +9,7 @@ use Rattle.mc_model.specs.Draining.{queue_in}
 use Rattle.mc_model.specs.State.{Running}
 use Rattle.mc_model.specs.Wanted.{Queue}
 use Rattle.mc_core.specs.Events.{ReplicaState}
+use Rattle.mc_drain.specs.Finds.{Finds}
 use Rattle.mc_drain.specs.Repairs.{RepairLeads, RepairWants, has_walked}
 use Rattle.mc_drain.specs.Works.{WorkLeads, WorkWants}
 use Rattle.mc_drain.specs.declared.repairing.Repaired.{Repaired}
@@ -21,7 +22,7 @@ use Rattle.mc_script.specs.declared.reply.Reply.{Reply}
 use Rattle.mc_script.specs.declared.reply.Reply.TheVariants as reply
 use Rattle.mc_seats.specs.declared.error.ActError.{ActError}
 use Rattle.mc_seats.specs.declared.error.ActError.TheVariants as act
-use Rattle.mc_seats.specs.Fetching.{offers_of}
+use Rattle.mc_seats.specs.Fetching.{first_in_front, offers_of}
 use Rattle.mc_seats.specs.Worlds.{Place, state_at}
 
 -- how many blocks a repair processes at most, and a work
@@ -35,6 +36,10 @@ budget_of (Some budget) = budget
 -- what is found for each block among these peers, where all of them tell
 abbrev pub offered_by : List Place → Option Map
 offered_by peers = found_by (option_map places_of (offers_of peers))
+
+-- all that is found among them: where some are silent, what is found in front of the first of these, and is planted at it
+abbrev pub finds_of : List Place → Finds
+finds_of peers = record { all = offered_by peers; surely = first_in_front None peers }
 
 -- what is answered for a work, and for a repair
 abbrev pub worked_reply : Worked → Reply
@@ -81,12 +86,12 @@ pub record Pulled (P : Running → Running → Type 0) (W : Queue → Type 0) (L
 -- a work over these peers came to this, and the replica runs on
 abbrev pub WorksTo : List Place → ℕ → Result Worked WorkError → Place → Place → Type 0
 WorksTo peers budget result p q =
-    Pulled WorkOn (WorkWants result) (WorkLeads budget (offered_by peers) result) p q
+    Pulled WorkOn (WorkWants result) (WorkLeads budget (finds_of peers) result) p q
 
 -- the same of a repair
 abbrev pub RepairsTo : List Place → Result Repaired WorkError → Place → Place → Type 0
 RepairsTo peers result p q =
-    Pulled (RepairOn (has_walked result)) (RepairWants result) (RepairLeads repair_budget (offered_by peers) result) p q
+    Pulled (RepairOn (has_walked result)) (RepairWants result) (RepairLeads repair_budget (finds_of peers) result) p q
 
 -- and this is answered for it
 pub record WorkDone (peers : List Place) (budget : ℕ) (p q : Place) (reply : Reply) : Type 0 where

@@ -6,13 +6,13 @@ use Rattle.mc_base.specs.Causes.{Rose}
 use Rattle.mc_base.specs.Told.{Told}
 use Rattle.mc_base.specs.declared.counted.Counted as counted
 use Rattle.mc_core.specs.Events.{ReplicaState}
+use Rattle.mc_drain.specs.Finds.{Finds}
 use Rattle.mc_drain.specs.Repairs.{RepairLeads, RepairWants, has_walked}
 use Rattle.mc_drain.specs.Works.{WorkLeads, WorkWants}
 use Rattle.mc_drain.specs.declared.repairing.Repaired.{Repaired}
 use Rattle.mc_drain.specs.declared.working.WorkError.{WorkError}
 use Rattle.mc_drain.specs.declared.working.WorkError.TheVariants.{KeeperFault, PeerFault, Stopped, Memory}
 use Rattle.mc_drain.specs.declared.working.Worked.{Worked}
-use Rattle.mc_fetch.specs.Fits.{Map}
 use Rattle.mc_keep.specs.Calls.{Members}
 use Rattle.mc_keep.specs.Causes.{has_fired}
 use Rattle.mc_keep.specs.declared.keeper.Keeper as keeper
@@ -27,7 +27,7 @@ use Rattle.mc_seats.specs.declared.seat.Seat.{Seat}
 use Rattle.mc_seats.specs.Keepers.{keeper_of}
 use Rattle.mc_seats.specs.StepParts.{are_calm, is_peer_at, peers_among}
 use Rattle.mc_seats.specs.Words.{KeeperGoes, place}
-use Rattle.mc_seats.specs.Works.{Pulled, RepairOn, WorkOn, broken_reply, offered_by, repair_budget}
+use Rattle.mc_seats.specs.Works.{Pulled, RepairOn, WorkOn, broken_reply, finds_of, repair_budget}
 use Rattle.mc_seats.specs.Worlds.{Place, is_down, peer_row, state_at}
 
 -- what is answered for a work or a repair, where this is for its value
@@ -56,12 +56,12 @@ PullsBy P W Leads (Err PeerFault) own p q = (is_down p.run ≡ false) × Pulled 
 PullsBy P W Leads (Err Stopped) own p q = (is_down p.run ≡ true) × (q ≡ p)
 PullsBy P W Leads (Err Memory) own p q = (is_down p.run ≡ false) × Pulled P W Leads p q
 
-abbrev pub WorkBy : ℕ → Result Worked WorkError → Option Map → Type 0 → Place → Place → Type 0
-WorkBy budget result offers = PullsBy WorkOn (WorkWants result) (WorkLeads budget offers result) result
+abbrev pub WorkBy : ℕ → Result Worked WorkError → Finds → Type 0 → Place → Place → Type 0
+WorkBy budget result finds = PullsBy WorkOn (WorkWants result) (WorkLeads budget finds result) result
 
-abbrev pub RepairBy : Result Repaired WorkError → Option Map → Type 0 → Place → Place → Type 0
-RepairBy result offers =
-    PullsBy (RepairOn (has_walked result)) (RepairWants result) (RepairLeads repair_budget offers result) result
+abbrev pub RepairBy : Result Repaired WorkError → Finds → Type 0 → Place → Place → Type 0
+RepairBy result finds =
+    PullsBy (RepairOn (has_walked result)) (RepairWants result) (RepairLeads repair_budget finds result) result
 
 module _ {K D : Type 0} (k : Members K D) where
   -- what it leaves of the keeper
@@ -98,14 +98,14 @@ module _ {K D : Type 0} {g : keeper.Ghosts K D} {h : counted.Ghosts K} {i : coun
 
   -- What a work or a repair makes of the replica r among others, and of the desks of these: `By` says what of the
   -- replica, by what is found among its peers.
-  pub record PullsAmong (desk_faults : D → ℕ) (By : Option Map → Type 0 → Place → Place → Type 0)
+  pub record PullsAmong (desk_faults : D → ℕ) (By : Finds → Type 0 → Place → Place → Type 0)
       (failed faulted : Bool)
       (olds news : List (Seat K D g h i)) (desks left : List (List D)) : Type 0 where
     pub old : Seat K D g h i
     pub new : Seat K D g h i
     pub stands : slice_get olds r ≡ Some old
     pub after : news ≡ set olds r new
-    pub pulls : By (offered_by (peers_among down r (map (place k) olds)))
+    pub pulls : By (finds_of (peers_among down r (map (place k) olds)))
         (Rose (k.own (keeper_of old)) (k.own (keeper_of new))) (place k old) (place k new)
     pub of_keeper : PullsKeeper k failed (keeper_of old) (keeper_of new)
     pub quiet : Bool

@@ -5,7 +5,7 @@ ghost use Rattle.mc_base.specs.Causes.{Rose};
 ghost use Rattle.mc_drain.specs.Works.{keeper_broke, peer_broke};
 ghost use Rattle.mc_fetch.specs.declared.plants.Planted.{Planted};
 ghost use Rattle.mc_lend.specs.Lending.{HaveDesks, marks_of};
-ghost use Rattle.mc_pull.specs.Pulls.{DeskRose, DesksGo, found_at};
+ghost use Rattle.mc_pull.specs.Pulls.{DeskRose, DesksGo, finds_at};
 ghost use Rattle.mc_script.specs.declared.command.Command.TheVariants.{Repair, Work};
 ghost use Rattle.mc_seats.specs.Keepers.{keeper_in};
 ghost use Rattle.mc_world.specs.Pulling.{AreAsLong, PullsAmong, PullsKeeper, RepairBy, WorkBy, pulled_answer};
@@ -243,7 +243,7 @@ where
     requires some { 1 ≤ workers }
     requires few { workers ≤ 16 }
     requires desked { HaveDesks workers (marks_of sites.now) desks.old }
-    ensures pulls { (planted : List Planted) → WorkBy budget result.1 (found_at K.told sites.now)
+    ensures pulls { (planted : List Planted) → WorkBy budget result.1 (finds_at K.told sites.now)
         (Rose (K.own (keeper_in held)) (K.own (keeper_in result.0)))
         (place_with K.told K.fuse planted held) (place_with K.told K.fuse planted result.0) }
     ensures of_keeper { PullsKeeper K.Keeper (keeper_broke result.1) (keeper_in held) (keeper_in result.0) }
@@ -277,7 +277,7 @@ where
     requires some { 1 ≤ workers }
     requires few { workers ≤ 16 }
     requires desked { HaveDesks workers (marks_of sites.now) desks.old }
-    ensures pulls { (planted : List Planted) → RepairBy result.1 (found_at K.told sites.now)
+    ensures pulls { (planted : List Planted) → RepairBy result.1 (finds_at K.told sites.now)
         (Rose (K.own (keeper_in held)) (K.own (keeper_in result.0)))
         (place_with K.told K.fuse planted held) (place_with K.told K.fuse planted result.0) }
     ensures of_keeper { PullsKeeper K.Keeper (keeper_broke result.1) (keeper_in held) (keeper_in result.0) }

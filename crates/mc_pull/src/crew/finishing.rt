@@ -9,7 +9,7 @@ ghost use Rattle.mc_core.specs.Words.{Becomes, Continues};
 ghost use Rattle.mc_drain.specs.Repairs.{RepairLeads, RepairWants};
 ghost use Rattle.mc_drain.specs.Rounds.{HasWalkedFrom, HasWorkedFrom};
 ghost use Rattle.mc_drain.specs.Works.{WorkLeads, WorkWants, keeper_broke, peer_broke};
-ghost use Rattle.mc_pull.specs.Hands.{FetchLeft, SomeRose, found_first};
+ghost use Rattle.mc_pull.specs.Hands.{FetchLeft, SomeRose, first_finds, found_first};
 
 use mc_core::Replica;
 use mc_drain::{Repaired, WorkError, Worked, finish_repair, finish_work};
@@ -48,7 +48,7 @@ pub(crate) fn go_on<K: Keeper, F: Fetch, W: Wait>(
     requires some { 1 ≤ length fetches.old.items }
     ensures leads { Becomes K.Keeper (λ rose s new. (root : ReplicaState) →
         HasWorkedFrom false before budget (found_first F.offers fetches.old.items) root s →
-        WorkLeads budget (found_first F.offers fetches.old.items) result root new) replica.old replica.new }
+        WorkLeads budget (first_finds F.offers F.leading fetches.old.items) result root new) replica.old replica.new }
     ensures keeps { Continues K.Keeper (keeper_broke result) replica.old replica.new }
     ensures rest { RestSame replica.old replica.new }
     ensures left { AllZip (FetchLeft F.Fetch) fetches.old.items fetches.new.items }
@@ -73,7 +73,7 @@ fn go_on_first<K: Keeper, F: Fetch, W: Wait>(
     requires some { 1 ≤ length fetches.old }
     ensures leads { Becomes K.Keeper (λ rose s new. (root : ReplicaState) →
         HasWorkedFrom false before budget (found_first F.offers fetches.old) root s →
-        WorkLeads budget (found_first F.offers fetches.old) result root new) replica.old replica.new }
+        WorkLeads budget (first_finds F.offers F.leading fetches.old) result root new) replica.old replica.new }
     ensures keeps { Continues K.Keeper (keeper_broke result) replica.old replica.new }
     ensures rest { RestSame replica.old replica.new }
     ensures left { AllZip (FetchLeft F.Fetch) fetches.old fetches.new }
@@ -102,7 +102,7 @@ pub(crate) fn go_on_repairing<K: Keeper, F: Fetch, W: Wait>(
     requires some { 1 ≤ length fetches.old.items }
     ensures leads { Becomes K.Keeper (λ rose s new. (root walked : ReplicaState) → HasWalkedFrom root walked →
         HasWorkedFrom false before budget (found_first F.offers fetches.old.items) walked s →
-        RepairLeads budget (found_first F.offers fetches.old.items) result root new) replica.old replica.new }
+        RepairLeads budget (first_finds F.offers F.leading fetches.old.items) result root new) replica.old replica.new }
     ensures keeps { Continues K.Keeper (keeper_broke result) replica.old replica.new }
     ensures rest { RestSame replica.old replica.new }
     ensures left { AllZip (FetchLeft F.Fetch) fetches.old.items fetches.new.items }
@@ -128,7 +128,7 @@ fn repair_over_first<K: Keeper, F: Fetch, W: Wait>(
     requires some { 1 ≤ length fetches.old }
     ensures leads { Becomes K.Keeper (λ rose s new. (root walked : ReplicaState) → HasWalkedFrom root walked →
         HasWorkedFrom false before budget (found_first F.offers fetches.old) walked s →
-        RepairLeads budget (found_first F.offers fetches.old) result root new) replica.old replica.new }
+        RepairLeads budget (first_finds F.offers F.leading fetches.old) result root new) replica.old replica.new }
     ensures keeps { Continues K.Keeper (keeper_broke result) replica.old replica.new }
     ensures rest { RestSame replica.old replica.new }
     ensures left { AllZip (FetchLeft F.Fetch) fetches.old fetches.new }

@@ -7,7 +7,7 @@ ghost use Rattle.mc_queue.specs.Views.{shown};
 ghost use Rattle.mc_core.specs.Words.{Becomes, Continues};
 ghost use Rattle.mc_drain.specs.Repairs.{RepairLeads, RepairWants, has_walked};
 ghost use Rattle.mc_drain.specs.Works.{keeper_broke, none_broke, peer_broke};
-ghost use Rattle.mc_pull.specs.Hands.{FetchLeft, SomeRose, found_first};
+ghost use Rattle.mc_pull.specs.Hands.{FetchLeft, SomeRose, first_finds, found_first};
 
 use crate::crew::finishing::{go_on_repairing, is_over};
 use crate::crew::laws::fetches_follow;
@@ -49,7 +49,7 @@ where
     requires few { length fetches.items ≤ 16 }
     requires same { All (λ f. found_by (F.offers f) ≡ found_first F.offers fetches.items) fetches.items }
     ensures leads { Becomes K.Keeper (λ rose s new.
-        RepairLeads budget (found_first F.offers fetches.items) result.2 s new) replica result.0 }
+        RepairLeads budget (first_finds F.offers F.leading fetches.items) result.2 s new) replica result.0 }
     ensures keeps { Continues K.Keeper (keeper_broke result.2) replica result.0 }
     ensures batch { result.0.batch ≡ replica.batch }
     ensures whole { has_walked result.2 ≡ true → result.0.whole ≡ true }

@@ -7,7 +7,7 @@ ghost use Rattle.mc_queue.specs.Views.{shown};
 ghost use Rattle.mc_core.specs.Exact.{RunSame};
 ghost use Rattle.mc_core.specs.Words.{Becomes, Continues};
 ghost use Rattle.mc_drain.specs.Works.{WorkLeads, WorkWants, keeper_broke, none_broke, peer_broke};
-ghost use Rattle.mc_pull.specs.Hands.{FetchLeft, SomeRose, found_first};
+ghost use Rattle.mc_pull.specs.Hands.{FetchLeft, SomeRose, first_finds, found_first};
 
 use crate::crew::finishing::{go_on, is_over};
 use crate::crew::laws::fetches_follow;
@@ -53,7 +53,7 @@ where
     requires few { length fetches.items ≤ 16 }
     requires same { All (λ f. found_by (F.offers f) ≡ found_first F.offers fetches.items) fetches.items }
     ensures leads { Becomes K.Keeper (λ rose s new.
-        WorkLeads budget (found_first F.offers fetches.items) result.2 s new) replica result.0 }
+        WorkLeads budget (first_finds F.offers F.leading fetches.items) result.2 s new) replica result.0 }
     ensures keeps { Continues K.Keeper (keeper_broke result.2) replica result.0 }
     ensures rest { RunSame replica result.0 }
     ensures left { AllZip (FetchLeft F.Fetch) fetches.items result.1.items }

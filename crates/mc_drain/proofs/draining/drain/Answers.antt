@@ -1,14 +1,15 @@
-use Rattle.std.proofs.Common.{◌≡◌, ◌≤◌, ◌||◌, ◌∙◌, Some, None, refl, ap}
+use Rattle.std.proofs.Common.{◌≡◌, ◌≤◌, ◌||◌, ◌∙◌, Some, None, refl, ap, false}
 use Rattle.mc_core.proofs.Keeps.{continues_more}
-use Rattle.mc_fetch.specs.Offers.{found_by}
+use Rattle.mc_fetch.specs.Offers.{found_by, surely_by}
 use Rattle.mc_fetch.proofs.AskFacts.{asks_more}
 use Rattle.mc_queue.specs.Views.{shown}
 use Rattle.mc_core.specs.Events.{ReplicaState}
 use Rattle.mc_drain.specs.declared.end.DrainEnd.{DrainEnd}
-use Rattle.mc_drain.specs.Leads.{count}
-use Rattle.mc_drain.specs.Words.{is_keeper}
+use Rattle.mc_drain.specs.Leads.{count, Always, up_to}
+use Rattle.mc_drain.specs.Words.{is_keeper, Fetched}
 use Rattle.mc_drain.proofs.CallFacts.{some_with}
 use Rattle.mc_drain.proofs.EndFacts.{drain_ended, drain_parted, waiting_shown}
+use Rattle.mc_drain.proofs.LostFacts.{all_lost, lost_end, lost_then}
 use Rattle.mc_drain.proofs.draining.drain.Goals as goal
 
 pub returns-in-Some-clause-leads : goal.returns-in-Some-clause-leads
@@ -30,3 +31,11 @@ returns-in-None-clause-keeps g c = continues_more (continues_more c.restart.ensu
 
 pub returns-in-None-clause-asks : goal.returns-in-None-clause-asks
 returns-in-None-clause-asks g c = asks_more g.met.F.Fetch.follows_on c.in-None.ensures.asks c.part.ensures.asks
+
+pub returns-in-Some-clause-lost : goal.returns-in-Some-clause-lost
+returns-in-Some-clause-lost g c = all_lost (surely_by (g.F.Fetch.leading c.args.fetch.now)) count Always (is_keeper c.in-Some.end) _ _ (shown c.restart.new.replica.queue) (shown c.take_turns.new.replica.queue) c.restart.ensures.freed c.restart.ensures.leads c.in-Some.ensures.sticks
+
+pub returns-in-None-clause-lost : goal.returns-in-None-clause-lost
+returns-in-None-clause-lost g c = all_lost (surely_by (g.F.Fetch.leading c.args.fetch.now)) count Always (is_keeper c.part.result) _ _ (shown c.restart.new.replica.queue) (shown c.part.new.replica.queue) c.restart.ensures.freed c.restart.ensures.leads
+    (lost_then (surely_by (g.F.Fetch.leading c.args.fetch.now)) (surely_by (g.F.Fetch.leading c.take_turns.new.fetch)) (up_to c.args.limit) (Fetched (found_by (g.F.Fetch.offers c.args.fetch.now))) (is_keeper c.part.result) _ _ (shown c.restart.new.replica.queue) (shown c.take_turns.new.replica.queue) (shown c.part.new.replica.queue) (ap surely_by c.in-None.ensures.asks.leading_same) c.in-None.ensures.leads
+    (lost_end (surely_by (g.F.Fetch.leading c.args.fetch.now)) false _ (shown c.restart.new.replica.queue) (shown c.take_turns.new.replica.queue) refl c.in-None.ensures.sticks) c.part.ensures.sticks)

@@ -3,12 +3,14 @@ use Rattle.mc_core.specs.Words.{ContinuesAt}
 use Rattle.mc_core.proofs.Keeps.{continues_more, rest_more, still_on}
 use Rattle.mc_base.specs.Told.{Told}
 use Rattle.mc_fetch.specs.Frame.{AsksAt}
-use Rattle.mc_fetch.specs.Offers.{found_by}
+use Rattle.mc_fetch.specs.Offers.{found_by, surely_by}
 use Rattle.mc_fetch.proofs.AskFacts.{asks_more, asks_none}
 use Rattle.mc_drain.specs.Leads.{Leads, count, up_to}
 use Rattle.mc_core.specs.Replica.{replica_state}
 use Rattle.mc_drain.specs.Words.{Fetched, is_keeper, keeper_failed, peer_failed}
 use Rattle.mc_drain.proofs.TurnFacts.{itself_told, loop_told, room_told, still_runs}
+use Rattle.mc_queue.specs.Views.{shown}
+use Rattle.mc_drain.proofs.LostFacts.{lost_end, lost_on, lost_start, lost_then}
 use Rattle.mc_drain.proofs.draining.take_turns.Goals as goal
 
 pub loop-init : goal.loop-init
@@ -19,6 +21,7 @@ loop-init g c = record {
   rest = record { walk_same = refl; batch_same = refl; whole_same = refl; inbox_same = refl };
   asked = asks_none g.met.F.Fetch.follows_itself _;
   leads = itself_told c.order_and_store_grow.ensures c.found_drains_go_on.ensures.goes c.parts_stay_right.ensures.stay (up_to c.args.limit) (Fetched (found_by (g.F.Fetch.offers c.args.fetch.now))) _ (λ s. omega arith);
+  sticks = lost_start (surely_by (g.F.Fetch.leading c.args.fetch.now)) _ (shown c.args.replica.now.queue);
 }
 
 pub returns-in-Some-take_turn-clause-leads : goal.returns-in-Some-take_turn-clause-leads
@@ -38,4 +41,12 @@ loop-preserved g c = record {
   rest = rest_more c.loop.invariant.rest c.take_turn.ensures.rest;
   asked = asks_more g.met.F.Fetch.follows_on c.loop.invariant.asked (subst (λ t. AsksAt g.F.Fetch.offers g.F.Fetch.leading g.F.Fetch.places g.F.Fetch.quiet g.F.Counted.faults g.F.Fetch.follows (peer_failed t) c.loop.fetch c.take_turn.new.fetch) c.in_default.is c.take_turn.ensures.asks);
   leads = loop_told false c.args.limit (found_by (g.F.Fetch.offers c.args.fetch.now)) _ _ _ _ (ap found_by c.loop.invariant.asked.offers_same) (room_told c.processed.result c.args.limit _ (omega (arith, c.if-processed-limit.false)) (omega arith) c.processed.ensures) c.loop.invariant.leads (subst (λ t. Told (replica_state g.K.Keeper.told g.K.Keeper.fuse c.loop.replica) (replica_state g.K.Keeper.told g.K.Keeper.fuse c.take_turn.new.replica) (λ s new. Leads (keeper_failed t) (count s + 1) (Fetched (found_by (g.F.Fetch.offers c.loop.fetch))) s new)) c.in_default.is c.take_turn.ensures.leads);
+  sticks = lost_end (surely_by (g.F.Fetch.leading c.args.fetch.now)) (keeper_failed c.take_turn.result) _ (shown c.args.replica.now.queue) (shown c.take_turn.new.replica.queue) (ap keeper_failed c.in_default.is)
+      (lost_then (surely_by (g.F.Fetch.leading c.args.fetch.now)) (surely_by (g.F.Fetch.leading c.loop.fetch)) (up_to c.args.limit) (Fetched (found_by (g.F.Fetch.offers c.args.fetch.now))) (keeper_failed c.take_turn.result) _ _ (shown c.args.replica.now.queue) (shown c.loop.replica.queue) (shown c.take_turn.new.replica.queue) (ap surely_by c.loop.invariant.asked.leading_same) c.loop.invariant.leads c.loop.invariant.sticks c.take_turn.ensures.sticks);
 }
+
+pub returns-in-Some-take_turn-clause-sticks : goal.returns-in-Some-take_turn-clause-sticks
+returns-in-Some-take_turn-clause-sticks g c = lost_then (surely_by (g.F.Fetch.leading c.args.fetch.now)) (surely_by (g.F.Fetch.leading c.loop.fetch)) (up_to c.args.limit) (Fetched (found_by (g.F.Fetch.offers c.args.fetch.now))) (is_keeper c.in-Some-take_turn.end) _ _ (shown c.args.replica.now.queue) (shown c.loop.replica.queue) (shown c.take_turn.new.replica.queue) (ap surely_by c.loop.invariant.asked.leading_same) c.loop.invariant.leads c.loop.invariant.sticks c.in-Some-take_turn.ensures.sticks
+
+pub returns-then-processed-limit-clause-sticks : goal.returns-then-processed-limit-clause-sticks
+returns-then-processed-limit-clause-sticks g c = lost_on (surely_by (g.F.Fetch.leading c.args.fetch.now)) false _ (shown c.args.replica.now.queue) (shown c.loop.replica.queue) c.loop.invariant.sticks

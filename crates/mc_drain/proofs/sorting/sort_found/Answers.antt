@@ -6,6 +6,9 @@ use Rattle.mc_drain.specs.Words.{FoundFor, IsGoodness, IsNoBlock, keeper_failed}
 use Rattle.mc_drain.proofs.CallFacts.{no_block_processes}
 use Rattle.mc_drain.proofs.SortFacts.{bad_sorts, good_sorts}
 use Rattle.mc_drain.proofs.TurnFacts.{weaker_told}
+use Rattle.mc_queue.specs.Views.{shown}
+use Rattle.mc_drain.specs.Lost.{StuckOf}
+use Rattle.mc_drain.proofs.LostFacts.{sticks_free}
 use Rattle.mc_drain.proofs.sorting.sort_found.Goals as goal
 
 pub returns-in-Ok-true-clause-leads : goal.returns-in-Ok-true-clause-leads
@@ -28,3 +31,9 @@ pub returns-in-Ok-false-clause-sorts : goal.returns-in-Ok-false-clause-sorts
 returns-in-Ok-false-clause-sorts g c =
     let none : IsNoBlock c.args.job.cid (found_in c.args.found) = subst (λ (b : Bool). IsGoodness b c.args.job.cid (found_in c.args.found)) c.in-Ok-false.field-0-test c.in-Ok-false.ensures in
     bad_sorts c.args.job.cid (found_in c.args.found) c.deliver.result _ _ _ none c.deliver.ensures.stuck
+
+pub returns-in-Ok-true-clause-sticks : goal.returns-in-Ok-true-clause-sticks
+returns-in-Ok-true-clause-sticks g c = λ e. sticks_free (StuckOf c.args.job.cid (found_in c.args.found)) (shown c.args.replica.now.queue) (shown c.back.new.replica.queue) c.back.ensures.sticks
+
+pub returns-in-Err-clause-sticks : goal.returns-in-Err-clause-sticks
+returns-in-Err-clause-sticks g c = λ e. sticks_free (StuckOf c.args.job.cid (found_in c.args.found)) (shown c.args.replica.now.queue) (shown c.back-in-Err.new.replica.queue) c.back-in-Err.ensures.sticks

@@ -1,11 +1,12 @@
-use Rattle.std.proofs.Common.{false, arith}
+use Rattle.std.proofs.Common.{false, arith, refl}
 use Rattle.mc_core.proofs.Keeps.{continues_more}
-use Rattle.mc_fetch.specs.Offers.{found_by}
+use Rattle.mc_fetch.specs.Offers.{found_by, surely_by}
 use Rattle.mc_queue.specs.Views.{shown}
 use Rattle.mc_drain.specs.Leads.{Always, count}
 use Rattle.mc_drain.specs.Words.{Fetched, is_keeper, keeper_failed}
 use Rattle.mc_drain.proofs.TurnFacts.{turn_told, weaker_told}
 use Rattle.mc_drain.proofs.SortFacts.{first_sorts, tells_on}
+use Rattle.mc_drain.proofs.LostFacts.{free_sticks, turn_sticks}
 use Rattle.mc_drain.proofs.sorting.sort_turn.Goals as goal
 
 pub returns-in-Ok-Some-clause-leads : goal.returns-in-Ok-Some-clause-leads
@@ -24,3 +25,13 @@ returns-in-Err-clause-leads g c = weaker_told (is_keeper c.in-Err.end) count cou
 pub returns-in-Ok-Some-clause-sorts : goal.returns-in-Ok-Some-clause-sorts
 returns-in-Ok-Some-clause-sorts g c = let digest = rw c.in-Ok-Some.field-0-is at c.in-Ok-Some.ensures.digest in let own = rw c.in-Ok-Some.field-0-is at c.in-Ok-Some.ensures.own in let begins = rw c.in-Ok-Some.field-0-is at c.in-Ok-Some.ensures.begins in
     first_sorts (found_by (g.F.Fetch.offers c.args.fetch.now)) c.in-Ok-Some.job.cid c.in-Ok-Some.job.own c.sort_job.result (shown c.args.replica.now.queue) (shown c.begin.new.replica.queue) (shown c.sort_job.new.replica.queue) _ _ begins.0 begins.1 digest own (tells_on _ _ _ c.in-Ok-Some.ensures.leads) c.sort_job.ensures.sorts
+
+pub returns-in-Ok-Some-clause-sticks : goal.returns-in-Ok-Some-clause-sticks
+returns-in-Ok-Some-clause-sticks g c = let own = rw c.in-Ok-Some.field-0-is at c.in-Ok-Some.ensures.own in
+    turn_sticks (surely_by (g.F.Fetch.leading c.args.fetch.now)) (keeper_failed c.sort_job.result) c.in-Ok-Some.job.cid c.in-Ok-Some.job.own _ (shown c.args.replica.now.queue) (shown c.begin.new.replica.queue) (shown c.sort_job.new.replica.queue) c.is_sound.ensures.state own (c.in-Ok-Some.ensures.sticks refl) c.sort_job.ensures.sticks
+
+pub returns-in-Ok-None-clause-sticks : goal.returns-in-Ok-None-clause-sticks
+returns-in-Ok-None-clause-sticks g c = free_sticks (surely_by (g.F.Fetch.leading c.args.fetch.now)) false _ (shown c.args.replica.now.queue) (shown c.begin.new.replica.queue) (λ e. c.in-Ok-None.ensures.sticks refl)
+
+pub returns-in-Err-clause-sticks : goal.returns-in-Err-clause-sticks
+returns-in-Err-clause-sticks g c = free_sticks (surely_by (g.F.Fetch.leading c.args.fetch.now)) (is_keeper c.in-Err.end) _ (shown c.args.replica.now.queue) (shown c.begin.new.replica.queue) c.in-Err.ensures.sticks

@@ -2,7 +2,7 @@ use Rattle.std.proofs.Common.{◌≡◌, false, []}
 use Rattle.std.specs.Prelude.{IfSome}
 use Rattle.mc_base.specs.Told.{Told}
 use Rattle.mc_fetch.specs.Calls.{HasAsked}
-use Rattle.mc_fetch.specs.Offers.{found_by}
+use Rattle.mc_fetch.specs.Offers.{found_by, surely_by}
 use Rattle.mc_queue.specs.Views.{shown}
 use Rattle.mc_core.specs.Exact.{RestSame}
 use Rattle.mc_core.specs.Replica.{replica_state}
@@ -10,6 +10,7 @@ use Rattle.mc_core.specs.Words.{ContinuesAt}
 use Rattle.mc_drain.specs.Leads.{Leads, count}
 use Rattle.mc_drain.specs.Words.{Fetched}
 use Rattle.mc_drain.proofs.SortFacts.{IsSorting}
+use Rattle.mc_drain.specs.Lost.{IsLost, Sticks}
 use Rattle.mc_drain.proofs.sorting.sort_waiting.Given as goal
 
 abbrev pub invariant-loop-left : goal.invariant-loop-left
@@ -21,6 +22,7 @@ invariant-loop-left g l = record {
   asked : HasAsked g.F.Fetch g.F.Counted l.fn.fetch l.fetch;
   leads : Told (replica_state g.K.Keeper.told g.K.Keeper.fuse l.fn.replica) (replica_state g.K.Keeper.told g.K.Keeper.fuse l.replica) (λ s now. Leads false (count s) (Fetched (found_by (g.F.Fetch.offers l.fn.fetch))) s now);
   sorting : IfSome (replica_state g.K.Keeper.told g.K.Keeper.fuse l.fn.replica) (λ s. IsSorting (found_by (g.F.Fetch.offers l.fn.fetch)) s (shown l.replica.queue).waiting l.left);
+  sticks : IfSome (replica_state g.K.Keeper.told g.K.Keeper.fuse l.fn.replica) (λ s. Sticks (IsLost (surely_by (g.F.Fetch.leading l.fn.fetch)) s.state.durable.graph) (shown l.fn.replica.queue) (shown l.replica.queue));
 }
 
 abbrev pub decreases-loop-left : goal.decreases-loop-left

@@ -2,16 +2,16 @@ use Rattle.std.proofs.Common.{◌∙◌, Result, ap, refl, sym}
 use Rattle.mc_drain.specs.declared.repairing.Repaired.{Repaired}
 use Rattle.mc_drain.specs.Works.{none_broke, peer_broke}
 use Rattle.mc_drain.specs.declared.working.WorkError.{WorkError}
-use Rattle.mc_pull.specs.Pulls.{found_at}
+use Rattle.mc_pull.specs.Pulls.{finds_at}
 use Rattle.mc_pull.specs.Shows.{all_show}
 use Rattle.mc_pull.proofs.AnswerFacts.{peer_shows, repair_told}
 use Rattle.mc_pull.proofs.CalmFacts.{none_asked, none_failed, shown_all, shown_none}
 use Rattle.mc_pull.proofs.DeskFacts.{still_go}
-use Rattle.mc_pull.proofs.PullFacts.{all_desks_go, are_lent, find_same, finds_first, one_rose, rows_hold, show_all, views_stay}
+use Rattle.mc_pull.proofs.PullFacts.{all_desks_go, are_lent, all_first, find_same, one_rose, rows_hold, show_all, views_stay}
 use Rattle.mc_pull.proofs.repairing.repair.Goals as goal
 
 pub returns-in-Err-clause-leads : goal.returns-in-Err-clause-leads
-returns-in-Err-clause-leads g c = c.give_up-why.ensures.repairs c.args.budget (found_at g.K.Keeper.told c.args.sites.now)
+returns-in-Err-clause-leads g c = c.give_up-why.ensures.repairs c.args.budget (finds_at g.K.Keeper.told c.args.sites.now)
 
 pub returns-in-Err-clause-desks : goal.returns-in-Err-clause-desks
 returns-in-Err-clause-desks g c = still_go _ g.K.Desk.Counted.faults c.args.sites.now _ _ c.in-Err.ensures.back
@@ -26,8 +26,8 @@ pub take_back-requires-clause-viewed : goal.take_back-requires-clause-viewed
 take_back-requires-clause-viewed g c = views_stay g.K.Keeper.told c.args.workers c.args.sites.now c.args.desks.now c.in-Ok.lent.fetches c.into_vec-fetches.result.items c.in-Ok.lent.rows.items c.into_vec-fetches.ensures c.in-Ok.ensures.lent g.K.Keeper.quiet g.K.Keeper.quiet_desk g.K.Desk.Counted.faults g.K.Keeper.desk_schedule _ (λ old new a. a) c.repair-replica.result.1.items c.from_vec-fetches.result c.repair-replica.ensures.left c.from_vec-fetches.ensures
 
 pub returns-clause-leads : goal.returns-clause-leads
-returns-clause-leads g c = repair_told _ c.repair-replica.result.2 c.answer.result c.args.budget _ (found_at g.K.Keeper.told c.args.sites.now) _ _ c.answer.ensures
-    (finds_first g.K.Keeper.told c.args.workers c.args.sites.now c.args.desks.now c.in-Ok.lent.fetches c.into_vec-fetches.result.items c.in-Ok.lent.rows.items c.into_vec-fetches.ensures c.in-Ok.ensures.lent c.requires.some) c.repair-replica.ensures.leads
+returns-clause-leads g c = repair_told _ c.repair-replica.result.2 c.answer.result c.args.budget _ (finds_at g.K.Keeper.told c.args.sites.now) _ _ c.answer.ensures
+    (all_first g.K.Keeper.told c.args.workers c.args.sites.now c.args.desks.now c.in-Ok.lent.fetches c.into_vec-fetches.result.items c.in-Ok.lent.rows.items c.into_vec-fetches.ensures c.in-Ok.ensures.lent c.requires.some) c.repair-replica.ensures.leads
 
 pub returns-clause-desks : goal.returns-clause-desks
 returns-clause-desks g c = all_desks_go g.K.Keeper.told c.args.workers c.args.sites.now c.args.desks.now c.in-Ok.lent.fetches c.into_vec-fetches.result.items c.in-Ok.lent.rows.items c.into_vec-fetches.ensures c.in-Ok.ensures.lent _ g.K.Desk.Counted.faults _ (λ old new a. a) c.repair-replica.result.1.items c.from_vec-fetches.result c.repair-replica.ensures.left c.from_vec-fetches.ensures _ c.take_back.ensures

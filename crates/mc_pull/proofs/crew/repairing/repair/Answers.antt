@@ -4,20 +4,20 @@ use Rattle.mc_core.proofs.Keeps.{continues_more}
 use Rattle.mc_queue.specs.Views.{shown}
 use Rattle.mc_drain.specs.declared.repairing.Repaired.{Repaired}
 use Rattle.mc_drain.proofs.RepairFacts.{unwalked_told}
-use Rattle.mc_pull.specs.Hands.{found_first}
-use Rattle.mc_pull.proofs.Left.{calm_itself, calm_more, found_left, left_itself, left_more, rose_more}
+use Rattle.mc_pull.specs.Hands.{first_finds, found_first}
+use Rattle.mc_pull.proofs.Left.{all_first, calm_itself, calm_more, finds_left, found_left, left_itself, left_more, rose_more}
 use Rattle.mc_pull.proofs.WorkFacts.{gone_on_keeps, left_broke, left_keeps, left_peer, left_repair_wants, left_runs, none_peer, over_none, repair_gone_on, repair_left, requeued_led}
 use Rattle.mc_pull.proofs.crew.repairing.repair.Goals as goal
 
 pub returns-in-Err-clause-leads : goal.returns-in-Err-clause-leads
-returns-in-Err-clause-leads g c = unwalked_told c.args.budget (found_first g.F.Fetch.offers c.args.fetches.items) c.in-Err.error _ _ c.in-Err.ensures.leads
+returns-in-Err-clause-leads g c = unwalked_told c.args.budget (first_finds g.F.Fetch.offers g.F.Fetch.leading c.args.fetches.items) c.in-Err.error _ _ c.in-Err.ensures.leads
 
 pub returns-in-Err-clause-left : goal.returns-in-Err-clause-left
 returns-in-Err-clause-left g c = left_itself _ c.fetches_follow.ensures.itself _
 
 pub returns-then-is_over-clause-leads : goal.returns-then-is_over-clause-leads
 returns-then-is_over-clause-leads g c =
-    repair_left _ c.in-Ok.before c.args.budget c.saturating_add-limit.result (found_first g.F.Fetch.offers c.args.fetches.items) c.leave_off-why.result _ _ _ _ c.saturating_add-limit.ensures c.in-Ok.ensures.walks (requeued_led _ c.saturating_add-limit.result _ _ _ _ c.requeue.ensures.leads c.requeue.ensures.stored c.round-replica.ensures.leads) c.leave_off-why.ensures.repairs
+    repair_left _ c.in-Ok.before c.args.budget c.saturating_add-limit.result (found_first g.F.Fetch.offers c.args.fetches.items) (first_finds g.F.Fetch.offers g.F.Fetch.leading c.args.fetches.items) c.leave_off-why.result _ _ _ _ (all_first g.F.Fetch.offers g.F.Fetch.leading c.args.fetches.items) c.saturating_add-limit.ensures c.in-Ok.ensures.walks (requeued_led _ c.saturating_add-limit.result _ _ _ _ c.requeue.ensures.leads c.requeue.ensures.stored c.round-replica.ensures.leads) c.leave_off-why.ensures.repairs
 
 pub returns-then-is_over-clause-keeps : goal.returns-then-is_over-clause-keeps
 returns-then-is_over-clause-keeps g c = continues_more c.in-Ok.ensures.keeps (left_keeps Repaired _ c.leave_off-why.result _ _ _ c.leave_off-why.ensures.why (continues_more c.requeue.ensures.keeps c.round-replica.ensures.keeps) c.leave_off-why.ensures.keeps c.leave_off-why.ensures.still)
@@ -43,7 +43,7 @@ returns-then-is_over-clause-wants g c = left_repair_wants _ c.leave_off-why.resu
 pub returns-clause-leads : goal.returns-clause-leads
 returns-clause-leads g c =
     let both = over_none _ _ (sym c.is_over.ensures ∙ c.if-is_over.false) in
-    repair_gone_on _ c.in-Ok.before c.args.budget c.saturating_add-limit.result (found_first g.F.Fetch.offers c.args.fetches.items) _ c.go_on_repairing-answer.result _ _ _ _ both.1 (found_left _ _ _ c.round-replica.ensures.left) c.saturating_add-limit.ensures
+    repair_gone_on _ c.in-Ok.before c.args.budget c.saturating_add-limit.result (found_first g.F.Fetch.offers c.args.fetches.items) _ (first_finds g.F.Fetch.offers g.F.Fetch.leading c.args.fetches.items) _ c.go_on_repairing-answer.result _ _ _ _ both.1 (found_left _ _ _ c.round-replica.ensures.left) (finds_left _ _ _ c.round-replica.ensures.left) c.saturating_add-limit.ensures
     c.in-Ok.ensures.walks (requeued_led _ c.saturating_add-limit.result _ _ _ _ c.requeue.ensures.leads c.requeue.ensures.stored c.round-replica.ensures.leads) c.go_on_repairing-answer.ensures.leads
 
 pub returns-clause-keeps : goal.returns-clause-keeps

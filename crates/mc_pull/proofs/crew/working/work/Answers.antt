@@ -6,13 +6,13 @@ use Rattle.mc_drain.specs.declared.working.Worked.{Worked}
 use Rattle.mc_node.proofs.FrameFacts.{run_more, run_same}
 use Rattle.mc_drain.proofs.TurnFacts.{report_count}
 use Rattle.mc_drain.proofs.WorkFacts.{not_true, still_works}
-use Rattle.mc_pull.specs.Hands.{found_first}
-use Rattle.mc_pull.proofs.Left.{calm_itself, calm_more, found_left, left_itself, left_more, rose_more}
+use Rattle.mc_pull.specs.Hands.{first_finds, found_first}
+use Rattle.mc_pull.proofs.Left.{all_first, calm_itself, calm_more, finds_left, found_left, left_itself, left_more, rose_more}
 use Rattle.mc_pull.proofs.WorkFacts.{gone_on_keeps, left_broke, left_keeps, left_peer, left_runs, left_wants, none_peer, over_none, requeued_led, work_gone_on, work_left}
 use Rattle.mc_pull.proofs.crew.working.work.Goals as goal
 
 pub returns-in-Err-clause-leads : goal.returns-in-Err-clause-leads
-returns-in-Err-clause-leads g c = still_works c.args.budget (found_first g.F.Fetch.offers c.args.fetches.items) _ c.is_sound.ensures.state
+returns-in-Err-clause-leads g c = still_works c.args.budget (first_finds g.F.Fetch.offers g.F.Fetch.leading c.args.fetches.items) _ c.is_sound.ensures.state
 
 pub returns-in-Err-clause-keeps : goal.returns-in-Err-clause-keeps
 returns-in-Err-clause-keeps g c = still_on refl refl refl
@@ -22,7 +22,7 @@ returns-in-Err-clause-left g c = left_itself _ c.fetches_follow.ensures.itself _
 
 pub returns-then-is_over-clause-leads : goal.returns-then-is_over-clause-leads
 returns-then-is_over-clause-leads g c =
-    work_left _ c.in-Ok.report.processed c.args.budget c.saturating_add-limit.result (found_first g.F.Fetch.offers c.args.fetches.items) c.leave_off-why.result _ _ _ c.saturating_add-limit.ensures (report_count _ _ _ _ c.in-Ok.report c.in-Ok.ensures.report) (requeued_led _ c.saturating_add-limit.result _ _ _ _ c.requeue.ensures.leads c.requeue.ensures.stored c.round-replica.ensures.leads) c.leave_off-why.ensures.works
+    work_left _ c.in-Ok.report.processed c.args.budget c.saturating_add-limit.result (found_first g.F.Fetch.offers c.args.fetches.items) (first_finds g.F.Fetch.offers g.F.Fetch.leading c.args.fetches.items) c.leave_off-why.result _ _ _ (all_first g.F.Fetch.offers g.F.Fetch.leading c.args.fetches.items) c.saturating_add-limit.ensures (report_count _ _ _ _ c.in-Ok.report c.in-Ok.ensures.report) (requeued_led _ c.saturating_add-limit.result _ _ _ _ c.requeue.ensures.leads c.requeue.ensures.stored c.round-replica.ensures.leads) c.leave_off-why.ensures.works
 
 pub returns-then-is_over-clause-keeps : goal.returns-then-is_over-clause-keeps
 returns-then-is_over-clause-keeps g c = left_keeps Worked _ c.leave_off-why.result _ _ _ c.leave_off-why.ensures.why (continues_more c.requeue.ensures.keeps c.round-replica.ensures.keeps) c.leave_off-why.ensures.keeps c.leave_off-why.ensures.still
@@ -45,7 +45,7 @@ returns-then-is_over-clause-wants g c = left_wants _ c.leave_off-why.result (sho
 pub returns-clause-leads : goal.returns-clause-leads
 returns-clause-leads g c =
     let both = over_none _ _ (sym c.is_over.ensures ∙ c.if-is_over.false) in
-    work_gone_on _ c.in-Ok.report.processed c.args.budget c.saturating_add-limit.result (found_first g.F.Fetch.offers c.args.fetches.items) _ c.go_on-answer.result _ _ _ both.1 (found_left _ _ _ c.round-replica.ensures.left) c.saturating_add-limit.ensures
+    work_gone_on _ c.in-Ok.report.processed c.args.budget c.saturating_add-limit.result (found_first g.F.Fetch.offers c.args.fetches.items) _ (first_finds g.F.Fetch.offers g.F.Fetch.leading c.args.fetches.items) _ c.go_on-answer.result _ _ _ both.1 (found_left _ _ _ c.round-replica.ensures.left) (finds_left _ _ _ c.round-replica.ensures.left) c.saturating_add-limit.ensures
     (report_count _ _ _ _ c.in-Ok.report c.in-Ok.ensures.report) (requeued_led _ c.saturating_add-limit.result _ _ _ _ c.requeue.ensures.leads c.requeue.ensures.stored c.round-replica.ensures.leads) c.go_on-answer.ensures.leads
 
 pub returns-clause-keeps : goal.returns-clause-keeps
