@@ -5,8 +5,8 @@ use Rattle.mc_keep_any.proofs.any.AnyKeeper.TheSendSync.{the_send as any_send, t
 use Rattle.mc.proofs.Crossing.{mem_crosses}
 use Rattle.mc.proofs.run_words.Goals as goal
 
-pub run_console-requires-send-K-K : goal.run_console-requires-send-K-K
-run_console-requires-send-K-K g c κs within = search (file_send, any_send, mem_send, sendable) depth 12
+pub run_console-status-requires-send-K-K : goal.run_console-status-requires-send-K-K
+run_console-status-requires-send-K-K g c κs within = search (file_send, any_send, mem_send, sendable) depth 12
 
-pub run_console-requires-sync-K-K : goal.run_console-requires-sync-K-K
-run_console-requires-sync-K-K g c κs within = search (file_sync, any_sync, mem_crosses, sendable) depth 12
+pub run_console-status-requires-sync-K-K : goal.run_console-status-requires-sync-K-K
+run_console-status-requires-sync-K-K g c κs within = search (file_sync, any_sync, mem_crosses, sendable) depth 12
