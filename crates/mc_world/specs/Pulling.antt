@@ -1,5 +1,5 @@
 -- A work or a repair of a replica among others, in its parts.
-use Rattle.std.specs.Prelude.{◌≡◌, ◌⊎◌, ⊤, ℕ, ◌+◌, length, Bool, true, false, cond, List, [], ◌∷◌, ◌++◌, map, Option}
+use Rattle.std.specs.Prelude.{◌≡◌, ◌⊎◌, ⊤, ℕ, ◌+◌, length, Bool, true, false, cond, List, [], ◌∷◌, ◌++◌, map}
 use Rattle.std.specs.Prelude.{Some, None, Result, Ok, Err, slice_get, set}
 use Rattle.std.specs.List.{AllZip, remove}
 use Rattle.mc_base.specs.Causes.{Rose}
