@@ -52,6 +52,7 @@ impl<'a> Counted for Meeting<'a> {
 impl<'a> Fetch for Meeting<'a> {
     ghost use Rattle.std.specs.Prelude.{⊤, true, length};
     ghost use Rattle.std.specs.Prelude as prelude;
+    ghost use Rattle.mc_tests.specs.Leading.{few_none};
 
     ghost offers = { λ shelf. prelude.None };
 
@@ -67,7 +68,7 @@ impl<'a> Fetch for Meeting<'a> {
 
     ghost whole = { λ shelf. tt };
 
-    ghost few = { λ shelf cid. Prim.search rules };
+    ghost few = { λ shelf cid. few_none (length shelf.blocks.items) };
 
     ghost follows_itself = { λ shelf. tt };
 

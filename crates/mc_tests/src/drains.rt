@@ -31,6 +31,7 @@ impl Counted for Shelf {
 impl Fetch for Shelf {
     ghost use Rattle.std.specs.Prelude.{⊤, true, length};
     ghost use Rattle.std.specs.Prelude as prelude;
+    ghost use Rattle.mc_tests.specs.Leading.{few_none};
 
     ghost offers = { λ shelf. prelude.None };
 
@@ -46,7 +47,7 @@ impl Fetch for Shelf {
 
     ghost whole = { λ shelf. tt };
 
-    ghost few = { λ shelf cid. Prim.search rules };
+    ghost few = { λ shelf cid. few_none (length shelf.blocks.items) };
 
     ghost follows_itself = { λ shelf. tt };
 

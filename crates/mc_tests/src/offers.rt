@@ -36,6 +36,7 @@ impl Counted for Listed {
 
 impl Fetch for Listed {
     ghost use Rattle.std.specs.Prelude.{◌≡◌, ⊤, Some, false, length, refl};
+    ghost use Rattle.mc_tests.specs.Leading.{few_all};
 
     ghost offers = { λ fetch. Some (λ cid. fetch.offers.items) };
 
@@ -51,7 +52,7 @@ impl Fetch for Listed {
 
     ghost whole = { λ fetch cid. refl };
 
-    ghost few = { λ fetch cid. Prim.search rules };
+    ghost few = { λ fetch cid. few_all (length fetch.offers.items) };
 
     ghost follows_itself = { λ fetch. tt };
 

@@ -54,6 +54,7 @@ impl<'a> Counted for Shelf<'a> {
 impl<'a> Fetch for Shelf<'a> {
     ghost use Rattle.std.specs.Prelude.{⊤, true};
     ghost use Rattle.std.specs.Prelude as prelude;
+    ghost use Rattle.mc_tests.specs.Leading.{few_none};
 
     ghost offers = { λ shelf. prelude.None };
 
@@ -69,7 +70,7 @@ impl<'a> Fetch for Shelf<'a> {
 
     ghost whole = { λ shelf. tt };
 
-    ghost few = { λ shelf cid. Prim.search rules };
+    ghost few = { λ shelf cid. few_none 1 };
 
     ghost follows_itself = { λ shelf. tt };
 

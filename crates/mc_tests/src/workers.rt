@@ -107,6 +107,7 @@ impl Counted for Empty {
 impl Fetch for Empty {
     ghost use Rattle.std.specs.Prelude.{⊤, false};
     ghost use Rattle.std.specs.Prelude as prelude;
+    ghost use Rattle.mc_tests.specs.Leading.{few_none};
 
     ghost offers = { λ fetch. prelude.None };
 
@@ -122,7 +123,7 @@ impl Fetch for Empty {
 
     ghost whole = { λ fetch. tt };
 
-    ghost few = { λ fetch cid. Prim.search rules };
+    ghost few = { λ fetch cid. few_none 1 };
 
     ghost follows_itself = { λ fetch. tt };
 
