@@ -111,6 +111,9 @@ where
     ensures peer { result.2 ≡ true → SomeRose F.faults fetches.items result.1.items }
 {
     fetches_follow::<F>();
+    if fetches.len() < 2 {
+        return (replica, fetches, false);
+    }
     let (taker, givers) = relay_for::<K, J>(alloc, &replica, fetches.len() as u64);
     let relayed = taker.is_some();
     match Node::<Stored<K, J>>::new(alloc, replica, true, taker) {
@@ -130,9 +133,10 @@ where
 }
 
 /// A round of workers, one for each fetch, on a replica that runs, to so many processed blocks. The replica comes back,
-/// and has stopped where its keeper failed, and so do the fetches, and whether one of them failed. Where there is no
-/// memory for it nobody works. Two workers and more hand their blocks over by a relay, where there is memory for one,
-/// and what is left in it when all have ended is taken in as far as the number allows, or waits again.
+/// and has stopped where its keeper failed, and so do the fetches, and whether one of them failed. Where there is one
+/// fetch alone, or no memory, nobody works, and all is left to the caller. Two workers and more hand their blocks over
+/// by a relay, where there is memory for one, and what is left in it when all have ended is taken in as far as the
+/// number allows, or waits again.
 ///
 /// Conditions: at most 16 fetches, which all find the same for each block; and nothing is missing or bad, so the
 /// workers try all that is wanted.

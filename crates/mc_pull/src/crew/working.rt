@@ -22,14 +22,14 @@ use std::sync::Wait;
 use std::thread::Threads;
 
 /// Works through the wanted blocks of a replica, and gives it back. What is missing or bad waits again, so the workers
-/// try it too: one worker for each fetch, each in a thread of its own where one can be made; and then the caller goes on
-/// alone, over the first fetch, as `mc_drain::work` does. Workers and caller together process no more blocks than the
-/// budget says. The answer is that of the whole work. Where it is known what is found, `Done` comes exactly where no
-/// wanted block has a good offer any more, and the processed blocks are then the closure of what was wanted; after
-/// `Again`, `PeerFault` and `Memory` each block that was wanted is processed or still wanted. `PeerFault` comes only
-/// where the count of a fetch has risen, and every answer but that and `KeeperFault` only where no call of a fetch has
-/// failed. `Stopped` comes exactly where an earlier call answered `KeeperFault`, and changes nothing. The fetches come
-/// back in their order.
+/// try it too: of two fetches and more one worker for each, each in a thread of its own where one can be made; and then
+/// the caller goes on alone, over the first fetch, as `mc_drain::work` does. Workers and caller together process no
+/// more blocks than the budget says. The answer is that of the whole work. Where it is known what is found, `Done`
+/// comes exactly where no wanted block has a good offer any more, and the processed blocks are then the closure of what
+/// was wanted; after `Again`, `PeerFault` and `Memory` each block that was wanted is processed or still wanted.
+/// `PeerFault` comes only where the count of a fetch has risen, and every answer but that and `KeeperFault` only where
+/// no call of a fetch has failed. `Stopped` comes exactly where an earlier call answered `KeeperFault`, and changes
+/// nothing. The fetches come back in their order.
 ///
 /// Conditions: 1 to 16 fetches, which all find the same for each block.
 pub fn work<

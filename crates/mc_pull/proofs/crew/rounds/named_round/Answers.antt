@@ -18,6 +18,18 @@ returns-in-Ok-clause-keeps g c = c.close.ensures.keeps c.args.replica (c.settle.
 pub returns-in-Ok-clause-rest : goal.returns-in-Ok-clause-rest
 returns-in-Ok-clause-rest g c = c.close.ensures.rest c.args.replica c.requires.walks (c.settle.ensures.sealed c.args.replica (c.work_beside-fetches.ensures.sealed c.args.replica (c.in-Ok.ensures.sealed refl).0))
 
+pub returns-then-len-lt2-clause-left : goal.returns-then-len-lt2-clause-left
+returns-then-len-lt2-clause-left g c = left_itself _ c.fetches_follow.ensures.itself _
+
+pub returns-then-len-lt2-clause-calm : goal.returns-then-len-lt2-clause-calm
+returns-then-len-lt2-clause-calm g c = λ e. calm_itself _ c.fetches_follow.ensures.itself _
+
+pub returns-then-len-lt2-clause-leads : goal.returns-then-len-lt2-clause-leads
+returns-then-len-lt2-clause-leads g c = unled (record { walks = g.J.Naming.walks; most = g.J.Naming.most; found = g.J.Naming.found; kept = g.J.Naming.kept }) _ _ _ refl c.requires.runs c.requires.most
+
+pub returns-then-len-lt2-clause-keeps : goal.returns-then-len-lt2-clause-keeps
+returns-then-len-lt2-clause-keeps g c = still_on refl refl c.requires.runs
+
 pub returns-in-Err-clause-left : goal.returns-in-Err-clause-left
 returns-in-Err-clause-left g c = left_itself _ c.fetches_follow.ensures.itself _
 
