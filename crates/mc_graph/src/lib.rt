@@ -18,4 +18,5 @@ pub use graph::{
 };
 pub use heads::{drop_heads, has_head, head_rows, put_heads, reserve_heads};
 pub use spot::Spot;
-pub use tombs::{Tombs, has_key, has_tomb, put_tombs, reserve_tombs};
+pub use tombs::put_tombs;
+pub use mc_tombs::{Tombs, has_key, has_tomb, reserve_tombs};
