@@ -78,7 +78,7 @@ module _ (blocks : List Block) (key : List ℕ) (ids : List (Option (List ℕ)))
   pub first_row : (r : Row) (rows : List Row) → KeyStands (has_tomb blocks key) ids (r ∷ rows) (entries blocks key) → IsUpperBound row_cmp r (r ∷ rows) → value blocks key ≡ Some r.value
   first_row r rows stands upper =
       let there : list_any (same_ranked (ranked_of r)) (live blocks key) ≡ true = seen (r ∷ rows) stands (same_ranked (ranked_of r))
-          ∙ ap (λ b. b || list_any (shows (has_tomb blocks key) ids (of_ranked (same_ranked (ranked_of r)))) rows) (by (id_at ids r.call) stands.top) in
+      ∙ ap (λ b. b || list_any (shows (has_tomb blocks key) ids (of_ranked (same_ranked (ranked_of r)))) rows) (by (id_at ids r.call) stands.top) in
       let none : list_any (λ x. is_gt (rank_cmp x (ranked_of r))) (live blocks key) ≡ false = seen (r ∷ rows) stands (λ x. is_gt (rank_cmp x (ranked_of r))) ∙ none_shown (has_tomb blocks key) ids r (r ∷ rows) upper in
       ap (option_map (λ (ranked : Ranked). ranked.1)) (greatest_is (live blocks key) (ranked_of r) there none)
     where
