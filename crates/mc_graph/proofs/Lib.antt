@@ -5,4 +5,3 @@ pub mod FreshFacts
 pub mod GraphFacts
 pub mod OrderFacts
 pub mod HeadFacts
-pub mod TombFacts

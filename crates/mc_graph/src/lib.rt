@@ -17,5 +17,6 @@ pub use graph::{
     processed_count, put_blocks, reserve_blocks, stored_count,
 };
 pub use heads::{drop_heads, has_head, head_rows, put_heads, reserve_heads};
+pub use mc_tombs::{Tombs, has_key, has_tomb, reserve_tombs};
 pub use spot::Spot;
-pub use tombs::{Tombs, has_key, has_tomb, put_tombs, reserve_tombs};
+pub use tombs::put_tombs;

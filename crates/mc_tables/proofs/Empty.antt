@@ -22,7 +22,7 @@ use Rattle.mc_tables.specs.Chains.{are_stored, is_live, row_at, rows_in}
 use Rattle.mc_tables.specs.Fits.{kept_in, tomb_in, Fits}
 use Rattle.mc_graph.specs.Graph.{cid_in, stored_of}
 use Rattle.mc_tables.specs.Holder.{is_backed}
-use Rattle.mc_graph.specs.Tombs.{same_pair, number_of}
+use Rattle.mc_tombs.specs.Tombs.{same_pair, number_of}
 use Rattle.mc_tables.specs.Values.{ranked_in}
 
 abbrev empty : Bool → Kept

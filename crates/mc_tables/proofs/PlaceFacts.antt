@@ -17,7 +17,7 @@ use Rattle.indexmap.specs.IndexMap.{insert_entry, with_value_at}
 use Rattle.indexmap.proofs.CallerLemmas.{updates-with_value_at}
 use Rattle.mc_tables.specs.declared.places.Places.{Places}
 use Rattle.mc_tables.specs.Places.{last_in, value_in, texts_in, is_named, stands_at, has_value_at, KeepsTexts}
-use Rattle.mc_graph.specs.Tombs.{is_text}
+use Rattle.mc_tombs.specs.Tombs.{is_text}
 
 abbrev last : Option Places → Option ℕ
 last found = option_map (λ (p : Places). p.last) found

@@ -23,7 +23,8 @@ use Rattle.mc_graph.specs.Front.{are_fresh, closed_by, opened_by}
 use Rattle.mc_graph.specs.Graph.{graph_of, order_of}
 use Rattle.mc_tables.specs.Holder.{AreBacked, is_brought}
 use Rattle.mc_tables.specs.Places.{last_in, value_in, texts_in}
-use Rattle.mc_graph.specs.Tombs.{has_tomb_in, with_tomb}
+use Rattle.mc_tombs.specs.Tombs.{has_tomb_in}
+use Rattle.mc_graph.specs.Tombs.{with_tomb}
 use Rattle.mc_tables.specs.Values.{row_in, IsCovered}
 
 -- the processed blocks, in order

@@ -7,7 +7,7 @@ ghost use Rattle.mc_model.specs.Rank.{same_ranked};
 ghost use Rattle.mc_tables.specs.Chains.{row_at, rows_in, row_of_node};
 ghost use Rattle.mc_tables.specs.Holder.{is_held, holder_among, row_with};
 ghost use Rattle.mc_tables.specs.Places.{last_in, texts_in, stands_at};
-ghost use Rattle.mc_graph.specs.Tombs.{has_tomb_in};
+ghost use Rattle.mc_tombs.specs.Tombs.{has_tomb_in};
 
 use crate::elements::{Elements, Node};
 use crate::live::is_node_hidden;

@@ -7,7 +7,7 @@ ghost use Rattle.mc_keep.specs.ElementOrder.{element_cmp};
 ghost use Rattle.mc_tables.specs.Chains.{before_at, is_before, is_live, led_to, live_from, rows_in, IsLiveAt, IsOf, Pruned};
 ghost use Rattle.mc_graph.specs.Graph.{cid_in};
 ghost use Rattle.mc_tables.specs.Places.{last_in};
-ghost use Rattle.mc_graph.specs.Tombs.{has_tomb_in};
+ghost use Rattle.mc_tombs.specs.Tombs.{has_tomb_in};
 
 use crate::elements::{Elements, Node, row_of};
 use crate::places::last_of;

@@ -1,7 +1,8 @@
 use Rattle.std.proofs.Common.{◌≡◌, ◌≤◌, ◌+◌, ℕ, List, length}
 use Rattle.std.specs.Prelude.{fold}
 use Rattle.std.specs.HashSet.{spare}
-use Rattle.mc_graph.specs.Tombs.{has_tomb_in, with_tomb}
+use Rattle.mc_tombs.specs.Tombs.{has_tomb_in}
+use Rattle.mc_graph.specs.Tombs.{with_tomb}
 use Rattle.mc_graph.proofs.tombs.put_tombs.Given as goal
 
 abbrev pub invariant-loop-row : goal.invariant-loop-row

@@ -1,7 +1,7 @@
 use Rattle.std.proofs.Common.{◌∙◌, Some, ap, sym}
 use Rattle.mc_base.specs.declared.cid.Cid.{Cid}
 use Rattle.mc_tables.specs.Holder.{is_held}
-use Rattle.mc_graph.specs.Tombs.{has_tomb_in}
+use Rattle.mc_tombs.specs.Tombs.{has_tomb_in}
 use Rattle.mc_tables.proofs.WalkFacts.{first_that, walk_begins, walk_steps, walk_ends, passed_by, found_here}
 use Rattle.mc_tables.proofs.holder.holder_of.Goals as goal
 

@@ -2,7 +2,7 @@ use Rattle.std.specs.HashMap.{keys}
 use Rattle.mc_tables.specs.Places.{last_in}
 use Rattle.mc_tables.specs.Chains.{rows_in}
 use Rattle.mc_tables.specs.Holder.{is_held}
-use Rattle.mc_graph.specs.Tombs.{has_tomb_in}
+use Rattle.mc_tombs.specs.Tombs.{has_tomb_in}
 use Rattle.mc_tables.proofs.ChainFacts.{steps_left}
 use Rattle.mc_tables.proofs.WalkFacts.{IsWalking, first_that}
 use Rattle.mc_tables.proofs.holder.holder_of.Given as goal

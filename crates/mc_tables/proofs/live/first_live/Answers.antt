@@ -2,7 +2,7 @@ use Rattle.std.specs.HashMap.{keys}
 use Rattle.std.proofs.Common.{◌≡◌, ◌∙◌, ap, not, sym, subst, IfOk}
 use Rattle.mc_tables.specs.Places.{last_in}
 use Rattle.mc_tables.specs.Chains.{live_from}
-use Rattle.mc_graph.specs.Tombs.{has_tomb_in}
+use Rattle.mc_tombs.specs.Tombs.{has_tomb_in}
 use Rattle.mc_tables.proofs.PruneFacts.{got_in, last_is_gone}
 use Rattle.mc_tables.proofs.live.first_live.Goals as goal
 

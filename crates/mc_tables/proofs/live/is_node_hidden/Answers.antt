@@ -1,7 +1,7 @@
 use Rattle.std.proofs.Common.{◌≡◌, IfOk, subst}
 use Rattle.mc_base.specs.declared.cid.Cid.{Cid}
 use Rattle.mc_model.specs.Id.{id_text}
-use Rattle.mc_graph.specs.Tombs.{has_tomb_in}
+use Rattle.mc_tombs.specs.Tombs.{has_tomb_in}
 use Rattle.mc_tables.proofs.live.is_node_hidden.Goals as goal
 
 pub returns : goal.returns

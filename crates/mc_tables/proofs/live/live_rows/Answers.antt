@@ -3,7 +3,7 @@ use Rattle.std.proofs.Common.{◌∙◌, ◌++◌, ◌∷◌, [], ap, subst}
 use Rattle.mc_keep.specs.declared.rows.ElementRow.{ElementRow}
 use Rattle.mc_tables.specs.Places.{last_in}
 use Rattle.mc_tables.specs.Chains.{AreChains, IsLiveAt, Pruned}
-use Rattle.mc_graph.specs.Tombs.{has_tomb_in}
+use Rattle.mc_tombs.specs.Tombs.{has_tomb_in}
 use Rattle.mc_tables.proofs.PruneFacts.{got_in, listing_goes, IsListing}
 use Rattle.mc_tables.proofs.live.live_rows.Goals as goal
 

@@ -2,7 +2,7 @@ use Rattle.std.specs.HashMap.{keys}
 use Rattle.std.proofs.Common.{◌≡◌}
 use Rattle.std.specs.Prelude.{vec_len, vec_capacity}
 use Rattle.mc_tables.specs.Places.{last_in}
-use Rattle.mc_graph.specs.Tombs.{has_tomb_in}
+use Rattle.mc_tombs.specs.Tombs.{has_tomb_in}
 use Rattle.mc_tables.proofs.ChainFacts.{steps_left}
 use Rattle.mc_tables.proofs.PruneFacts.{IsListing}
 use Rattle.mc_tables.proofs.live.live_rows.Given as goal

@@ -2,7 +2,7 @@ use Rattle.std.specs.HashMap.{keys}
 use Rattle.std.proofs.Common.{◌∙◌, ap, not, sym, subst}
 use Rattle.mc_tables.specs.Places.{last_in}
 use Rattle.mc_tables.specs.Chains.{AreChains}
-use Rattle.mc_graph.specs.Tombs.{has_tomb_in}
+use Rattle.mc_tombs.specs.Tombs.{has_tomb_in}
 use Rattle.mc_tables.proofs.PruneFacts.{got_in, leads_before, next_is_live, one_passed, pruning_goes}
 use Rattle.mc_tables.proofs.live.next_live.Goals as goal
 

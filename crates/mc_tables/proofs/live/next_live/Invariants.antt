@@ -3,7 +3,7 @@ use Rattle.std.proofs.Common.{◌≡◌}
 use Rattle.std.specs.Prelude.{vec_len, vec_capacity}
 use Rattle.mc_tables.specs.Places.{last_in}
 use Rattle.mc_tables.specs.Chains.{before_at}
-use Rattle.mc_graph.specs.Tombs.{has_tomb_in}
+use Rattle.mc_tombs.specs.Tombs.{has_tomb_in}
 use Rattle.mc_tables.proofs.ChainFacts.{steps_left}
 use Rattle.mc_tables.proofs.PruneFacts.{IsPruning}
 use Rattle.mc_tables.proofs.live.next_live.Given as goal

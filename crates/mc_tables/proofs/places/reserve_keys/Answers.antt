@@ -1,7 +1,7 @@
 use Rattle.std.proofs.Common.{ap}
 use Rattle.std.specs.Map.{lookup, keys_of}
 use Rattle.std.specs.Option.{option_map, option_and_then}
-use Rattle.mc_graph.specs.Tombs.{is_text}
+use Rattle.mc_tombs.specs.Tombs.{is_text}
 use Rattle.mc_tables.specs.declared.places.Places.{Places}
 use Rattle.mc_tables.proofs.places.reserve_keys.Goals as goal
 

@@ -1,0 +1,2 @@
+pub mod OnOk
+pub mod TombFacts
