@@ -10,6 +10,8 @@ mod base32;
 #[cfg(test)]
 mod block;
 #[cfg(test)]
+mod car;
+#[cfg(test)]
 mod cast;
 #[cfg(test)]
 mod cidtext;

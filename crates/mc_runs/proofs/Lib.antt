@@ -18,3 +18,4 @@ pub mod OneClosure
 pub mod OneEnds
 pub mod LowHeights
 pub mod OneDeletes
+pub mod Arrivals

@@ -15,6 +15,7 @@ ghost use Rattle.mc_seats.specs.declared.entry.LineEntry.{LineEntry as Entry};
 ghost use Rattle.mc_seats.specs.declared.links.Link.{Link as LinkState};
 ghost use Rattle.mc_seats.specs.Asks.{focus, is_named, may_fail};
 ghost use Rattle.mc_seats.specs.Effects.{DoneAt};
+ghost use Rattle.mc_runs.specs.Exports.{ExportsArrive};
 ghost use Rattle.mc_runs.specs.Promises.{AfterLine, AroundLine, FuseFired, HasCommitted, HasDeleted, HasDeletedSince, HasMore, HasProcessed};
 ghost use Rattle.mc_runs.specs.Promises.{HasSettled, HasStormed, IsLineAt, OnlyGrows, SinceLine};
 ghost use Rattle.mc_runs.specs.Promises.{DoneElsewhere, asks_running, fired_at, is_read, same_pair};
@@ -224,3 +225,10 @@ pub fn works_are_one()
 {
     same_blocks_same_answers();
 }
+
+/// What a replica that has processed nothing drains to from the heads of another one, in whatever order they wait, is
+/// exactly what the other one has processed: where no block leads back to itself, each of the other's processed blocks
+/// is found with its links, and no gap of it is found. An export that is imported and worked comes to this.
+pub fn exports_arrive()
+    ensures { ExportsArrive }
+{}

@@ -1,0 +1,3 @@
+pub mod Car
+pub mod CarRead
+pub mod Steps
