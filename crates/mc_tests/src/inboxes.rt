@@ -30,7 +30,11 @@ fn begins<K: Keeper>(replica: &mut Replica<K>, alloc: Global, cid: Cid) -> Resul
 }
 
 // Adds blocks of the priorities below this one to an inbox, and tells how many were taken.
-fn adds<K: Keeper>(replica: &mut Replica<K>, alloc: Global, count: u64) -> Result<u64, CoreError> {
+pub(crate) fn adds<K: Keeper>(
+    replica: &mut Replica<K>,
+    alloc: Global,
+    count: u64,
+) -> Result<u64, CoreError> {
     for priority in 0..count {
         let item = block_of(alloc, priority)?;
         replica.inbox_reserve()?;
@@ -42,7 +46,7 @@ fn adds<K: Keeper>(replica: &mut Replica<K>, alloc: Global, count: u64) -> Resul
 }
 
 // The jobs of the blocks of the priorities below this one begin.
-fn begin_all<K: Keeper>(
+pub(crate) fn begin_all<K: Keeper>(
     replica: &mut Replica<K>,
     alloc: Global,
     count: u64,

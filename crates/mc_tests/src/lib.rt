@@ -44,6 +44,8 @@ mod queries;
 #[cfg(test)]
 mod queues;
 #[cfg(test)]
+mod refusals;
+#[cfg(test)]
 mod relays;
 #[cfg(test)]
 mod replicas;

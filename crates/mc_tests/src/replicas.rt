@@ -68,7 +68,7 @@ pub(crate) fn hears<K: Keeper>(
 }
 
 // What was found under an identifier: these bytes, where they have its digest.
-fn found_for(cid: &Cid, bytes: Bytes) -> Found
+pub(crate) fn found_for(cid: &Cid, bytes: Bytes) -> Found
     ensures { FoundHas cid.now result }
 {
     if Cid::of(bytes.as_slice()) == *cid {
