@@ -1,10 +1,24 @@
 //! Values below a block.
+ghost use Rattle.std.specs.Prelude.{◌≡◌, IfSome};
+
 use crate::histories::{hide, put};
 use mc_base::Cid;
 use mc_model::Block;
 use mc_view::View;
 use std::alloc::Global;
 use std::test::Fail;
+
+// The block of this identifier among these.
+fn find<'a>(blocks: &[&'a Block], cid: &Cid) -> Option<&'a Block>
+    ensures { IfSome result (λ block. block.now.cid ≡ cid.now) }
+{
+    for block in blocks {
+        if block.cid == *cid {
+            return Some(*block);
+        }
+    }
+    None
+}
 
 // The one byte of the value below an identifier, and how many of these blocks were visited, where what is next was
 // skipped first, and is visited again.
@@ -18,15 +32,9 @@ fn below(alloc: Global, cid: &Cid, blocks: &[&Block]) -> Result<(Option<u8>, u64
         let Some(next) = view.next() else {
             break;
         };
-        let mut met = false;
-        for block in blocks {
-            if block.cid == next && !met {
-                view.visit(alloc, block)?;
-                met = true;
-            }
-        }
-        if !met {
-            view.skip();
+        match find(blocks, &next) {
+            Some(block) => view.visit(alloc, block)?,
+            None => view.skip(),
         }
     }
     let value = match view.get(alloc, "/k")? {
