@@ -10,3 +10,4 @@ pub use Rattle.mc_plan.proofs.JobFacts
 pub use Rattle.mc_plan.proofs.SettledFacts
 pub use Rattle.mc_plan.proofs.SoundFacts
 pub use Rattle.mc_plan.proofs.UptakeFacts
+pub mod StoreFacts

@@ -16,6 +16,7 @@ mod jobs;
 mod reads;
 mod replica;
 mod report;
+mod storing;
 mod walks;
 mod writes;
 

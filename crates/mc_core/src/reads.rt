@@ -6,7 +6,7 @@ ghost use Rattle.mc_key.specs.Prefix.{is_under};
 ghost use Rattle.mc_model.specs.Answers as answers;
 ghost use Rattle.mc_model.specs.Answers.{has_value};
 ghost use Rattle.mc_model.specs.Front.{heads, is_among, same_cid};
-ghost use Rattle.mc_model.specs.Kept.{processed};
+ghost use Rattle.mc_model.specs.Kept.{bytes_at, processed};
 ghost use Rattle.mc_model.specs.Live.{value};
 ghost use Rattle.mc_keep.specs.Changes.{heads_in_rows};
 ghost use Rattle.mc_keep.specs.Plan.{ReadsAsPlanned};
@@ -133,6 +133,33 @@ impl<K: Keeper> Replica<K> {
         }
         match self.keeper.heads(alloc) {
             Ok(heads) => Ok(heads),
+            Err(error) => {
+                let error = CoreError::from(error);
+                self.stopped = stops(error);
+                Err(error)
+            }
+        }
+    }
+
+    /// The bytes of a stored block, processed or not, or none where it is not stored. It makes one read of the keeper.
+    /// Refusals: `Stopped`.
+    pub fn block(&mut self, alloc: Global, cid: &Cid) -> Result<Option<Bytes>, CoreError>
+        ensures call { Answers K.Keeper (λ kept bytes.
+            bytes ≡ bytes_at kept.graph cid.now) result self.old self.new }
+        ensures keeps { Continues K.Keeper (is_fault result) self.old self.new }
+        ensures front { front_of result ≡ stop_front self.old.stopped None }
+        ensures seen { IfErr result DecidesAlone }
+        ensures rest { RestSame self.old self.new }
+        ensures same { TellsSame K.Keeper self.old self.new }
+        ensures planned { self.old.stopped ≡ false → ReadsAsPlanned
+            (K.schedule self.old.keeper) (K.schedule self.new.keeper) (is_fault result) }
+    {
+        kept_is_durable();
+        if self.stopped {
+            return Err(CoreError::Stopped);
+        }
+        match self.keeper.block(alloc, cid) {
+            Ok(bytes) => Ok(bytes),
             Err(error) => {
                 let error = CoreError::from(error);
                 self.stopped = stops(error);

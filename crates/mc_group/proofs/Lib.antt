@@ -5,3 +5,4 @@ pub mod MakeFacts
 pub mod ReadyFacts
 pub mod SlotFacts
 pub mod WithoutFacts
+pub mod StoringFacts

@@ -10,6 +10,7 @@ mod group;
 mod grouped;
 mod leaving;
 mod planning;
+mod storing;
 
 pub use drains::calls_on_an_inbox_drain;
 pub use gathering::gather;
@@ -18,3 +19,4 @@ pub use group::{Group, Slot, put_back, stores_of};
 pub use grouped::Grouped;
 pub use leaving::done_all;
 pub use planning::{GroupPlan, plan_group};
+pub use storing::plan_store;

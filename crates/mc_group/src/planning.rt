@@ -113,8 +113,12 @@ fn process_changes<K: Keeper>(
     }
 }
 
-// Takes the keeper's memory for the rows of these changes and for so many more.
-fn reserve_rows<K: Keeper>(keeper: &mut K, changes: &Changes, more: u64) -> Result<(), AllocError>
+/// Takes the keeper's memory for the rows of these changes and for so many more.
+pub(crate) fn reserve_rows<K: Keeper>(
+    keeper: &mut K,
+    changes: &Changes,
+    more: u64,
+) -> Result<(), AllocError>
     ensures room { OnOk result (row_count changes.now + more ≤ K.spare keeper.new) }
     ensures reserves { Reserves K.Keeper keeper.old keeper.new }
 {
