@@ -5,8 +5,8 @@ ghost use Rattle.mc_model.specs.State.{HasSoundMark};
 
 use crate::commits::{element, no_delta};
 use crate::given::{Trial, passes};
-use mc_base::{Bytes, Cid};
-use mc_block::write_block;
+use mc_base::{Bytes, Cid, List};
+use mc_block::{Verified, verify, write_block};
 use mc_cast::write_cast;
 use mc_core::{CoreError, Replica, Settled, WalkStep};
 use mc_fetch::{Delivered, Found};
@@ -243,12 +243,63 @@ fn gives_back<K: Keeper + Drop>(keeper: K, alloc: Global) -> Result<bool, CoreEr
     job_comes_back(&mut replica, alloc)
 }
 
+// Bytes that are a block, verified.
+fn verified(alloc: Global, bytes: Bytes) -> Result<Verified, AllocError> {
+    let cid = Cid::of(bytes.as_slice());
+    match verify(alloc, &cid, bytes) {
+        Ok(block) => Ok(block),
+        Err(_) => Err(AllocError),
+    }
+}
+
+// The second block of the chain, the first, and the second again.
+fn three_blocks(alloc: Global, chain: Chain) -> Result<List<Verified>, AllocError> {
+    let mut blocks = List::new(alloc);
+    blocks.push(verified(alloc, link(alloc, chain.first, 2)?)?)?;
+    blocks.push(verified(alloc, element(alloc, 1)?)?)?;
+    blocks.push(verified(alloc, link(alloc, chain.first, 2)?)?)?;
+    Ok(blocks)
+}
+
+// Whether a stored block has these bytes.
+fn gives<K: Keeper>(
+    replica: &mut Replica<K>,
+    alloc: Global,
+    cid: Cid,
+    bytes: Bytes,
+) -> Result<bool, CoreError> {
+    match replica.block(alloc, &cid)? {
+        Some(found) => Ok(found.as_slice() == bytes.as_slice()),
+        None => Ok(false),
+    }
+}
+
+// Of blocks that are kept the first of each identifier is stored, once, and none is processed.
+fn is_kept<K: Keeper>(replica: &mut Replica<K>, alloc: Global) -> Result<bool, CoreError> {
+    let chain = make_chain(alloc)?;
+    let early = gives(replica, alloc, chain.first, element(alloc, 1)?)?;
+    let kept = replica.keep(alloc, three_blocks(alloc, chain)?)?;
+    let again = replica.keep(alloc, three_blocks(alloc, chain)?)?;
+    let first = gives(replica, alloc, chain.first, element(alloc, 1)?)?;
+    let second = gives(replica, alloc, chain.second, link(alloc, chain.first, 2)?)?;
+    let all = first && second && has_processed(replica, 0);
+    Ok(!early && kept == 2 && again == 0 && all)
+}
+
+fn keeps<K: Keeper + Drop>(keeper: K, alloc: Global) -> Result<bool, CoreError>
+    requires { IfSome (K.told keeper) HasSoundMark }
+{
+    let mut replica = opened(alloc, keeper)?;
+    is_kept(&mut replica, alloc)
+}
+
 // What is tried here.
 #[derive(Clone, Copy)]
 enum Replicas {
     Repair,
     WantAgain,
     GiveBack,
+    Keep,
 }
 
 impl Trial for Replicas {
@@ -265,6 +316,7 @@ impl Trial for Replicas {
             Replicas::Repair => repairs(keeper, alloc),
             Replicas::WantAgain => wants_again(keeper, alloc),
             Replicas::GiveBack => gives_back(keeper, alloc),
+            Replicas::Keep => keeps(keeper, alloc),
         };
         Ok(answer?)
     }
@@ -285,5 +337,11 @@ fn a_wanted_block_comes_again(rt: HostRuntime) -> Result<(), Fail> {
 #[test]
 fn a_job_comes_back(rt: HostRuntime) -> Result<(), Fail> {
     assert!(rt; passes(Replicas::GiveBack, rt.alloc(), &rt)?);
+    Ok(())
+}
+
+#[test]
+fn blocks_are_kept(rt: HostRuntime) -> Result<(), Fail> {
+    assert!(rt; passes(Replicas::Keep, rt.alloc(), &rt)?);
     Ok(())
 }
