@@ -34,7 +34,7 @@ pub(crate) const GROUP: u64 = 64;
 // How often at most a call looks for more in a relay that was full, and how often one after another in vain.
 const LOOKS: u64 = 8192;
 
-const IN_VAIN: u64 = 512;
+const IN_VAIN: u64 = 1024;
 
 impl<K: Keeper, J: Naming> Stored<K, J> {
     // Whether workers may push.
@@ -143,7 +143,7 @@ impl<K: Keeper, J: Naming> Stored<K, J> {
     // Moves one block into the inbox, or rests where there is none. How often this was in vain, one after another.
     fn look<W: Wait>(&mut self, vain: u64, wait: &W) -> u64
         requires room { 64 ≤ self.old.replica.inbox.room }
-        requires few { vain < 512 }
+        requires few { vain < 1024 }
         ensures log { self.new.log ≡ self.old.log }
         ensures shows { shown K.Keeper self.new.replica ≡ shown K.Keeper self.old.replica }
         ensures keeper { self.new.replica.keeper ≡ self.old.replica.keeper }
