@@ -18,7 +18,6 @@ ghost use Rattle.mc_node.specs.Serves.{DeliverDoes};
 ghost use Rattle.mc_node.specs.Views.{Turned};
 ghost use Rattle.mc_node.specs.Works.{IsUnder};
 
-use super::ahead::rest;
 use super::{Node, NodeSeat};
 use crate::stored::Stored;
 use mc_base::{Bytes, Cid};
@@ -29,9 +28,6 @@ use mc_relay::GiverEnd;
 use mc_worker::{Handover, ShopError};
 use std::alloc::Global;
 use std::sync::Wait;
-
-// The rest of a worker that had the turn. Others wait for it then; else it would get it again for its next block alone.
-const REST: u64 = 1;
 
 impl<K: Keeper, J: Naming> Node<Stored<K, J>> {
     /// Takes in what workers pushed and nobody has taken in, as far as the limit goes, and gives the rest up, each
@@ -183,7 +179,6 @@ impl<K: Keeper, J: Naming> Node<Stored<K, J>> {
                 let mut held = held;
                 let result = held.value.take_pushed(alloc, limit, cid, wait);
                 self.turn.give(&mut seat.seat, held);
-                rest(REST);
                 committed(result)
             }
             Err(busy) => Ok(Handover::Queued { word: busy.word }),
@@ -213,7 +208,6 @@ impl<K: Keeper, J: Naming> Node<Stored<K, J>> {
         let mut held = self.turn.take(&mut seat.seat, wait);
         let result = held.value.take_with(alloc, limit, item, wait);
         self.turn.give(&mut seat.seat, held);
-        rest(REST);
         committed(result)
     }
 
