@@ -1,21 +1,19 @@
 -- What was pushed is moved into the inbox and taken in, call by call.
-use Rattle.std.proofs.Common.{◌≡◌, ◌≤◌, ◌<◌, ◌+◌, ◌-◌, ℕ, true, false, List, [], ◌∷◌, ◌++◌, length, map, min, take, drop, Option, Some, None, Result, Ok, Err, refl, sym, ap, ◌∙◌, subst, arith, inl, inr, append-nil}
+use Rattle.std.proofs.Common.{◌≡◌, ◌≤◌, ◌<◌, ◌+◌, ◌-◌, ℕ, true, false, List, [], ◌∷◌, ◌++◌, length, min, take, drop, Option, Some, None, Result, Ok, Err, refl, sym, ap, ◌∙◌, subst, arith, inl, inr, append-nil}
 use Rattle.std.specs.Prelude.{⊤, ◌⊎◌, IfErr, IfSome, OnOk, is_some}
 use Rattle.std.proofs.lemmas.Bool.{false≢true}
-use Rattle.std.proofs.lemmas.List.{append_assoc, length-drop, length-take, map-append, take-append-drop}
+use Rattle.std.proofs.lemmas.List.{length-drop, length-take, take-append-drop}
 use Rattle.mc_core.specs.Counted.{capped}
 use Rattle.mc_drain.specs.Groups.{InboxTaken}
 use Rattle.mc_drain.specs.declared.end.DrainEnd.{DrainEnd}
 use Rattle.mc_fetch.specs.declared.naming.Naming as naming
 use Rattle.mc_group.specs.declared.grouped.Grouped.{Grouped}
 use Rattle.mc_model.specs.Kept.{Kept}
-use Rattle.mc_block.specs.declared.verified.Verified.{Verified}
-use Rattle.mc_inbox.specs.Waiting.{as_stored}
 use Rattle.mc_model.specs.declared.block.Stored.{Stored}
 use Rattle.mc_relay.specs.declared.posts.TakerEnd.{TakerEnd}
 use Rattle.mc_worker.specs.declared.ends.ShopError.{ShopError}
 use Rattle.mc_worker.specs.declared.ends.ShopError.TheVariants.{KeeperFault, Stopped, Spent, Memory}
-use Rattle.mc_node.specs.Fillings.{GathersIn, HasEmptied, HasTaken, Moves, TakesAll, TakesFirst, TakesGroup, TakesRound, blocks_in, empties, taken_by}
+use Rattle.mc_node.specs.Fillings.{GathersIn, HasEmptied, HasTaken, Moves, TakesAll, TakesFirst, TakesGroup, TakesRound, blocks_in, empties}
 use Rattle.mc_node.specs.Items.{Item, Shown, has_halted}
 use Rattle.mc_node.specs.Jobs.{IsBroken, shop_answer}
 use Rattle.mc_node.specs.Pieces.{Gathered, GathersAt, Group, counted}
@@ -47,28 +45,6 @@ module _ {J : Type 0} {j : naming.Ghosts J} where
     emptied = subst (λ (t : Option (TakerEnd J j)). HasEmptied gave t held) (sym taker) emptied;
     takes = subst (λ (s : Shown). TakesGroup limit processed result held left old s new after) shows (subst (λ (l : List Item). TakesGroup limit processed result held left l now new after) logs takes);
   }
-
-  -- what was moved before a round comes in with it
-  moves_then : (gave mid gives : Option (TakerEnd J j)) (waited held left : List Stored) → Moves gave mid waited [] held → Moves mid gives held [] left → Moves gave gives waited [] left
-  moves_then gave mid gives waited held left first next = record {
-    items = first.items ++ next.items;
-    taken = next.taken ∙ ap (λ (l : List Verified). l ++ next.items) first.taken ∙ append_assoc (taken_by gave) first.items next.items;
-    whole = ap (λ (l : List Stored). waited ++ l) (map-append as_stored first.items next.items) ∙ sym (append_assoc waited (map as_stored first.items) (map as_stored next.items)) ∙ ap (λ (l : List Stored). l ++ map as_stored next.items) first.whole ∙ next.whole;
-    noted = let a = first.noted in let b = next.noted in omega (arith, a, b);
-  }
-
-  pub round_after : (limit processed : ℕ) (result : Result ℕ ShopError) (gave mid gives : Option (TakerEnd J j)) (waited held left : List Stored) (old : List Item) (before : Shown) (new : List Item) (after : Shown)
-      → Moves gave mid waited [] held → TakesRound limit processed result mid gives held left old before new after → TakesRound limit processed result gave gives waited left old before new after
-  round_after limit processed result gave mid gives waited held left old before new after first round = record {
-    held = round.held;
-    moves = moves_then gave mid gives waited held round.held first round.moves;
-    emptied = emptied_of round.emptied;
-    takes = round.takes;
-  }
-    where
-      emptied_of : HasEmptied mid gives round.held → HasEmptied gave gives round.held
-      emptied_of (inl rose) = inl (let n = first.noted in omega (arith, n, rose))
-      emptied_of (inr full) = inr full
 
   pub noted_same : (gave gives : Option (TakerEnd J j)) → gives ≡ gave → empties gave ≤ empties gives
   noted_same gave gives is = subst (λ (t : Option (TakerEnd J j)). empties gave ≤ empties t) (sym is) (omega arith)

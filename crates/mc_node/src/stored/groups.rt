@@ -26,15 +26,9 @@ use mc_model::kept_is_durable;
 use mc_worker::ShopError;
 use std::alloc::Global;
 use std::sync::Wait;
-use std::thread;
 
 // The most blocks of one group, and of an inbox.
 pub(crate) const GROUP: u64 = 64;
-
-// How often at most a call looks for more in a relay that was full, and how often one after another in vain.
-const LOOKS: u64 = 8192;
-
-const IN_VAIN: u64 = 1024;
 
 impl<K: Keeper, J: Naming> Stored<K, J> {
     // Whether workers may push.
@@ -117,46 +111,6 @@ impl<K: Keeper, J: Naming> Stored<K, J> {
         ensures place { is_some self.now.taker ≡ true → length self.now.replica.inbox.items < 64 → result ≡ true }
     {
         self.has_relay() && self.replica.inbox_len() < GROUP
-    }
-
-    // Waits for more to be pushed and moves it into the inbox, until this is full. Where nothing comes for a while it is
-    // left at that.
-    pub(crate) fn wait_for_more<W: Wait>(&mut self, wait: &W)
-        requires room { 64 ≤ self.old.replica.inbox.room }
-        ensures log { self.new.log ≡ self.old.log }
-        ensures shows { shown K.Keeper self.new.replica ≡ shown K.Keeper self.old.replica }
-        ensures keeper { self.new.replica.keeper ≡ self.old.replica.keeper }
-        ensures room { 64 ≤ self.new.replica.inbox.room }
-        ensures relay { is_some self.new.taker ≡ is_some self.old.taker }
-        ensures moves { Moves self.old.taker self.new.taker self.old.replica.inbox.items []
-            self.new.replica.inbox.items }
-    {
-        let mut vain = 0u64;
-        for _ in 0..LOOKS {
-            if vain >= IN_VAIN || self.replica.inbox_len() >= GROUP {
-                return;
-            }
-            vain = self.look(vain, wait);
-        }
-    }
-
-    // Moves one block into the inbox, or rests where there is none. How often this was in vain, one after another.
-    fn look<W: Wait>(&mut self, vain: u64, wait: &W) -> u64
-        requires room { 64 ≤ self.old.replica.inbox.room }
-        requires few { vain < 1024 }
-        ensures log { self.new.log ≡ self.old.log }
-        ensures shows { shown K.Keeper self.new.replica ≡ shown K.Keeper self.old.replica }
-        ensures keeper { self.new.replica.keeper ≡ self.old.replica.keeper }
-        ensures room { 64 ≤ self.new.replica.inbox.room }
-        ensures relay { is_some self.new.taker ≡ is_some self.old.taker }
-        ensures moves { Moves self.old.taker self.new.taker self.old.replica.inbox.items []
-            self.new.replica.inbox.items }
-    {
-        if self.move_one(wait) {
-            return 0;
-        }
-        thread::yield_now();
-        vain + 1
     }
 
     // Moves the block that was pushed first into the inbox. Whether there was one, and room for it.

@@ -159,7 +159,7 @@ impl<K: Keeper, J: Naming> Stored<K, J> {
         }
     }
 
-    // A block comes into the inbox, and with it what was pushed, by one group. The relay was full, so more is pushed soon.
+    // A block comes into the inbox, and is taken in with what was pushed, by one group.
     fn take_joined<W: Wait>(
         &mut self,
         alloc: Global,
@@ -195,7 +195,6 @@ impl<K: Keeper, J: Naming> Stored<K, J> {
             return Err(ShopError::Spent);
         }
         self.add(item);
-        self.wait_for_more(wait);
         match self.take_round(alloc, processed, limit, wait) {
             Ok(count) => Ok(count),
             Err(ShopError::KeeperFault) => Err(ShopError::KeeperFault),
