@@ -80,6 +80,16 @@ gathers_group limit result old before new after halted broken group = record {
     over (Err Spent) b = absurd b
     over (Err Memory) b = tt
 
+-- a group was tried, and memory was wanted
+pub gathers_lost : (limit : ℕ) (result : Result ℕ ShopError) (old : List Item) (before : Shown) (new : List Item) (after : Shown) → before.stopped ≡ has_halted old → before.stopped ≡ false → GroupsAt limit result old before new after → GathersAt limit (Err Memory) old before new after
+gathers_lost limit result old before new after halted runs group = record {
+  at = at_short limit before runs;
+  halted = halted;
+  pieces = Group group.items group.answer ∷ [];
+  runs = runs_one limit (Group group.items group.answer) old before new after group.does;
+  says = tt;
+}
+
 -- from where nothing had changed before
 pub gathers_from : (limit : ℕ) (result : Result ℕ ShopError) (first old : List Item) (start before : Shown) (new : List Item) (after : Shown) → old ≡ first → before ≡ start → GathersAt limit result old before new after → GathersAt limit result first start new after
 gathers_from limit result first old start before new after log now g = subst (λ (s : Shown). GathersAt limit result first s new after) now (subst (λ (l : List Item). GathersAt limit result l before new after) log g)

@@ -23,6 +23,8 @@ pub struct Hired<T, K: Keeper, J: Naming> {
     pub(crate) last: Option<HandEnd>,
     // The block of the job that was taken, and neither delivered nor given back.
     pub(crate) out: Option<Cid>,
+    // After how many commits more it lets others run before it goes on.
+    pub(crate) rests: u64,
     // Jobs that were begun ahead. The last one is handed out next.
     pub(crate) ahead: Vec<Job>,
     ghost fits: { All (JobFits J.found J.kept) ahead.items } by { Fits-prop J.found J.kept ahead.items },
@@ -49,6 +51,7 @@ impl<T, K: Keeper, J: Naming> Hired<T, K, J> {
             giver,
             last: None,
             out: None,
+            rests: 0,
             ahead: Vec::new(alloc),
         }
     }
@@ -66,6 +69,7 @@ impl<T, K: Keeper, J: Naming> Hired<T, K, J> {
             giver,
             last: _,
             out: _,
+            rests: _,
             ahead,
         } = self;
         drop(giver);

@@ -21,7 +21,10 @@ use std::marker::Brand;
 use std::sync::Wait;
 use std::test::Fail;
 
-const LIMIT: u64 = 64;
+const LIMIT: u64 = 128;
+
+// What a relay holds, and a group.
+const FULL: u64 = 64;
 
 type Shared<K> = Node<Stored<K, Brand>>;
 
@@ -39,13 +42,29 @@ fn found_for(cid: &Cid, bytes: Bytes) -> Found
     Found::Missing
 }
 
-// A replica over this keeper that wants both blocks, with nothing in its inbox.
-fn wanting<K: Keeper + Drop>(alloc: Global, keeper: K, one: Cid, two: Cid) -> Option<Replica<K>>
+// The identifiers of so many blocks.
+fn cids_of(alloc: Global, count: u64) -> Option<Vec<Cid>> {
+    let Ok(mut cids) = Vec::with_capacity(alloc, 65) else {
+        return None;
+    };
+    for number in 0..count {
+        let Ok(block) = block_of(alloc, number) else {
+            return None;
+        };
+        let Ok(()) = cids.push(block.cid) else {
+            return None;
+        };
+    }
+    Some(cids)
+}
+
+// A replica over this keeper that wants these blocks, with nothing in its inbox.
+fn wanting<K: Keeper + Drop>(alloc: Global, keeper: K, cids: &[Cid]) -> Option<Replica<K>>
     requires { IfSome (K.told keeper) HasSoundMark }
     ensures runs { IfSome result (λ replica. replica.stopped ≡ false) }
     ensures inbox { IfSome result (λ replica. replica.inbox.items ≡ []) }
 {
-    let Ok(message) = write_cast(alloc, &[one, two]) else {
+    let Ok(message) = write_cast(alloc, cids) else {
         return None;
     };
     let Ok(mut replica) = Replica::open(alloc, keeper) else {
@@ -122,6 +141,95 @@ fn both_answers<K: Keeper, W: Wait>(
     Some((queued, committed))
 }
 
+// Whether the block with this number, which is that of the next job, is queued while another seat holds the turn.
+fn queues<K: Keeper, W: Wait>(
+    alloc: Global,
+    node: &Shared<K>,
+    seat: &mut Place<K>,
+    other: &mut Place<K>,
+    giver: &mut Option<GiverEnd<Brand>>,
+    number: u64,
+    wait: &W,
+) -> bool
+    requires own { IsSeatOf node.now.turn seat.old.seat × IsSeatOf node.now.turn other.old.seat }
+    requires sealed { is_sealed_log (knows seat.old).seen ≡ true }
+    ensures own { IsSeatOf node.now.turn seat.new.seat × IsSeatOf node.now.turn other.new.seat }
+    ensures sealed { is_sealed_log (knows seat.new).seen ≡ true }
+{
+    let Ok(block) = block_of(alloc, number) else {
+        return false;
+    };
+    let Ok(Some(job)) = node.take_job(alloc, seat, LIMIT, wait) else {
+        return false;
+    };
+    let answer = while_held(alloc, node, seat, other, giver, job, block.bytes, wait);
+    matches!(answer, Ok(Handover::Queued { word: 1 }))
+}
+
+// Whether as many blocks are queued so as a relay holds.
+fn fills<K: Keeper, W: Wait>(
+    alloc: Global,
+    node: &Shared<K>,
+    seat: &mut Place<K>,
+    other: &mut Place<K>,
+    giver: &mut Option<GiverEnd<Brand>>,
+    wait: &W,
+) -> bool
+    requires own { IsSeatOf node.now.turn seat.old.seat × IsSeatOf node.now.turn other.old.seat }
+    requires sealed { is_sealed_log (knows seat.old).seen ≡ true }
+    ensures own { IsSeatOf node.now.turn seat.new.seat × IsSeatOf node.now.turn other.new.seat }
+    ensures sealed { is_sealed_log (knows seat.new).seen ≡ true }
+{
+    for number in 0..FULL {
+        if !queues(alloc, node, seat, other, giver, number, wait) {
+            return false;
+        }
+    }
+    true
+}
+
+// What is answered to a block more, once the turn is free.
+fn beyond<K: Keeper, W: Wait>(
+    alloc: Global,
+    node: &Shared<K>,
+    seat: &mut Place<K>,
+    other: &mut Place<K>,
+    giver: &mut Option<GiverEnd<Brand>>,
+    wait: &W,
+) -> Option<Answer>
+    requires own { IsSeatOf node.now.turn seat.old.seat × IsSeatOf node.now.turn other.old.seat }
+    requires sealed { is_sealed_log (knows seat.old).seen ≡ true }
+{
+    let Ok(block) = block_of(alloc, FULL) else {
+        return None;
+    };
+    if !fills(alloc, node, seat, other, giver, wait) {
+        return None;
+    }
+    let Ok(Some(job)) = node.take_job(alloc, seat, LIMIT, wait) else {
+        return None;
+    };
+    let found = found_for(&job.cid, block.bytes);
+    Some(node.end_job(alloc, seat, giver, LIMIT, job, found, wait))
+}
+
+// The same from a keeper on, with the giver of a new relay.
+fn over_full<K: Keeper + Drop, W: Wait>(alloc: Global, keeper: K, wait: &W) -> Option<Answer>
+    requires { IfSome (K.told keeper) HasSoundMark }
+{
+    let cids = cids_of(alloc, FULL + 1)?;
+    let replica = wanting(alloc, keeper, cids.as_slice())?;
+    let Ok((taker, givers)) = open_relay::<Brand>(alloc, 1) else {
+        return None;
+    };
+    let Ok((node, mut seat)) = Shared::<K>::new(alloc, replica, true, Some(taker)) else {
+        return None;
+    };
+    let mut other = node.split(&mut seat);
+    let mut giver = givers.into_vec().pop();
+    beyond(alloc, &node, &mut seat, &mut other, &mut giver, wait)
+}
+
 // The same from a keeper on, with the giver of a new relay. Whoever owns the node has one way out with it.
 fn over<K: Keeper + Drop, W: Wait>(alloc: Global, keeper: K, wait: &W) -> Option<(Answer, Answer)>
     requires { IfSome (K.told keeper) HasSoundMark }
@@ -132,7 +240,7 @@ fn over<K: Keeper + Drop, W: Wait>(alloc: Global, keeper: K, wait: &W) -> Option
     let Ok(two) = block_of(alloc, 2) else {
         return None;
     };
-    let replica = wanting(alloc, keeper, one.cid, two.cid)?;
+    let replica = wanting(alloc, keeper, &[one.cid, two.cid])?;
     let Ok((taker, givers)) = open_relay::<Brand>(alloc, 1) else {
         return None;
     };
@@ -150,6 +258,7 @@ fn over<K: Keeper + Drop, W: Wait>(alloc: Global, keeper: K, wait: &W) -> Option
 #[derive(Clone, Copy)]
 enum Handovers {
     WhileHeld,
+    BesideAFullRelay,
 }
 
 impl Trial for Handovers {
@@ -162,19 +271,31 @@ impl Trial for Handovers {
     where
         K::Desk: Drop,
     {
-        let Handovers::WhileHeld = self;
-        Ok(matches!(
-            over(alloc, keeper, wait),
-            Some((
-                Ok(Handover::Queued { word: 1 }),
-                Ok(Handover::Committed { processed: 2 })
-            ))
-        ))
+        match self {
+            Handovers::WhileHeld => Ok(matches!(
+                over(alloc, keeper, wait),
+                Some((
+                    Ok(Handover::Queued { word: 1 }),
+                    Ok(Handover::Committed { processed: 2 })
+                ))
+            )),
+            Handovers::BesideAFullRelay => Ok(matches!(
+                over_full(alloc, keeper, wait),
+                Some(Ok(Handover::Committed { processed: 64 }))
+            )),
+        }
     }
 }
 
 #[test]
 fn a_held_turn_queues_a_block(rt: HostRuntime) -> Result<(), Fail> {
     assert!(rt; passes(Handovers::WhileHeld, rt.alloc(), &rt)?);
+    Ok(())
+}
+
+// It is committed with 63 of the relay's, by one group, and the last of these stays there.
+#[test]
+fn a_block_that_a_full_relay_gives_back_is_one_of_its_group(rt: HostRuntime) -> Result<(), Fail> {
+    assert!(rt; passes(Handovers::BesideAFullRelay, rt.alloc(), &rt)?);
     Ok(())
 }

@@ -107,8 +107,8 @@ impl<K: Keeper, J: Naming> Node<Stored<K, J>> {
     }
 }
 
-// Rests after so many looks, for ever longer.
-fn rest(looks: u64) {
+// Rests after so many looks: lets others run once, twice, four times and so on.
+pub(crate) fn rest(looks: u64) {
     for _ in 0..1u64 << looks.min(10) {
         thread::yield_now();
     }

@@ -185,7 +185,7 @@ impl<K: Keeper, J: Naming> Node<Stored<K, J>> {
         }
     }
 
-    // The turn is waited for, and what was pushed is taken in, and then this block.
+    // The turn is waited for, and this block is taken in with what was pushed.
     fn take_waiting<W: Wait>(
         &self,
         alloc: Global,

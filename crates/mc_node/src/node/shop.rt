@@ -13,6 +13,7 @@ ghost use Rattle.mc_node.specs.Serves.{BackDoes};
 ghost use Rattle.mc_node.specs.Views.{Turned};
 ghost use Rattle.mc_node.specs.Works.{IsUnder};
 
+use super::ahead::rest;
 use super::{Node, NodeSeat};
 use crate::hired::Hired;
 use crate::stored::Stored;
@@ -22,6 +23,13 @@ use mc_keep::Keeper;
 use mc_worker::{HandEnd, Handover, Shop, ShopError, end_of};
 use std::alloc::Global;
 use std::sync::Wait;
+
+// A large group, after how many commits more a worker rests, and by which number of looks.
+const LARGE: u64 = 32;
+
+const RESTS: u64 = 128;
+
+const REST: u64 = 1;
 
 /// A sealed node is a shop: a worker's seat is one of the node's, with a limit of at most `J.most`. Each call takes
 /// the turn and gives it back; what the seat has seen then begins with the log that it took. A call that asks for a
@@ -108,6 +116,7 @@ impl<K: Keeper, J: Naming> Shop for Node<Stored<K, J>> {
         );
         seat.last = deliver_end(&result);
         seat.out = None;
+        seat.rests = rests_after(seat.rests, &result);
         result
     }
 
@@ -158,6 +167,22 @@ impl<K: Keeper, J: Naming> Node<Stored<K, J>> {
         held.value.give_back(job);
         self.turn.give(&mut seat.seat, held);
     }
+}
+
+// Rests after a commit, where one of the last was of a large group. How many more commits it rests after. Others wait for
+// the turn then; a worker that goes on at once would find it free again and commit its next block alone.
+fn rests_after(rests: u64, answer: &Result<Handover, ShopError>) -> u64 {
+    let Ok(Handover::Committed { processed }) = answer else {
+        return rests;
+    };
+    if *processed < LARGE && rests == 0 {
+        return 0;
+    }
+    rest(REST);
+    if *processed >= LARGE {
+        return RESTS;
+    }
+    rests - 1
 }
 
 // How a call that asked for a job ended.

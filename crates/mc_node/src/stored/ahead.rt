@@ -15,9 +15,9 @@ use std::alloc::Global;
 use std::sync::Wait;
 
 // The most jobs that begin ahead for one worker, and the part of those that wait: one in so many.
-const AHEAD: u64 = 63;
+const AHEAD: u64 = 127;
 
-const PART: u64 = 8;
+const PART: u64 = 4;
 
 impl<K: Keeper, J: Naming> Stored<K, J> {
     // A job begins as `next_job` says, and where there is a relay others come to `ahead`: a part of those that wait, as many

@@ -104,6 +104,15 @@ impl<K: Keeper, J: Naming> Stored<K, J> {
         }
     }
 
+    // Whether there is a relay, and a place for a block in the inbox.
+    pub(crate) fn has_place(&self) -> bool
+        ensures relay { result ≡ true → is_some self.now.taker ≡ true }
+        ensures left { result ≡ true → length self.now.replica.inbox.items < 64 }
+        ensures place { is_some self.now.taker ≡ true → length self.now.replica.inbox.items < 64 → result ≡ true }
+    {
+        self.has_relay() && self.replica.inbox_len() < GROUP
+    }
+
     // Moves the block that was pushed first into the inbox. Whether there was one, and room for it.
     fn move_one<W: Wait>(&mut self, wait: &W) -> bool
         requires room { 64 ≤ self.old.replica.inbox.room }

@@ -1,8 +1,10 @@
 // What workers pushed is taken in.
-ghost use Rattle.std.specs.Prelude.{◌≡◌, ◌≤◌, ◌<◌, ◌+◌, ℕ, false, true, [], is_some, length, vec_len, vec_capacity, IfErr, IfOk};
+ghost use Rattle.std.specs.Prelude.{◌≡◌, ◌≤◌, ◌<◌, ◌+◌, ℕ, false, true, [], ◌∷◌, ◌++◌, is_some, length, vec_len, vec_capacity};
+ghost use Rattle.std.specs.Prelude.{IfErr, IfOk};
 ghost use Rattle.std.specs.Prelude.{IfSome, OnOk};
 ghost use Rattle.mc_turn.specs.Lists.{Begins};
 ghost use Rattle.mc_core.specs.Counted.{capped};
+ghost use Rattle.mc_inbox.specs.Waiting.{as_stored};
 ghost use Rattle.mc_relay.specs.Items.{IsRight};
 ghost use Rattle.mc_node.specs.Entries.{is_sealed_log, items, shown};
 ghost use Rattle.mc_node.specs.Fillings.{GathersIn, HasTaken, TakesRound, empties};
@@ -128,7 +130,8 @@ impl<K: Keeper, J: Naming> Stored<K, J> {
         }
     }
 
-    // The same, and then the same with this block, which is added to the inbox. Without a relay it waits again.
+    // The same with this block, which comes into the inbox. It is the first of the one group where there is a place for it;
+    // else what waits there comes in first, and then the block. Without a relay it waits again.
     pub(crate) fn take_with<W: Wait>(
         &mut self,
         alloc: Global,
@@ -143,10 +146,62 @@ impl<K: Keeper, J: Naming> Stored<K, J> {
         ensures does { TakesAt limit item.cid result (items K.Keeper self.old.log.items)
             (shown K.Keeper self.old.replica) (items K.Keeper self.new.log.items) (shown K.Keeper self.new.replica) }
         ensures commits { IfOk result (AddsFetched is_of_fetched self.old.log.items self.new.log.items) }
+        ensures joined { is_some self.old.taker ≡ true → length self.old.replica.inbox.items < 64 → OnOk result
+            (HasTaken limit (shown K.Keeper self.old.replica).told self.old.taker self.new.taker
+            (self.old.replica.inbox.items ++ as_stored item ∷ []) self.new.replica.inbox.items) }
     {
+        if self.has_place() {
+            return self.take_joined(alloc, limit, item, wait);
+        }
         match self.take_pushed(alloc, limit, item.cid, wait) {
             Ok(first) => self.take_own(alloc, limit, first, item, wait),
             Err(error) => Err(error),
+        }
+    }
+
+    // A block comes into the inbox, and is taken in with what was pushed, by one group.
+    fn take_joined<W: Wait>(
+        &mut self,
+        alloc: Global,
+        limit: u64,
+        item: Verified,
+        wait: &W,
+    ) -> Result<u64, ShopError>
+        requires sealed { is_sealed_log self.old.log.items ≡ true }
+        requires limit { IsUnder J.most limit }
+        requires right { IsRight J.found item }
+        requires relay { is_some self.old.taker ≡ true }
+        requires left { length self.old.replica.inbox.items < 64 }
+        ensures extends { Begins self.old.log.items self.new.log.items }
+        ensures does { TakesAt limit item.cid result (items K.Keeper self.old.log.items)
+            (shown K.Keeper self.old.replica) (items K.Keeper self.new.log.items) (shown K.Keeper self.new.replica) }
+        ensures commits { IfOk result (AddsFetched is_of_fetched self.old.log.items self.new.log.items) }
+        ensures took { OnOk result (HasTaken limit (shown K.Keeper self.old.replica).told self.old.taker self.new.taker
+            (self.old.replica.inbox.items ++ as_stored item ∷ []) self.new.replica.inbox.items) }
+    {
+        let cid = item.cid;
+        if self.is_stopped() {
+            return Err(ShopError::Stopped);
+        }
+        let processed = match self.begin_group() {
+            Ok(processed) => processed,
+            Err(_) => {
+                self.give_back(Job { cid, own: None });
+                return Err(ShopError::Memory);
+            }
+        };
+        if processed >= limit {
+            self.give_back(Job { cid, own: None });
+            return Err(ShopError::Spent);
+        }
+        self.add(item);
+        match self.take_round(alloc, processed, limit, wait) {
+            Ok(count) => Ok(count),
+            Err(ShopError::KeeperFault) => Err(ShopError::KeeperFault),
+            Err(_) => {
+                self.give_back(Job { cid, own: None });
+                Err(ShopError::Memory)
+            }
         }
     }
 

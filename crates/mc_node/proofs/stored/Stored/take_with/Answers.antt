@@ -1,3 +1,5 @@
+use Rattle.std.proofs.Common.{◌∙◌, sym}
+use Rattle.std.proofs.lemmas.Bool.{false≢true}
 use Rattle.mc_turn.proofs.Lists.{begins_trans}
 use Rattle.mc_node.specs.Items.{is_sealing}
 use Rattle.mc_node.proofs.PieceFacts.{adds_after}
@@ -16,3 +18,12 @@ returns-in-Ok-clause-does g c = takes_on c.args.limit c.in-Ok.first c.args.item.
 
 pub returns-in-Ok-clause-commits : goal.returns-in-Ok-clause-commits
 returns-in-Ok-clause-commits g c = adds_after c.take_own.result c.in-Ok.first _ _ _ c.in-Ok.ensures.commits c.take_own.ensures.commits
+
+pub returns-then-has_place-clause-joined : goal.returns-then-has_place-clause-joined
+returns-then-has_place-clause-joined g c = λ some less. c.take_joined.ensures.took
+
+pub returns-in-Ok-clause-joined : goal.returns-in-Ok-clause-joined
+returns-in-Ok-clause-joined g c = λ some less. absurd (false≢true (sym c.if-has_place.false ∙ c.has_place.ensures.place some less))
+
+pub returns-in-Err-clause-joined : goal.returns-in-Err-clause-joined
+returns-in-Err-clause-joined g c = λ some less. absurd (false≢true (sym c.if-has_place.false ∙ c.has_place.ensures.place some less))
