@@ -4,15 +4,14 @@ use Rattle.atomic_table.specs.Seated.{TableId}
 use Rattle.logbook.specs.Pages.{Book}
 use Rattle.mc_base.specs.declared.counted.Counted as counted
 use Rattle.mc_keep.specs.declared.keeper.Keeper as keeper
-use Rattle.mc_face.specs.declared.exactness.Exactness as exactness
 use Rattle.mc_turn.specs.Seats.{view}
 use Rattle.mc_shown.specs.Names.{face_in, node_in}
-use Rattle.mc_shown.specs.declared.shared.FaceSeat.{FaceSeat}
+use Rattle.mc_shown.specs.declared.seat.FaceSeat.{FaceSeat}
 
-module _ {K X D : Type 0} {g : keeper.Ghosts K D} {h : counted.Ghosts K} {i : counted.Ghosts D} {e : exactness.Ghosts X} where
+module _ {K X D : Type 0} {g : keeper.Ghosts K D} {h : counted.Ghosts K} {i : counted.Ghosts D} where
   -- the face that it is of, and the node
-  abbrev pub face_of : FaceSeat K X D g h i e → Book
+  abbrev pub face_of : FaceSeat K X D g h i → Book
   face_of s = face_in (view s.seat).seen
 
-  abbrev pub node_of : FaceSeat K X D g h i e → TableId
+  abbrev pub node_of : FaceSeat K X D g h i → TableId
   node_of s = node_in (view s.seat).seen

@@ -5,10 +5,12 @@
 
 mod name;
 mod opening;
+mod seat;
 mod shared;
 mod showing;
 
 pub use name::FaceName;
 pub use opening::{Faces, open_face};
-pub use shared::{FaceSeat, SharedFace};
+pub use seat::FaceSeat;
+pub use shared::SharedFace;
 pub use showing::Showing;

@@ -1,14 +1,13 @@
 // Shared faces are opened.
-ghost use Rattle.std.specs.Prelude.{◌≡◌, ◌<◌, ◌≤◌, true, length, All, IfOk};
+ghost use Rattle.std.specs.Prelude.{◌≡◌, ◌<◌, ◌≤◌, length, All, IfOk};
 ghost use Rattle.mc_turn.specs.Seats.{view, IsSeatOf};
 ghost use Rattle.mc_turn.specs.Views.{all_parts};
 ghost use Rattle.mc_face.specs.Words.{BeginsAt};
-ghost use Rattle.mc_node.specs.Entries.{items};
-ghost use Rattle.mc_node.specs.Items.{tells};
 ghost use Rattle.mc_node.specs.Seats.{knows};
 ghost use Rattle.mc_shown.specs.Words.{face_of, node_of};
 
-use crate::shared::{FaceSeat, SharedFace};
+use crate::seat::FaceSeat;
+use crate::shared::SharedFace;
 use crate::showing::Showing;
 use mc_base::List;
 use mc_face::{Exactness, FaceReader, FaceRefused, face};
@@ -34,7 +33,7 @@ pub struct Faces<K: Keeper, X: Exactness> {
 ///
 /// Refusals: `NoPlace`, where left_right refused a reader its place; `Memory`.
 ///
-/// Conditions: 1 to 16 readers. Where the face is exact, the keeper tells.
+/// Condition: 1 to 16 readers.
 pub fn open_face<K: Keeper, J: Naming, X: Exactness, W: Wait>(
     alloc: Global,
     node: &Node<Stored<K, J>>,
@@ -44,7 +43,6 @@ pub fn open_face<K: Keeper, J: Naming, X: Exactness, W: Wait>(
 ) -> Result<Faces<K, X>, FaceRefused>
     requires place { IsSeatOf node.now.turn place.old.seat }
     requires readers { (0 < readers) × (readers ≤ 16) }
-    requires tells { X.exact ≡ true → tells (items K.Keeper (knows place.old).seen) ≡ true }
     ensures place { IsSeatOf node.now.turn place.new.seat }
     ensures same { knows place.new ≡ knows place.old }
     ensures own { IfOk result (λ faces. IsSeatOf faces.face.turn faces.seat.seat) }

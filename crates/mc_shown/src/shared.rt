@@ -1,43 +1,32 @@
 // A face that threads share.
 ghost use Rattle.std.specs.Prelude.{◌≡◌, ◌<◌, true, IfErr, IfOk};
-ghost use Rattle.mc_turn.specs.Seats.{view, IsIdle, IsSeatOf};
+ghost use Rattle.mc_turn.specs.Seats.{view, IsSeatOf};
 ghost use Rattle.mc_turn.specs.Views.{left_view, right_view};
 ghost use Rattle.mc_model.specs.Kept.{processed};
 ghost use Rattle.mc_face.specs.Words.{told_list, told_face};
 ghost use Rattle.mc_core.specs.Exact.{DecidesAlone};
 ghost use Rattle.mc_node.specs.Entries.{StaysOpen, is_open, items};
 ghost use Rattle.mc_node.specs.Faces.{IsWholeFace};
+ghost use Rattle.mc_node.specs.Items.{tells};
 ghost use Rattle.mc_node.specs.Moves.{ReadDoes};
 ghost use Rattle.mc_node.specs.Seats.{knows};
 ghost use Rattle.mc_node.specs.Views.{Turned};
-ghost use Rattle.mc_shown.specs.Names.{has_name};
 ghost use Rattle.mc_shown.specs.Words.{face_of, node_of};
 
-use crate::name::FaceName;
+use crate::seat::FaceSeat;
 use crate::showing::Showing;
 use mc_core::CoreError;
 use mc_face::{Exactness, Told};
 use mc_fetch::Naming;
 use mc_keep::Keeper;
 use mc_node::{Node, NodeSeat, Seen, Stored};
-use mc_turn::{Seat, Turn};
+use mc_turn::Turn;
 use std::alloc::Global;
 use std::sync::Wait;
 
 /// A face of a node, which any thread may show that has a seat of it. It can't be dropped: `end` uses it up.
 pub struct SharedFace<K: Keeper, X: Exactness> {
     pub(crate) turn: Turn<Showing<K, X>>,
-}
-
-/// What a thread calls a shared face with. It has no bytes; contracts read which face of which node it is of.
-///
-/// Condition of each call that takes a seat: it is one of this shared face, which `open_face` gave or which was split
-/// from one.
-#[derive(Drop)]
-pub struct FaceSeat<K: Keeper, X: Exactness> {
-    pub(crate) seat: Seat<Showing<K, X>, FaceName>,
-    ghost idle: { IsIdle seat },
-    ghost named: { has_name (view seat).seen ≡ true },
 }
 
 impl<K: Keeper, X: Exactness> SharedFace<K, X> {
@@ -63,7 +52,7 @@ impl<K: Keeper, X: Exactness> SharedFace<K, X> {
     /// Refusals: `Stopped`, exactly where the log says that the keeper has failed; `KeeperFault`; `Memory`. After each of
     /// them nothing is lost: what the face has then, readers see after the next call that answers Ok.
     ///
-    /// Conditions: the seat is of a face of this node; the node isn't sealed.
+    /// Conditions: the seat is of a face of this node; the node isn't sealed. Where the face is exact, the keeper tells.
     pub fn show<J: Naming, W: Wait>(
         &self,
         alloc: Global,
@@ -76,6 +65,7 @@ impl<K: Keeper, X: Exactness> SharedFace<K, X> {
         requires of { node_of seat.old ≡ node.now.turn.table.shared.table_id }
         requires place { IsSeatOf node.now.turn place.old.seat }
         requires unsealed { is_open (knows place.old).seen ≡ true }
+        requires tells { X.exact ≡ true → tells (items K.Keeper (knows place.old).seen) ≡ true }
         ensures own { IsSeatOf self.now.turn seat.new.seat }
         ensures same { (view seat.new.seat).seen ≡ (view seat.old.seat).seen }
         ensures parts { (view seat.new.seat).parts ≡ (view seat.old.seat).parts }

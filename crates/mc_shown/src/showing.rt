@@ -27,8 +27,6 @@ pub struct Showing<K: Keeper, X: Exactness> {
     pub(crate) writer: FaceWriter<X>,
     pub(crate) glimpse: NodeGlimpse<K>,
     ghost ties: { IsFaceOf (items_at K.told K.fuse K.own K.faults K.quiet K.schedule (sight glimpse.glimpse)) writer.list },
-    ghost tells: { X.exact ≡ true →
-        tells (items_at K.told K.fuse K.own K.faults K.quiet K.schedule (sight glimpse.glimpse)) ≡ true },
 }
 
 impl<K: Keeper, X: Exactness> Story for Showing<K, X> {
@@ -55,6 +53,7 @@ impl<K: Keeper, X: Exactness> Showing<K, X> {
         requires of { IsGlimpseOf node.now.turn self.glimpse.glimpse }
         requires place { IsSeatOf node.now.turn place.old.seat }
         requires unsealed { is_open (knows place.old).seen ≡ true }
+        requires tells { X.exact ≡ true → tells (items K.Keeper (knows place.old).seen) ≡ true }
         ensures of { IsGlimpseOf node.now.turn result.0.glimpse.glimpse }
         ensures one { result.0.writer.face ≡ self.writer.face }
         ensures place { IsSeatOf node.now.turn place.new.seat }

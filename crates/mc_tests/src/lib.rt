@@ -50,6 +50,8 @@ mod replicas;
 #[cfg(test)]
 mod rows;
 #[cfg(test)]
+mod sharing;
+#[cfg(test)]
 mod shops;
 #[cfg(test)]
 mod shown;
