@@ -1,9 +1,7 @@
 -- The one name that all seats of a shared face have seen.
-use Rattle.std.proofs.Common.{◌≡◌, ℕ, List, [], ◌∷◌, ◌++◌, Bool, true, false, Option, Some, None, refl, sym, ap, ◌∙◌, subst}
+use Rattle.std.proofs.Common.{◌≡◌, ℕ, List, [], ◌∷◌, ◌++◌, Bool, true, false, Option, refl, sym, ap, ◌∙◌, subst}
 use Rattle.std.proofs.lemmas.Bool.{false≢true}
 use mathlib.Core.List.{head-eq_of_cons-eq, tail-eq_of_cons-eq}
-use Rattle.atomic_table.specs.Seated.{TableId}
-use Rattle.logbook.specs.Pages.{Book}
 use Rattle.mc_turn.specs.declared.view.View.{View}
 use Rattle.mc_turn.specs.Lists.{Begins}
 use Rattle.mc_turn.specs.Views.{Extends, given_view, held_view}
@@ -38,6 +36,3 @@ pub seen_name : (before held after : View Name) (words : List ℕ) (old new : Na
     → after.seen ≡ before.seen
 seen_name before held after words old new has begins is given face node =
     ap (λ (v : View Name). v.seen) given ∙ (ap (λ (n : Name). n ∷ []) (name_same old new face node) ∙ sym (names_are before.seen old has begins))
-
-pub parts_kept : (before held after : View Name) (words : List ℕ) (log new : List Name) → held ≡ held_view before words log → after ≡ given_view held new → after.parts ≡ before.parts
-parts_kept before held after words log new is given = ap (λ (v : View Name). v.parts) given ∙ ap (λ (v : View Name). v.parts) is

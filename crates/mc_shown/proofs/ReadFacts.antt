@@ -1,5 +1,5 @@
 -- A read of a node that is told of as another one: with another answer, or as a want of memory.
-use Rattle.std.proofs.Common.{◌≡◌, ◌⊎◌, inl, inr, List, [], Option, Some, None, Result, Ok, Err, refl, sym, ap, ◌∙◌, subst}
+use Rattle.std.proofs.Common.{◌≡◌, inl, inr, List, Option, Some, None, Result, Ok, Err, refl, ap, ◌∙◌}
 use Rattle.mc_base.specs.Causes.{Rose}
 use Rattle.mc_base.specs.Told.{Told}
 use Rattle.mc_model.specs.Events.{Event}
@@ -14,7 +14,7 @@ use Rattle.mc_core.specs.Exact.{stop_front}
 use Rattle.mc_core.specs.Reads.{OnlyReads, read_refusal}
 use Rattle.mc_core.specs.Refusals.{ByKind, Is, kind_of}
 use Rattle.mc_node.specs.declared.node.Seen.{Seen}
-use Rattle.mc_node.specs.Items.{Item, Shown, state_in}
+use Rattle.mc_node.specs.Items.{Item, state_in}
 use Rattle.mc_node.specs.Moves.{ReadDoes, SeenOver}
 use Rattle.mc_node.specs.Views.{Turned}
 use Rattle.mc_turn.specs.declared.view.View.{View}

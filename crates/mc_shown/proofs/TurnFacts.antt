@@ -1,5 +1,5 @@
 -- What a seat of a node does that learns first and then takes the turn.
-use Rattle.std.proofs.Common.{◌≡◌, List, sym, ap, ◌∙◌, subst}
+use Rattle.std.proofs.Common.{◌≡◌, List, sym, subst}
 use Rattle.mc_turn.specs.declared.view.View.{View}
 use Rattle.mc_turn.specs.Lists.{Begins, longer_of}
 use Rattle.mc_turn.specs.Views.{learned_view}

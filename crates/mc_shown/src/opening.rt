@@ -4,7 +4,7 @@ ghost use Rattle.mc_turn.specs.Seats.{view, IsSeatOf};
 ghost use Rattle.mc_turn.specs.Views.{all_parts};
 ghost use Rattle.mc_face.specs.Words.{BeginsAt};
 ghost use Rattle.mc_node.specs.Seats.{knows};
-ghost use Rattle.mc_shown.specs.Words.{face_of, node_of};
+ghost use Rattle.mc_shown.specs.Words.{IsAt, face_of};
 
 use crate::seat::FaceSeat;
 use crate::shared::SharedFace;
@@ -47,7 +47,7 @@ pub fn open_face<K: Keeper, J: Naming, X: Exactness, W: Wait>(
     ensures same { knows place.new ≡ knows place.old }
     ensures own { IfOk result (λ faces. IsSeatOf faces.face.turn faces.seat.seat) }
     ensures parts { IfOk result (λ faces. (view faces.seat.seat).parts ≡ all_parts) }
-    ensures node { IfOk result (λ faces. node_of faces.seat ≡ node.now.turn.table.shared.table_id) }
+    ensures node { IfOk result (λ faces. IsAt faces.seat node.now.turn) }
     ensures readers { IfOk result (λ faces. All (BeginsAt (face_of faces.seat)) faces.readers) }
     ensures count { IfOk result (λ faces. length faces.readers ≡ readers) }
 {

@@ -11,7 +11,7 @@ ghost use Rattle.mc_node.specs.Items.{tells};
 ghost use Rattle.mc_node.specs.Moves.{ReadDoes};
 ghost use Rattle.mc_node.specs.Seats.{knows};
 ghost use Rattle.mc_node.specs.Views.{Turned};
-ghost use Rattle.mc_shown.specs.Words.{face_of, node_of};
+ghost use Rattle.mc_shown.specs.Words.{IsAt, face_of};
 
 use crate::seat::FaceSeat;
 use crate::showing::Showing;
@@ -62,7 +62,7 @@ impl<K: Keeper, X: Exactness> SharedFace<K, X> {
         wait: &W,
     ) -> Result<Seen<Told>, CoreError>
         requires own { IsSeatOf self.now.turn seat.old.seat }
-        requires of { node_of seat.old ≡ node.now.turn.table.shared.table_id }
+        requires of { IsAt seat.old node.now.turn }
         requires place { IsSeatOf node.now.turn place.old.seat }
         requires unsealed { is_open (knows place.old).seen ≡ true }
         requires tells { X.exact ≡ true → tells (items K.Keeper (knows place.old).seen) ≡ true }

@@ -26,7 +26,8 @@ use std::sync::Wait;
 pub struct Showing<K: Keeper, X: Exactness> {
     pub(crate) writer: FaceWriter<X>,
     pub(crate) glimpse: NodeGlimpse<K>,
-    ghost ties: { IsFaceOf (items_at K.told K.fuse K.own K.faults K.quiet K.schedule (sight glimpse.glimpse)) writer.list },
+    ghost ties: { IsFaceOf (items_at K.told K.fuse K.own K.faults K.quiet K.schedule (sight glimpse.glimpse))
+        writer.list },
 }
 
 impl<K: Keeper, X: Exactness> Story for Showing<K, X> {

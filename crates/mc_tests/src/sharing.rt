@@ -4,7 +4,7 @@ ghost use Rattle.mc_turn.specs.Seats.{IsSeatOf};
 ghost use Rattle.mc_model.specs.State.{HasSoundMark};
 ghost use Rattle.mc_node.specs.Entries.{is_open};
 ghost use Rattle.mc_node.specs.Seats.{knows};
-ghost use Rattle.mc_shown.specs.Words.{face_of, node_of};
+ghost use Rattle.mc_shown.specs.Words.{IsAt, face_of};
 
 use crate::given::{Trial, passes, passes_over};
 use crate::replicas::opened;
@@ -76,7 +76,7 @@ fn shows_writes<K: Keeper, W: Wait>(
     requires place { IsSeatOf node.now.turn place.old.seat }
     requires open { is_open (knows place.old).seen ≡ true }
     requires seat { IsSeatOf face.now.turn seat.old.seat }
-    requires of { node_of seat.old ≡ node.now.turn.table.shared.table_id }
+    requires of { IsAt seat.old node.now.turn }
     requires one { eye.old.face ≡ face_of seat.old }
     ensures place { IsSeatOf node.now.turn place.new.seat }
     ensures open { is_open (knows place.new).seen ≡ true }
@@ -108,7 +108,7 @@ fn stops<K: Keeper, W: Wait>(
     requires place { IsSeatOf node.now.turn place.old.seat }
     requires open { is_open (knows place.old).seen ≡ true }
     requires seat { IsSeatOf face.now.turn seat.old.seat }
-    requires of { node_of seat.old ≡ node.now.turn.table.shared.table_id }
+    requires of { IsAt seat.old node.now.turn }
     requires one { eye.old.face ≡ face_of seat.old }
     ensures place { IsSeatOf node.now.turn place.new.seat }
     ensures open { is_open (knows place.new).seen ≡ true }
