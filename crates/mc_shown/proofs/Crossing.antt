@@ -5,7 +5,7 @@ use denote.Param.SendFields.{declared_send}
 use Rattle.mc_base.specs.declared.counted.Counted as counted
 use Rattle.mc_keep.specs.declared.keeper.Keeper as keeper
 use Rattle.mc_face.specs.declared.exactness.Exactness as exactness
-use Rattle.std.proofs.Crossing.{crosses, frees}
+use Rattle.std.proofs.Crossing.{crosses}
 use Rattle.mc_face.proofs.writer.FaceWriter.TheSendSync.{the_send as writer_send}
 use Rattle.mc_node.proofs.node.NodeGlimpse.TheSendSync.{the_send as glimpse_send}
 use Rattle.mc_shown.specs.contracts.showing.Showing as showing

@@ -25,6 +25,19 @@ face_is names name has b = ap face_in (sym (names_are names name has b))
 pub node_is : (names : List Name) (name : Name) → has_name names ≡ true → Begins names (name ∷ []) → name.node ≡ node_in names
 node_is names name has b = ap node_in (sym (names_are names name has b))
 
+-- what a list of names begins with stays
+pub has_on : (names more : List Name) → has_name names ≡ true → Begins names more → has_name more ≡ true
+has_on [] more has b = absurd (false≢true has)
+has_on (n ∷ ns) more has b = ap has_name (sym b.1)
+
+pub face_on : (names more : List Name) → has_name names ≡ true → Begins names more → face_in more ≡ face_in names
+face_on [] more has b = absurd (false≢true has)
+face_on (n ∷ ns) more has b = ap face_in (sym b.1)
+
+pub node_on : (names more : List Name) → has_name names ≡ true → Begins names more → node_in more ≡ node_in names
+node_on [] more has b = absurd (false≢true has)
+node_on (n ∷ ns) more has b = ap node_in (sym b.1)
+
 name_same : (old new : Name) → new.face ≡ old.face → new.node ≡ old.node → new ≡ old
 name_same old new face node = λ i. record { face = face i; node = node i }
 

@@ -12,8 +12,7 @@ use mc_turn::Seat;
 /// What a thread calls a shared face with. It has no bytes; contracts read which face of which node it is of.
 ///
 /// Condition of each call that takes a seat: it is one of this shared face, which `open_face` gave or which was split
-/// from one.
-#[derive(Drop)]
+/// from one. It can't be dropped, since its type names the writer: `join` takes it back, or `end` does.
 pub struct FaceSeat<K: Keeper, X: Exactness> {
     pub(crate) seat: Seat<Showing<K, X>, FaceName>,
     ghost idle: { IsIdle seat },

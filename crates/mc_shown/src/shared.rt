@@ -1,5 +1,5 @@
 // A face that threads share.
-ghost use Rattle.std.specs.Prelude.{◌≡◌, ◌<◌, true, IfErr, IfOk};
+ghost use Rattle.std.specs.Prelude.{◌≡◌, ◌<◌, ◌+◌, true, IfErr, IfOk};
 ghost use Rattle.mc_turn.specs.Seats.{view, IsSeatOf};
 ghost use Rattle.mc_turn.specs.Views.{left_view, right_view};
 ghost use Rattle.mc_model.specs.Kept.{processed};
@@ -11,7 +11,7 @@ ghost use Rattle.mc_node.specs.Items.{tells};
 ghost use Rattle.mc_node.specs.Moves.{ReadDoes};
 ghost use Rattle.mc_node.specs.Seats.{knows};
 ghost use Rattle.mc_node.specs.Views.{Turned};
-ghost use Rattle.mc_shown.specs.Words.{IsAt, face_of};
+ghost use Rattle.mc_shown.specs.Words.{IsAt, face_of, node_of};
 
 use crate::seat::FaceSeat;
 use crate::showing::Showing;
@@ -42,6 +42,17 @@ impl<K: Keeper, X: Exactness> SharedFace<K, X> {
         FaceSeat {
             seat: self.turn.split(&mut seat.seat),
         }
+    }
+
+    /// The seat takes in another one of the same face. It takes no memory.
+    pub fn join(&self, seat: &mut FaceSeat<K, X>, other: FaceSeat<K, X>)
+        requires own { IsSeatOf self.now.turn seat.old.seat × IsSeatOf self.now.turn other.seat }
+        ensures own { IsSeatOf self.now.turn seat.new.seat }
+        ensures same { (face_of seat.new ≡ face_of seat.old) × (node_of seat.new ≡ node_of seat.old) }
+        ensures parts { (view seat.new.seat).parts ≡ (view seat.old.seat).parts + (view other.seat).parts }
+    {
+        let FaceSeat { seat: other } = other;
+        self.turn.join(&mut seat.seat, other);
     }
 
     /// Brings the face to the blocks that are processed at a moment of this call, shows it to its readers, and tells of

@@ -243,7 +243,6 @@ fn failing(alloc: Global) -> Result<FaultPlan, AllocError> {
 }
 
 // What a thread writes, shows and reads with.
-#[derive(Drop)]
 struct Hand<K: Keeper> {
     place: Place<K>,
     seat: FaceSeat<K, Loose>,
@@ -360,9 +359,15 @@ where
     );
     let Hand {
         mut place,
-        seat,
+        mut seat,
         eye: _eye,
     } = first;
+    let Hand {
+        place: _place,
+        seat: other,
+        eye: _other,
+    } = second;
+    face.join(&mut seat, other);
     face.end(seat, rt);
     let seen = node.get(alloc, &mut place, "/a", rt);
     match seen {
