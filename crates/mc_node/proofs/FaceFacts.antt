@@ -103,11 +103,15 @@ module _ {K D : Type 0} {g : keeper.Ghosts K D} {h : counted.Ghosts K} {i : coun
     sym (map-append (λ (entry : Entry K D g h i). record { note = entry.note; shown = shown_at told fuse own faults quiet schedule entry.replica.value }) xs begins.0) ∙ ap (items_at told fuse own faults quiet schedule) begins.1,
   )
 
-  pub seat_begins : (back : BackLaw) (limit : Bounds) (replica : Replica K D g h i) (seen log : List (Entry K D g h i)) (list : List Block) → is_rooted_log seen ≡ true → is_open seen ≡ true → Begins seen log
-      → IsTied limit (shown_at told fuse own faults quiet schedule replica) (items_at told fuse own faults quiet schedule log) → IsFaceOf (items_at told fuse own faults quiet schedule seen) list → IfSome (told replica.keeper) (λ kept. Starts (processed kept) list)
-  seat_begins back limit replica seen log list rooted unsealed begins tied face =
-      face_begins back limit (shown_at told fuse own faults quiet schedule replica) (items_at told fuse own faults quiet schedule seen) (items_at told fuse own faults quiet schedule log) list (rooted_items seen rooted) tied
-      (open_unsealed told fuse own faults quiet schedule log log refl (begins_on is_unsealed seen log unsealed begins)) (begins_items seen log begins) face
+  -- whether the keeper tells is what an earlier log says
+  pub tells_later : (seen log : List (Entry K D g h i)) → is_rooted_log seen ≡ true → Begins seen log → tells (items_at told fuse own faults quiet schedule log) ≡ tells (items_at told fuse own faults quiet schedule seen)
+  tells_later seen log rooted begins = tells_stays (items_at told fuse own faults quiet schedule seen) (items_at told fuse own faults quiet schedule log) (rooted_items seen rooted) (begins_items seen log begins)
+
+  pub seat_begins : (back : BackLaw) (limit : Bounds) (replica : Replica K D g h i) (first seen log : List (Entry K D g h i)) (list : List Block) → is_rooted_log first ≡ true → is_open seen ≡ true → Begins first seen → Begins seen log
+      → IsTied limit (shown_at told fuse own faults quiet schedule replica) (items_at told fuse own faults quiet schedule log) → IsFaceOf (items_at told fuse own faults quiet schedule first) list → IfSome (told replica.keeper) (λ kept. Starts (processed kept) list)
+  seat_begins back limit replica first seen log list rooted unsealed early begins tied face =
+      face_begins back limit (shown_at told fuse own faults quiet schedule replica) (items_at told fuse own faults quiet schedule first) (items_at told fuse own faults quiet schedule log) list (rooted_items first rooted) tied
+      (open_unsealed told fuse own faults quiet schedule log log refl (begins_on is_unsealed seen log unsealed begins)) (begins_items first log (begins_trans first seen log early begins)) face
 
   pub seat_tells : (limit : Bounds) (replica : Replica K D g h i) (seen log : List (Entry K D g h i)) (exact : Bool) → is_rooted_log seen ≡ true → Begins seen log → IsTied limit (shown_at told fuse own faults quiet schedule replica) (items_at told fuse own faults quiet schedule log)
       → (exact ≡ true → tells (items_at told fuse own faults quiet schedule seen) ≡ true) → exact ≡ true → is_some (told replica.keeper) ≡ true
@@ -119,10 +123,10 @@ module _ {K D : Type 0} {g : keeper.Ghosts K D} {h : counted.Ghosts K} {i : coun
   seat_whole seen log new after list result unsealed begins is whole =
       subst (λ (l : List (Entry K D g h i)). OnOk result (IsWholeFace (items_at told fuse own faults quiet schedule l) list)) (sym is) (whole (begins_on is_unsealed seen log unsealed begins))
 
-  pub seat_after : {A : Type 0} (limit : Bounds) (now : Shown) (seen log new after : List (Entry K D g h i)) (old list : List Block) (result : Result A CoreError) → is_rooted_log seen ≡ true → is_open seen ≡ true → Begins seen log → Begins log new → after ≡ new
-      → IsTied limit now (items_at told fuse own faults quiet schedule new) → IsFaceOf (items_at told fuse own faults quiet schedule seen) old → OnErr result (list ≡ old) → (is_open log ≡ true → OnOk result (IsWholeFace (items_at told fuse own faults quiet schedule new) list))
+  pub seat_after : {A : Type 0} (limit : Bounds) (now : Shown) (first seen log new after : List (Entry K D g h i)) (old list : List Block) (result : Result A CoreError) → is_rooted_log first ≡ true → is_open seen ≡ true → Begins first seen → Begins seen log → Begins log new
+      → after ≡ new → IsTied limit now (items_at told fuse own faults quiet schedule new) → IsFaceOf (items_at told fuse own faults quiet schedule first) old → OnErr result (list ≡ old) → (is_open log ≡ true → OnOk result (IsWholeFace (items_at told fuse own faults quiet schedule new) list))
       → IsFaceOf (items_at told fuse own faults quiet schedule after) list
-  seat_after limit now seen log new after old list result rooted unsealed begins extends is tied face same whole =
+  seat_after limit now first seen log new after old list result rooted unsealed early begins extends is tied face same whole =
       subst (λ (l : List (Entry K D g h i)). IsFaceOf (items_at told fuse own faults quiet schedule l) list) (sym is)
-      (face_after (items_at told fuse own faults quiet schedule seen) (items_at told fuse own faults quiet schedule new) old list result (rooted_items seen rooted) tied.grown
-      (begins_items seen new (begins_trans seen log new begins extends)) face same (whole (begins_on is_unsealed seen log unsealed begins)))
+      (face_after (items_at told fuse own faults quiet schedule first) (items_at told fuse own faults quiet schedule new) old list result (rooted_items first rooted) tied.grown
+      (begins_items first new (begins_trans first seen new early (begins_trans seen log new begins extends))) face same (whole (begins_on is_unsealed seen log unsealed begins)))

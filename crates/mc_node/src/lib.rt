@@ -12,6 +12,6 @@ mod stored;
 pub use entry::Entry;
 pub use error::TryError;
 pub use hired::Hired;
-pub use node::{Node, NodeRefused, NodeSeat, Seen};
+pub use node::{Node, NodeGlimpse, NodeRefused, NodeSeat, Seen};
 pub use note::Note;
 pub use stored::Stored;

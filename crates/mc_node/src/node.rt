@@ -1,12 +1,12 @@
 // The node and its seats.
 ghost use Rattle.std.specs.Prelude.{◌≡◌, true};
-ghost use Rattle.mc_turn.specs.Seats.{view, IsIdle};
+ghost use Rattle.mc_turn.specs.Seats.{view, sight, IsIdle};
 ghost use Rattle.mc_node.specs.Entries.{is_rooted_log};
 
 use crate::entry::Entry;
 use mc_core::Replica;
 use mc_keep::Keeper;
-use mc_turn::{Seat, Story, Turn};
+use mc_turn::{Glimpse, Seat, Story, Turn};
 
 mod ahead;
 mod calls;
@@ -34,6 +34,16 @@ pub struct NodeSeat<T, K: Keeper> {
     pub seat: Seat<T, Entry<K>>,
     ghost rooted: { is_rooted_log (view seat).seen ≡ true },
     ghost idle: { IsIdle seat },
+}
+
+/// What a seat had seen of the log, as a token without bytes that another thread may learn with a seat of its own.
+///
+/// Condition of each call that takes one: it is of this node.
+#[derive(Drop)]
+pub struct NodeGlimpse<K: Keeper> {
+    /// The glimpse of the turn.
+    pub glimpse: Glimpse<Entry<K>>,
+    ghost rooted: { is_rooted_log (sight glimpse) ≡ true },
 }
 
 /// There was no memory for a node. The replica comes back.

@@ -52,6 +52,8 @@ mod replicas;
 #[cfg(test)]
 mod rows;
 #[cfg(test)]
+mod sharing;
+#[cfg(test)]
 mod shops;
 #[cfg(test)]
 mod shown;

@@ -1,5 +1,5 @@
 -- Each step on a turn's table keeps the rule.
-use Rattle.std.proofs.Common.{◌≡◌, ℕ, zero, suc, ◌+◌, ◌-◌, ◌<◌, ◌≤◌, eqb, ◌≢◌, true≢false, List, [], ◌∷◌, ◌++◌, length, get_or, set, sym, refl, ap, ◌∙◌, subst, inl, inr, ⊎_elim, Option, Some, None, is_none, unwrap_or, arith, append_assoc, eq-eqb, ne_eqb}
+use Rattle.std.proofs.Common.{◌≡◌, ℕ, zero, suc, ◌+◌, ◌-◌, ◌<◌, ◌≤◌, eqb, ◌≢◌, true≢false, List, [], ◌∷◌, ◌++◌, length, get_or, set, sym, refl, ap, ◌∙◌, subst, inl, inr, ⊎_elim, Option, Some, None, is_none, unwrap_or, arith, append-nil, append_assoc, eq-eqb, ne_eqb}
 use mathlib.Core.Option.{some}
 use mathlib.Core.Option as maybe
 use mathlib.Core.Logic.{dite}
@@ -10,8 +10,8 @@ use prog.Atomic.{either}
 use Rattle.atomic_table.specs.Table.{State, Me, step, keeps, takes, gives, stepped, opening, rest, put_back, Allows, Splits, Joins, Final, Seen}
 use Rattle.atomic_table.proofs.Lists.{at_set, set_again, set_else, at_snoc, at_longer}
 use Rattle.mc_turn.specs.declared.view.View.{View}
-use Rattle.mc_turn.specs.Lists.{Begins, places, times, total}
-use Rattle.mc_turn.specs.Views.{first_view, left_view, right_view, joined_view, spent_view, noted_view, held_view, KnowsPlaces, Extends, IsTaken}
+use Rattle.mc_turn.specs.Lists.{Begins, longer_of, places, shorter_of, times, total}
+use Rattle.mc_turn.specs.Views.{first_view, left_view, right_view, joined_view, learned_view, glimpse_view, spent_view, sight_in, IsGlimpse, noted_view, held_view, KnowsPlaces, Extends, IsTaken}
 use Rattle.mc_turn.specs.Rule.{parts_of, times_of, IsHeldBy, FitsView, FollowsRule}
 use Rattle.mc_turn.specs.Steps.{tries, publishes, releases, looks}
 use Rattle.mc_turn.proofs.Lists.{begins_self, begins_nil, begins_trans, begins_length, begins_both, longer_begins, shorter_begins, total_set, total_snoc, total_least, total_one, times_append, times_below, times_within, times_beyond}
@@ -74,7 +74,7 @@ module _ {T E : Type 0} (story : T → List E) (base : ℕ) where
     grown = λ all. let f = r.each id v at in let same : v.base ≡ base = f.begun (omega (arith, all)) in let a = r.started in omega arith;
     early = λ all p l. let f = r.each id v at in let same : v.base ≡ base = f.begun (omega (arith, all)) in let a = r.before p (omega arith) in let b = total_least (times_of p) s.views id v at in omega arith;
     whole = λ all p l h. let f = r.each id v at in let same : v.base ≡ base = f.begun (omega (arith, all)) in let a = r.within p (omega arith) h in
-        sym (total_one parts_of (times_of p) s.views id v at (λ j u e z. ap (times_of p) ((r.each j u e).spent z)) (r.shares ∙ sym all)) ∙ a;
+        sym (total_one parts_of (times_of p) s.views id v at (λ j u e z. ap (times p) ((r.each j u e).bare z)) (r.shares ∙ sym all)) ∙ a;
   }
 
   -- a step that changes no list
@@ -125,9 +125,9 @@ module _ {T E : Type 0} (story : T → List E) (base : ℕ) where
         ap (λ hs. get_elem? hs 0) home.1,
         subst (λ b. Rule (stepped s 0 (either b 1 n) id me.1 w (takes 0 (Some x)))) (sym (eq-eqb n 0 hit))
             (turned s r id v w (set s.words 0 1) (set s.homes 0 maybe.none) 1 id at refl refl (ap (λ ws. set ws 0 1) r.words) (λ z. absurd (omega arith)) (λ _. (refl, ap (λ hs. set hs 0 maybe.none) home.1)) (λ _. (w, set_there s.views id v w at, ap Some home.2))
-            record { seen = f.seen; shorter = f.shorter; begun = f.begun; spent = λ z. absurd (omega arith); held = inr (ap Some home.2, refl, refl) }
+            record { seen = f.seen; shorter = f.shorter; begun = f.begun; bare = λ z. absurd (omega arith); held = inr (ap Some home.2, refl, refl) }
             (λ j d other e. let g = r.each j d e in
-            record { seen = g.seen; shorter = g.shorter; begun = g.begun; spent = g.spent; held = ⊎_elim inl (λ t. absurd (let one = t.2 in omega arith)) g.held })),
+            record { seen = g.seen; shorter = g.shorter; begun = g.begun; bare = g.bare; held = ⊎_elim inl (λ t. absurd (let one = t.2 in omega arith)) g.held })),
         (
           (λ _. (x, refl, refl, record { seen = subst (Begins v.seen) (sym home.2) f.seen; idle = idle; known = subst (λ l. KnowsPlaces v (length l)) (sym home.2) (learns s r id v at) })),
           λ miss. absurd (miss hit),
@@ -139,7 +139,7 @@ module _ {T E : Type 0} (story : T → List E) (base : ℕ) where
         tt,
         subst (λ b. Rule (stepped s 0 (either b 1 n) id me.1 w keeps)) (sym (ne_eqb n 0 miss))
             (turned s r id v w (set s.words 0 n) s.homes r.word r.by at refl refl (set-get_or s.words 0 0 ∙ r.words) r.free r.taken (λ not. holder_set r.log s.views r.by id v w at refl (r.holder not))
-            record { seen = f.seen; shorter = f.shorter; begun = f.begun; spent = λ z. absurd (omega arith); held = f.held } (λ j d _ e. r.each j d e)),
+            record { seen = f.seen; shorter = f.shorter; begun = f.begun; bare = λ z. absurd (omega arith); held = f.held } (λ j d _ e. r.each j d e)),
         ((λ hit. absurd (miss hit)), λ _. (same ∙ (r.taken (λ z. miss (same ∙ z))).0, refl)),
       ))
 
@@ -158,8 +158,8 @@ module _ {T E : Type 0} (story : T → List E) (base : ℕ) where
         tt,
         turned s r id v w (set s.words 0 0) (put_back s.homes me.1) 0 r.by at refl refl (ap (λ ws. set ws 0 0) r.words)
             (λ _. (x, ap (put_back s.homes) out ∙ ap (λ hs. set hs 0 (some (Some x))) home, h.0)) (λ not. absurd (not refl)) (λ not. absurd (not refl))
-            record { seen = subst (Begins (story x)) h.0 (begins_self (story x)); shorter = f.shorter; begun = f.begun; spent = λ z. absurd (omega arith); held = inl refl }
-            (λ j d other e. let g = r.each j d e in record { seen = g.seen; shorter = g.shorter; begun = g.begun; spent = g.spent; held = inl (idle_else s r id j d h.1 other e) }),
+            record { seen = subst (Begins (story x)) h.0 (begins_self (story x)); shorter = f.shorter; begun = f.begun; bare = λ z. absurd (omega arith); held = inl refl }
+            (λ j d other e. let g = r.each j d e in record { seen = g.seen; shorter = g.shorter; begun = g.begun; bare = g.bare; held = inl (idle_else s r id j d h.1 other e) }),
         λ log is'. let same : story x ≡ log = one_some v.held (story x) log is is' in λ i. (record v { held = None; seen = same i }, rest (out i)),
       )
 
@@ -183,9 +183,9 @@ module _ {T E : Type 0} (story : T → List E) (base : ℕ) where
           holder = λ _. (w, ap (get_elem? (set s.views id w)) (sym h.1) ∙ set_there s.views id v w at, refl);
           started = let a = r.started in omega arith;
           each = seats_stay (FitsView base r.by r.word new) s.views id w
-              record { seen = begins_trans v.seen r.log new f.seen more'; shorter = begins_trans v.shorter r.log new f.shorter more'; begun = f.begun; spent = λ z. absurd (omega arith); held = inr (refl, h.1, h.2) }
+              record { seen = begins_trans v.seen r.log new f.seen more'; shorter = begins_trans v.shorter r.log new f.shorter more'; begun = f.begun; bare = λ z. absurd (omega arith); held = inr (refl, h.1, h.2) }
               (λ j d other e. let g = r.each j d e in
-              record { seen = begins_trans d.seen r.log new g.seen more'; shorter = begins_trans d.shorter r.log new g.shorter more'; begun = g.begun; spent = g.spent; held = inl (idle_else s r id j d h.1 other e) });
+              record { seen = begins_trans d.seen r.log new g.seen more'; shorter = begins_trans d.shorter r.log new g.shorter more'; begun = g.begun; bare = g.bare; held = inl (idle_else s r id j d h.1 other e) });
           shares = total_same parts_of s.views id v w at refl ∙ r.shares;
           before = λ p b. let a = r.started in let c = r.before p b in let t = times_below p (length old) k (omega arith) in sums p ∙ omega arith;
           within = λ p b c. elim (dec_lt p (length r.log)) [
@@ -211,10 +211,33 @@ module _ {T E : Type 0} (story : T → List E) (base : ℕ) where
         holder = λ not. let t = holder_set r.log s.views r.by id v w at refl (r.holder not) in (t.0, at_longer vs (u ∷ []) r.by t.0 t.1, t.2);
         started = r.started;
         each = λ j d e. ⊎_elim
-            (seats_stay (FitsView base r.by r.word r.log) s.views id w record { seen = f.seen; shorter = f.shorter; begun = λ _. f.begun (omega arith); spent = λ z. absurd (omega arith); held = f.held } (λ j d _ e. r.each j d e) j d)
-            (λ (t : u ≡ d). subst (FitsView base r.by r.word r.log j) t record { seen = f.seen; shorter = begins_nil r.log; begun = λ _. f.begun (omega arith); spent = λ z. absurd (omega arith); held = inl refl })
+            (seats_stay (FitsView base r.by r.word r.log) s.views id w record { seen = f.seen; shorter = f.shorter; begun = λ _. f.begun (omega arith); bare = λ z. absurd (omega arith); held = f.held } (λ j d _ e. r.each j d e) j d)
+            (λ (t : u ≡ d). subst (FitsView base r.by r.word r.log j) t record { seen = f.seen; shorter = begins_nil r.log; begun = λ _. f.begun (omega arith); bare = λ z. absurd (omega arith); held = inl refl })
             (at_snoc vs u d j e);
         shares = let a = total_set parts_of s.views id v w at in let b = total_snoc parts_of vs u in let c = r.shares in omega arith;
+        before = λ p h. same p ∙ r.before p h;
+        within = λ p l h. same p ∙ r.within p l h;
+        after = λ p h. same p ∙ r.after p h;
+      }
+
+  -- the seat stays, and a view without parts is there
+  pub glimpse_step : (id : ℕ) (v : V) → Splits Rule id v v (glimpse_view v.seen)
+  glimpse_step id v s r at = let f = r.each id v at in let u : V = glimpse_view v.seen in let vs : List V = set s.views id v in
+      let same : (p : ℕ) → total (times_of p) (vs ++ u ∷ []) ≡ total (times_of p) s.views = λ p.
+      let a = total_same (times_of p) s.views id v v at refl in let b = total_snoc (times_of p) vs u in omega arith in record {
+        log = r.log;
+        word = r.word;
+        by = r.by;
+        words = r.words;
+        free = r.free;
+        taken = r.taken;
+        holder = λ not. let t = holder_set r.log s.views r.by id v v at refl (r.holder not) in (t.0, at_longer vs (u ∷ []) r.by t.0 t.1, t.2);
+        started = r.started;
+        each = λ j d e. ⊎_elim
+            (seats_stay (FitsView base r.by r.word r.log) s.views id v f (λ j d _ e. r.each j d e) j d)
+            (λ (t : u ≡ d). subst (FitsView base r.by r.word r.log j) t record { seen = f.seen; shorter = begins_nil r.log; begun = λ z. absurd (omega arith); bare = λ _. refl; held = inl refl })
+            (at_snoc vs u d j e);
+        shares = let a = total_set parts_of s.views id v v at in let b = total_snoc parts_of vs u in let c = r.shares in omega arith;
         before = λ p h. same p ∙ r.before p h;
         within = λ p l h. same p ∙ r.within p l h;
         after = λ p h. same p ∙ r.after p h;
@@ -233,9 +256,9 @@ module _ {T E : Type 0} (story : T → List E) (base : ℕ) where
         taken = r.taken;
         holder = λ not. holder_set r.log vs r.by other u spent_view there (sym idle) (holder_set r.log s.views r.by id v w at refl (r.holder not));
         started = r.started;
-        each = seats_stay (FitsView base r.by r.word r.log) vs other spent_view record { seen = begins_nil r.log; shorter = begins_nil r.log; begun = λ h. absurd (omega arith); spent = λ _. refl; held = inl refl }
+        each = seats_stay (FitsView base r.by r.word r.log) vs other spent_view record { seen = begins_nil r.log; shorter = begins_nil r.log; begun = λ h. absurd (omega arith); bare = λ _. refl; held = inl refl }
             (λ j d _. seats_stay (FitsView base r.by r.word r.log) s.views id w
-            record { seen = longer_begins v.seen u.seen r.log f.seen g.seen; shorter = shorter_begins v.seen u.seen r.log f.seen g.seen; begun = λ _. f.begun some_part; spent = λ z. absurd (omega arith); held = f.held }
+            record { seen = longer_begins v.seen u.seen r.log f.seen g.seen; shorter = shorter_begins v.seen u.seen r.log f.seen g.seen; begun = λ _. f.begun some_part; bare = λ z. absurd (omega arith); held = f.held }
             (λ j d _ e. r.each j d e) j d);
         shares = let a = total_set parts_of s.views id v w at in let b = total_set parts_of vs other u spent_view there in let c = r.shares in omega arith;
         before = λ p h. same p ∙ r.before p h;
@@ -254,7 +277,7 @@ opens {T} {E} story x n long = record {
   holder = λ not. absurd (not refl);
   started = omega arith;
   each = λ j v e. ⊎_elim (λ (none : get_elem? [] j ≡ some v). absurd (maybe.some-ne-none v (sym none)))
-      (λ (t : first_view (story x) ≡ v). subst (FitsView (length (story x)) 0 0 (story x) j) t record { seen = begins_self (story x); shorter = begins_nil (story x); begun = λ _. refl; spent = λ z. absurd (omega arith); held = inl refl })
+      (λ (t : first_view (story x) ≡ v). subst (FitsView (length (story x)) 0 0 (story x) j) t record { seen = begins_self (story x); shorter = begins_nil (story x); begun = λ _. refl; bare = λ z. absurd (omega arith); held = inl refl })
       (at_snoc [] (first_view (story x)) v j e);
   shares = omega arith;
   before = λ p h. refl;
@@ -285,6 +308,18 @@ module _ {T E : Type 0} (story : T → List E) (base id : ℕ) (v : View E) wher
           known = subst (λ l. KnowsPlaces v (length l)) (sym home.2) (learns story base s r id v at);
         },
       )
+
+-- a glimpse has one view, so what it is joined as is learned alone
+abbrev first_of : {E : Type 0} → View E → List (View E) → View E
+first_of d [] = d
+first_of d (v ∷ vs) = v
+
+pub glimpse_is : {E : Type 0} (views : List (View E)) (u : View E) → IsGlimpse views → views ≡ u ∷ [] → u ≡ glimpse_view (sight_in views)
+glimpse_is views u one is = ap (first_of u) (sym is ∙ one)
+
+pub learned_by : {E : Type 0} (v u w : View E) (seen : List E) → u ≡ glimpse_view seen → w ≡ joined_view v u → w ≡ learned_view v seen
+learned_by {E} v u w seen is joined = let none : v.parts + 0 ≡ v.parts = omega arith in let F : View E → View E = λ x. joined_view v x in
+    joined ∙ (ap F is ∙ (λ i. record { seen = longer_of v.seen seen; shorter = shorter_of v.seen seen; mine = append-nil v.mine i; tried = v.tried; parts = none i; base = v.base; held = v.held }))
 
 -- one word more is noted
 pub noted : {E : Type 0} (v u w : View E) (words : List ℕ) (word : ℕ) → u ≡ noted_view v words → w ≡ noted_view u (word ∷ []) → w ≡ noted_view v (words ++ word ∷ [])

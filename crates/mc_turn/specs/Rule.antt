@@ -6,7 +6,7 @@ use lib.ListN.{get_elem?}
 use Rattle.atomic_table.specs.Table.{State}
 use Rattle.mc_turn.specs.declared.view.View.{View}
 use Rattle.mc_turn.specs.Lists.{Begins, times, total}
-use Rattle.mc_turn.specs.Views.{all_parts, spent_view}
+use Rattle.mc_turn.specs.Views.{all_parts}
 
 module _ {E : Type 0} where
   abbrev pub parts_of : View E → ℕ
@@ -24,9 +24,9 @@ module _ {E : Type 0} where
     -- what it has seen begins the value's list
     pub seen : Begins v.seen log
     pub shorter : Begins v.shorter log
-    -- it has a part, and carries the length at `new`, or else it is spent
+    -- it has a part, and carries the length at `new`, or else no place is its own
     pub begun : 0 < v.parts → v.base ≡ base
-    pub spent : v.parts ≡ 0 → v ≡ spent_view
+    pub bare : v.parts ≡ 0 → v.mine ≡ []
     -- it is no holder, or the one holder where word 0 is 1
     pub held : (v.held ≡ None) ⊎ ((v.held ≡ Some log) × (j ≡ by) × (word ≡ 1))
 

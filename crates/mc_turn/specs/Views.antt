@@ -1,5 +1,5 @@
 -- What a seat knows, and how each call changes it.
-use Rattle.std.specs.Prelude.{◌≡◌, ℕ, ◌+◌, ◌-◌, ◌/◌, ◌^◌, ◌<◌, ◌≤◌, List, [], ◌++◌, length, Option, Some, None}
+use Rattle.std.specs.Prelude.{◌≡◌, ℕ, ◌+◌, ◌-◌, ◌/◌, ◌^◌, ◌<◌, ◌≤◌, List, [], ◌∷◌, ◌++◌, length, Option, Some, None}
 use Rattle.mc_turn.specs.declared.view.View.{View}
 use Rattle.mc_turn.specs.Lists.{Begins, longer_of, shorter_of, places, times}
 
@@ -34,8 +34,24 @@ module _ {E : Type 0} where
         held = v.held;
       }
 
+  -- a view without parts, which has seen this list, and that of a seat that is spent
+  abbrev pub glimpse_view : List E → View E
+  glimpse_view seen = record { seen = seen; shorter = []; mine = []; tried = []; parts = 0; base = 0; held = None }
+
   abbrev pub spent_view : View E
-  spent_view = record { seen = []; shorter = []; mine = []; tried = []; parts = 0; base = 0; held = None }
+  spent_view = glimpse_view []
+
+  -- the seat learns of a list: it has then seen the longer of both
+  abbrev pub learned_view : View E → List E → View E
+  learned_view v seen = record v { seen = longer_of v.seen seen; shorter = shorter_of v.seen seen }
+
+  -- what the first of some views has seen, and that it is the one view of a glimpse
+  abbrev pub sight_in : List (View E) → List E
+  sight_in [] = []
+  sight_in (v ∷ vs) = v.seen
+
+  abbrev pub IsGlimpse : List (View E) → Type 0
+  IsGlimpse views = views ≡ glimpse_view (sight_in views) ∷ []
 
   -- the seat's exchanges have found these words
   abbrev pub noted_view : View E → List ℕ → View E

@@ -8,5 +8,5 @@ mod turn;
 mod view;
 
 pub use story::Story;
-pub use turn::{Busy, Held, Refused, Seat, Turn};
+pub use turn::{Busy, Glimpse, Held, Refused, Seat, Turn};
 pub use view::View;

@@ -65,6 +65,17 @@ impl<E> Split<View<E>> for SplitView {
     ghost right = { right_view };
 }
 
+/// A seat stays as it is, and what it has seen goes to a view without parts.
+pub(crate) struct GlimpseView;
+
+impl<E> Split<View<E>> for GlimpseView {
+    ghost use Rattle.mc_turn.specs.Views.{glimpse_view};
+
+    ghost left = { λ view. view };
+
+    ghost right = { λ view. glimpse_view view.seen };
+}
+
 /// A seat takes in another, which is spent.
 pub(crate) struct JoinViews;
 

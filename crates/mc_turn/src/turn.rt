@@ -1,11 +1,12 @@
 //! The turn, and what threads have of it.
 ghost use Rattle.std.specs.Prelude.{◌≡◌};
 ghost use Rattle.mc_turn.specs.Steps.{IsAble};
+ghost use Rattle.mc_turn.specs.Views.{IsGlimpse};
 
 use crate::rule::TurnRule;
 use crate::story::Story;
 use crate::view::View;
-use atomic_table::Table;
+use atomic_table::{Badge, Table};
 use std::alloc::Global;
 use std::marker::PhantomData;
 use std::snapshot::Snapshot;
@@ -31,6 +32,16 @@ pub struct Turn<T: Story> {
 pub struct Seat<T, E> {
     seat: atomic_table::Seat<Option<T>, View<E>>,
     ghost able: { IsAble seat.me },
+}
+
+/// What a seat had seen of a turn, as a token without bytes, which any thread may keep: a seat that learns it has seen
+/// no less. The turn can't be called with it.
+///
+/// Condition of each call that takes a glimpse: it is one of this turn, which `glimpse` gave.
+#[derive(Drop)]
+pub struct Glimpse<E> {
+    badge: Badge<View<E>>,
+    ghost one: { IsGlimpse badge.views },
 }
 
 /// The value of a turn, which its owner may read and change. It can only be given back.

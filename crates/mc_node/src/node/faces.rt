@@ -4,7 +4,7 @@ ghost use Rattle.mc_turn.specs.Seats.{IsSeatOf};
 ghost use Rattle.mc_model.specs.Kept.{processed};
 ghost use Rattle.mc_core.specs.Exact.{DecidesAlone};
 ghost use Rattle.mc_node.specs.Entries.{StaysOpen, is_open, items};
-ghost use Rattle.mc_node.specs.Faces.{IsFaceOf, IsWholeFace};
+ghost use Rattle.mc_node.specs.Faces.{IsFaceOf, IsWholeFace, WasFaceOf};
 ghost use Rattle.mc_node.specs.Items.{tells};
 ghost use Rattle.mc_node.specs.Moves.{ReadDoes};
 ghost use Rattle.mc_node.specs.Seats.{knows};
@@ -26,8 +26,8 @@ impl<K: Keeper, J: Naming> Node<Stored<K, J>> {
     /// refusal leaves the face as it was. Refusals: `Stopped`, exactly where the log says that the keeper has failed.
     ///
     /// Conditions: the node isn't sealed. Where the keeper tells, the face's list is a beginning of the processed blocks
-    /// that the seat has seen, as it is where this seat brought it up last, or where the list is empty. Where the face is
-    /// exact, the keeper tells.
+    /// that some log showed with which begins what the seat has seen, as it is where this seat brought it up last, or has
+    /// learned of the seat that did, or where the list is empty. Where the face is exact, the keeper tells.
     pub fn catch_up<X: Exactness, W: Wait>(
         &self,
         alloc: Global,
@@ -37,7 +37,7 @@ impl<K: Keeper, J: Naming> Node<Stored<K, J>> {
     ) -> Result<Seen<u64>, CoreError>
         requires own { IsSeatOf self.now.turn seat.old.seat }
         requires unsealed { is_open (knows seat.old).seen ≡ true }
-        requires begins { IsFaceOf (items K.Keeper (knows seat.old).seen) face.old.list }
+        requires begins { WasFaceOf K.Keeper (knows seat.old).seen face.old.list }
         requires tells { X.exact ≡ true → tells (items K.Keeper (knows seat.old).seen) ≡ true }
         ensures own { IsSeatOf self.now.turn seat.new.seat }
         ensures open { StaysOpen (knows seat.old).seen (knows seat.new).seen }

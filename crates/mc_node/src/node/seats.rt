@@ -1,8 +1,8 @@
 // How a node begins and ends, and its seats.
 ghost use Rattle.std.specs.Prelude.{◌≡◌, ◌<◌, true, false, [], IfOk, IfErr, IfSome};
 ghost use Rattle.mc_turn.specs.Lists.{Begins};
-ghost use Rattle.mc_turn.specs.Seats.{IsSeatOf};
-ghost use Rattle.mc_turn.specs.Views.{first_view, left_view, right_view, joined_view, AreApart, IsTaken};
+ghost use Rattle.mc_turn.specs.Seats.{IsGlimpseOf, IsSeatOf, sight};
+ghost use Rattle.mc_turn.specs.Views.{first_view, left_view, right_view, joined_view, learned_view, AreApart, IsTaken};
 ghost use Rattle.mc_core.specs.Replica.{replica_state};
 ghost use Rattle.mc_node.specs.Entries.{IsRootLog, IsSealedOf, StaysOpen, StaysSealed, is_open, is_sealed_log, items};
 ghost use Rattle.mc_node.specs.Entries.{shown};
@@ -12,7 +12,7 @@ ghost use Rattle.mc_core.specs.Words.{Becomes, Continues};
 ghost use Rattle.mc_node.specs.Ties.{IsTied, IsWithin, StoresFound};
 ghost use Rattle.mc_node.specs.Works.{WorkersLead};
 
-use super::{Node, NodeRefused, NodeSeat};
+use super::{Node, NodeGlimpse, NodeRefused, NodeSeat};
 use crate::stored::Stored;
 use mc_core::Replica;
 use mc_fetch::Naming;
@@ -97,6 +97,34 @@ impl<K: Keeper, J: Naming> Node<Stored<K, J>> {
     {
         let NodeSeat { seat: other } = other;
         self.turn.join(&mut seat.seat, other);
+    }
+
+    /// What the seat has seen, as a token that another seat of the node may learn. The seat stays as it is. Takes no
+    /// memory.
+    pub fn glimpse(&self, seat: &mut NodeSeat<Stored<K, J>, K>) -> NodeGlimpse<K>
+        requires own { IsSeatOf self.now.turn seat.old.seat }
+        ensures own { IsSeatOf self.now.turn seat.new.seat × IsGlimpseOf self.now.turn result.glimpse }
+        ensures same { knows seat.new ≡ knows seat.old }
+        ensures sight { sight result.glimpse ≡ (knows seat.old).seen }
+    {
+        NodeGlimpse {
+            glimpse: self.turn.glimpse(&mut seat.seat),
+        }
+    }
+
+    /// The seat learns what another one had seen: it has then seen the longer of both logs, which the shorter begins, and
+    /// all else that it knows stays. Takes no memory.
+    pub fn learn(&self, seat: &mut NodeSeat<Stored<K, J>, K>, glimpse: NodeGlimpse<K>)
+        requires own { IsSeatOf self.now.turn seat.old.seat × IsGlimpseOf self.now.turn glimpse.glimpse }
+        ensures own { IsSeatOf self.now.turn seat.new.seat }
+        ensures learned { knows seat.new ≡ learned_view (knows seat.old) (sight glimpse.glimpse) }
+        ensures one { Begins (knows seat.old).seen (knows seat.new).seen
+            × Begins (sight glimpse.glimpse) (knows seat.new).seen }
+        ensures open { StaysOpen (knows seat.old).seen (knows seat.new).seen }
+        ensures sealed { StaysSealed (knows seat.old).seen (knows seat.new).seen }
+    {
+        let NodeGlimpse { glimpse } = glimpse;
+        self.turn.learn(&mut seat.seat, glimpse);
     }
 
     /// Ends the node and hands its replica out, tied to a log that begins with all that the seat has seen. The `mine`

@@ -1,12 +1,12 @@
 //! The calls of a turn.
 ghost use Rattle.std.specs.Prelude.{◌≡◌, ◌≢◌, ℕ, ◌<◌, ◌≤◌, List, [], ◌∷◌, ◌++◌, length, All, Some, IfOk, IfErr};
 ghost use Rattle.mc_turn.specs.Lists.{Begins};
-ghost use Rattle.mc_turn.specs.Views.{first_view, left_view, right_view, joined_view, noted_view, held_view};
+ghost use Rattle.mc_turn.specs.Views.{first_view, left_view, right_view, joined_view, learned_view, noted_view, held_view};
 ghost use Rattle.mc_turn.specs.Views.{given_view, Extends, AreApart, KnowsPlaces, IsTaken};
-ghost use Rattle.mc_turn.specs.Seats.{view, IsSameSeat, IsSeatOf, IsIdle};
+ghost use Rattle.mc_turn.specs.Seats.{view, sight, IsSameSeat, IsSeatOf, IsGlimpseOf, IsIdle};
 
-use super::{Busy, Held, Refused, Seat, Turn};
-use crate::rule::{JoinViews, Look, Publish, Release, SplitView, TryTake};
+use super::{Busy, Glimpse, Held, Refused, Seat, Turn};
+use crate::rule::{GlimpseView, JoinViews, Look, Publish, Release, SplitView, TryTake};
 use crate::story::Story;
 use atomic_table::Table;
 use std::alloc::{AllocFailed, Global};
@@ -69,6 +69,36 @@ impl<T: Story> Turn<T> {
         let shared = &self.table.shared;
         shared.join_seat::<JoinViews>(&mut seat.seat, other);
         shared.load::<Look>(&mut seat.seat, 1);
+    }
+
+    /// What the seat has seen, as a token that another seat may learn. The seat stays as it is. It takes no memory.
+    pub fn glimpse(&self, seat: &mut Seat<T, T::Entry>) -> Glimpse<T::Entry>
+        requires own { IsSeatOf self.now seat.old }
+        ensures same { IsSameSeat seat.old seat.new × (view seat.new ≡ view seat.old) }
+        ensures own { IsGlimpseOf self.now result }
+        ensures sight { sight result ≡ (view seat.old).seen }
+    {
+        let shared = &self.table.shared;
+        let other = shared.split_seat::<GlimpseView>(&mut seat.seat);
+        Glimpse {
+            badge: other.into_badge(),
+        }
+    }
+
+    /// The seat learns what another one had seen: it has then seen the longer of both lists, which the shorter begins.
+    /// All else that it knows stays. It takes no memory.
+    pub fn learn(&self, seat: &mut Seat<T, T::Entry>, glimpse: Glimpse<T::Entry>)
+        requires own { IsSeatOf self.now seat.old × IsGlimpseOf self.now glimpse }
+        ensures same { IsSameSeat seat.old seat.new }
+        ensures learned { view seat.new ≡ learned_view (view seat.old) (sight glimpse) }
+        ensures one { Begins (view seat.old).seen (view seat.new).seen × Begins (sight glimpse) (view seat.new).seen }
+    {
+        let Glimpse { badge } = glimpse;
+        let other = badge.into_seat::<Option<T>>();
+        self.table
+            .shared
+            .join_seat::<JoinViews>(&mut seat.seat, other);
+        self.table.shared.load::<Look>(&mut seat.seat, 1);
     }
 
     /// The value, once the turn is got: it tries again until then. The value's list begins with all that the

@@ -5,8 +5,8 @@ use Rattle.mc_node.proofs.node.faces.Node+Stored+K+J.catch_up.Goals as goal
 
 pub catch_up-result-requires-clause-begins : goal.catch_up-result-requires-clause-begins
 catch_up-result-requires-clause-begins g c =
-    seat_begins g.K.Keeper.told g.K.Keeper.fuse g.K.Keeper.own g.K.Counted.faults g.K.Keeper.quiet g.K.Keeper.schedule c.kept_is_durable.ensures.back _ c.take-held.result.value.replica _ _ c.args.face.now.list
-    c.args.seat.now.rooted c.requires.unsealed c.take-held.ensures.taken.seen c.take-held.result.value.tied c.requires.begins
+    seat_begins g.K.Keeper.told g.K.Keeper.fuse g.K.Keeper.own g.K.Counted.faults g.K.Keeper.quiet g.K.Keeper.schedule c.kept_is_durable.ensures.back _ c.take-held.result.value.replica _ _ _ c.args.face.now.list
+    c.requires.begins.rooted c.requires.unsealed c.requires.begins.begins c.take-held.ensures.taken.seen c.take-held.result.value.tied c.requires.begins.face
 
 pub catch_up-result-requires-clause-tells : goal.catch_up-result-requires-clause-tells
 catch_up-result-requires-clause-tells g c =
@@ -22,6 +22,7 @@ returns-clause-whole g c =
 
 pub returns-clause-begins : goal.returns-clause-begins
 returns-clause-begins g c =
-    seat_after g.K.Keeper.told g.K.Keeper.fuse g.K.Keeper.own g.K.Counted.faults g.K.Keeper.quiet g.K.Keeper.schedule _ _ _ _ _ _ c.args.face.now.list c.catch_up-result.new.face.list c.catch_up-result.result
-    c.args.seat.now.rooted c.requires.unsealed c.take-held.ensures.taken.seen c.catch_up-result.ensures.extends (ap (λ v. v.seen) c.give.ensures.given) c.catch_up-result.new.self.tied c.requires.begins c.catch_up-result.ensures.err
+    seat_after g.K.Keeper.told g.K.Keeper.fuse g.K.Keeper.own g.K.Counted.faults g.K.Keeper.quiet g.K.Keeper.schedule _ _ _ _ _ _ _ c.args.face.now.list c.catch_up-result.new.face.list c.catch_up-result.result
+    c.requires.begins.rooted c.requires.unsealed c.requires.begins.begins c.take-held.ensures.taken.seen c.catch_up-result.ensures.extends (ap (λ v. v.seen) c.give.ensures.given) c.catch_up-result.new.self.tied c.requires.begins.face
+    c.catch_up-result.ensures.err
     c.catch_up-result.ensures.whole

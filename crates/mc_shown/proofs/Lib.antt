@@ -1,0 +1,4 @@
+pub mod Crossing
+pub mod NameFacts
+pub mod ReadFacts
+pub mod TurnFacts

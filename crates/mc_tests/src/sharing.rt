@@ -1,0 +1,482 @@
+// A face of a node that threads share: what its readers see beside those that write and show.
+ghost use Rattle.std.specs.Prelude.{◌≡◌, false, true, IfSome};
+ghost use Rattle.mc_turn.specs.Seats.{IsSeatOf};
+ghost use Rattle.mc_model.specs.State.{HasSoundMark};
+ghost use Rattle.mc_node.specs.Entries.{is_open};
+ghost use Rattle.mc_node.specs.Seats.{knows};
+ghost use Rattle.mc_shown.specs.Words.{IsAt, face_of};
+
+use crate::given::{Trial, empty, passes, passes_over};
+use crate::replicas::opened;
+use mc_base::{Bytes, List};
+use mc_core::{CoreError, Replica};
+use mc_face::{Exactness, FaceReader, Glance, GlanceError};
+use mc_keep::Keeper;
+use mc_keep_mem::FaultPlan;
+use mc_node::{Node, NodeSeat, Stored};
+use mc_shown::{FaceSeat, Faces, SharedFace, open_face};
+use std::alloc::{AllocError, Global};
+use std::marker::Brand;
+use std::sync::Wait;
+use std::test::Fail;
+use std::thread::{Threads, join};
+
+/// A face of which nothing is known but that its lists grow: the keepers here may tell or not.
+pub(crate) struct Loose;
+
+impl Exactness for Loose {
+    ghost use Rattle.std.specs.Prelude.{false};
+
+    ghost exact = { false };
+}
+
+type Shared<K> = Node<Stored<K, Brand>>;
+
+type Place<K> = NodeSeat<Stored<K, Brand>, K>;
+
+// Whether a reader answered with this value, over so many blocks.
+fn reads(
+    answer: Result<Glance<Option<Bytes>>, GlanceError>,
+    value: Option<&[u8]>,
+    length: u64,
+) -> bool {
+    let Ok(
+        Glance {
+            answer,
+            length: found,
+        },
+    ) = answer
+    else {
+        return false;
+    };
+    let same = match (&answer, value) {
+        (Some(bytes), Some(value)) => bytes.as_slice() == value,
+        (None, None) => true,
+        _ => false,
+    };
+    same && found == length
+}
+
+fn is_error<T>(answer: &Result<T, CoreError>, error: CoreError) -> bool {
+    match answer {
+        Ok(_) => false,
+        Err(other) => *other == error,
+    }
+}
+
+// A put and a delete are shown, and read once the reader is told of them.
+fn shows_writes<K: Keeper, W: Wait>(
+    alloc: Global,
+    node: &Shared<K>,
+    place: &mut Place<K>,
+    face: &SharedFace<K, Loose>,
+    seat: &mut FaceSeat<K, Loose>,
+    eye: &mut FaceReader<Loose>,
+    wait: &W,
+) -> Result<bool, CoreError>
+    requires place { IsSeatOf node.now.turn place.old.seat }
+    requires open { is_open (knows place.old).seen ≡ true }
+    requires seat { IsSeatOf face.now.turn seat.old.seat }
+    requires of { IsAt seat.old node.now.turn }
+    requires one { eye.old.face ≡ face_of seat.old }
+    ensures place { IsSeatOf node.now.turn place.new.seat }
+    ensures open { is_open (knows place.new).seen ≡ true }
+    ensures seat { IsSeatOf face.now.turn seat.new.seat }
+{
+    node.put(alloc, place, "/a", b"red", wait)?;
+    let unshown = reads(eye.get(alloc, "/a"), None, 0);
+    let first = face.show(alloc, seat, node, place, wait)?;
+    eye.tell(&first.answer);
+    let held = reads(eye.get(alloc, "/a"), Some(b"red"), 1);
+    node.delete(alloc, place, "/a", wait)?;
+    let still = reads(eye.get(alloc, "/a"), Some(b"red"), 1);
+    let second = face.show(alloc, seat, node, place, wait)?;
+    eye.tell(&second.answer);
+    let gone = reads(eye.get(alloc, "/a"), None, 2);
+    Ok(unshown && first.length == 1 && held && still && second.answer.length == 2 && gone)
+}
+
+// A read of the keeper fails in a show: the node has stopped, and the reader sees what was shown before.
+fn stops<K: Keeper, W: Wait>(
+    alloc: Global,
+    node: &Shared<K>,
+    place: &mut Place<K>,
+    face: &SharedFace<K, Loose>,
+    seat: &mut FaceSeat<K, Loose>,
+    eye: &mut FaceReader<Loose>,
+    wait: &W,
+) -> Result<bool, CoreError>
+    requires place { IsSeatOf node.now.turn place.old.seat }
+    requires open { is_open (knows place.old).seen ≡ true }
+    requires seat { IsSeatOf face.now.turn seat.old.seat }
+    requires of { IsAt seat.old node.now.turn }
+    requires one { eye.old.face ≡ face_of seat.old }
+    ensures place { IsSeatOf node.now.turn place.new.seat }
+    ensures open { is_open (knows place.new).seen ≡ true }
+    ensures seat { IsSeatOf face.now.turn seat.new.seat }
+{
+    let failed = face.show(alloc, seat, node, place, wait);
+    let stopped = face.show(alloc, seat, node, place, wait);
+    Ok(
+        is_error(&failed, CoreError::KeeperFault)
+            && is_error(&stopped, CoreError::Stopped)
+            && reads(eye.get(alloc, "/a"), None, 0),
+    )
+}
+
+// What is tried over a node with a face, and what is planned.
+#[derive(Clone, Copy)]
+enum Sharing {
+    ShowWrites,
+    Stop,
+    OpenTwice,
+}
+
+// Opens a face with one reader, tries this over it, and ends it: then the reader is shut out.
+fn tries<K: Keeper, W: Wait>(
+    sharing: Sharing,
+    alloc: Global,
+    node: &Shared<K>,
+    place: &mut Place<K>,
+    wait: &W,
+) -> Result<bool, CoreError>
+    requires place { IsSeatOf node.now.turn place.old.seat }
+    requires open { is_open (knows place.old).seen ≡ true }
+    ensures place { IsSeatOf node.now.turn place.new.seat }
+    ensures open { is_open (knows place.new).seen ≡ true }
+{
+    let faces = match open_face::<K, Brand, Loose, W>(alloc, node, place, 1, wait) {
+        Ok(faces) => faces,
+        Err(_) => return Err(CoreError::Memory),
+    };
+    let Faces {
+        face,
+        mut seat,
+        readers,
+    } = faces;
+    let mut readers = readers.into_vec();
+    let answer = match readers.pop() {
+        Some(mut eye) => {
+            let passed = match sharing {
+                Sharing::Stop => stops(alloc, node, place, &face, &mut seat, &mut eye, wait),
+                _ => shows_writes(alloc, node, place, &face, &mut seat, &mut eye, wait),
+            };
+            (passed, Some(eye))
+        }
+        None => (Err(CoreError::Memory), None),
+    };
+    face.end(seat, wait);
+    let (passed, eye) = answer;
+    let shut = match eye {
+        Some(mut eye) => matches!(eye.get(alloc, "/a"), Err(GlanceError::Shut)),
+        None => false,
+    };
+    Ok(passed? && shut)
+}
+
+// The same from a keeper on, with a second face beside the first where that is asked.
+fn plays<K: Keeper + Drop, W: Wait>(
+    sharing: Sharing,
+    keeper: K,
+    alloc: Global,
+    wait: &W,
+) -> Result<bool, CoreError>
+    requires { IfSome (K.told keeper) HasSoundMark }
+{
+    let replica = opened(alloc, keeper)?;
+    let Ok((node, mut place)) = Shared::<K>::new(alloc, replica, false, None) else {
+        return Err(CoreError::Memory);
+    };
+    let passed = match sharing {
+        Sharing::OpenTwice => tries_beside(alloc, &node, &mut place, wait),
+        _ => tries(sharing, alloc, &node, &mut place, wait),
+    };
+    drop(node.close(place, wait));
+    passed
+}
+
+// A face beside another one of the same node: each has its own readers, and both show all.
+fn tries_beside<K: Keeper, W: Wait>(
+    alloc: Global,
+    node: &Shared<K>,
+    place: &mut Place<K>,
+    wait: &W,
+) -> Result<bool, CoreError>
+    requires place { IsSeatOf node.now.turn place.old.seat }
+    requires open { is_open (knows place.old).seen ≡ true }
+    ensures place { IsSeatOf node.now.turn place.new.seat }
+{
+    let faces = match open_face::<K, Brand, Loose, W>(alloc, node, place, 16, wait) {
+        Ok(faces) => faces,
+        Err(_) => return Err(CoreError::Memory),
+    };
+    let Faces {
+        face,
+        mut seat,
+        readers,
+    } = faces;
+    let inner = tries(Sharing::ShowWrites, alloc, node, place, wait);
+    let shown = face.show(alloc, &mut seat, node, place, wait);
+    face.end(seat, wait);
+    Ok(inner? && shown?.answer.length == 2 && readers.len() == 16)
+}
+
+impl Trial for Sharing {
+    fn passes<K: Keeper + Drop, W: Wait>(
+        self,
+        alloc: Global,
+        keeper: K,
+        wait: &W,
+    ) -> Result<bool, Fail>
+    where
+        K::Desk: Drop,
+    {
+        Ok(plays(self, keeper, alloc, wait)?)
+    }
+}
+
+// A plan by which the second read fails: the first is the opening's.
+fn failing(alloc: Global) -> Result<FaultPlan, AllocError> {
+    let mut plan = FaultPlan::nothing(alloc);
+    plan.reads.push(2)?;
+    Ok(plan)
+}
+
+// What a thread writes, shows and reads with.
+struct Hand<K: Keeper> {
+    place: Place<K>,
+    seat: FaceSeat<K, Loose>,
+    eye: FaceReader<Loose>,
+}
+
+// Puts a key, shows the node, and reads: whether the reader, which is told, sees at least that list.
+fn write_once<K: Keeper, W: Wait>(
+    alloc: Global,
+    node: &Shared<K>,
+    face: &SharedFace<K, Loose>,
+    hand: &mut Hand<K>,
+    key: &str,
+    wait: &W,
+) -> bool
+    requires own { IsSeatOf node.now.turn hand.old.place.seat × IsSeatOf face.now.turn hand.old.seat.seat }
+    requires open { is_open (knows hand.old.place).seen ≡ true }
+    requires at { IsAt hand.old.seat node.now.turn }
+    requires one { hand.old.eye.face ≡ face_of hand.old.seat }
+    ensures own { IsSeatOf node.now.turn hand.new.place.seat × IsSeatOf face.now.turn hand.new.seat.seat }
+    ensures open { is_open (knows hand.new.place).seen ≡ true }
+    ensures at { IsAt hand.new.seat node.now.turn }
+    ensures one { hand.new.eye.face ≡ face_of hand.new.seat }
+{
+    let put = node.put(alloc, &mut hand.place, key, b"red", wait);
+    let shown = face.show(alloc, &mut hand.seat, node, &mut hand.place, wait);
+    let (Ok(_put), Ok(shown)) = (put, shown) else {
+        return false;
+    };
+    hand.eye.tell(&shown.answer);
+    match hand.eye.get(alloc, key) {
+        Ok(Glance { answer, length }) => answer.is_some() && length >= shown.length,
+        Err(_error) => false,
+    }
+}
+
+// The same so many times. None where one of them was not as it should be.
+fn write_some<K: Keeper, W: Wait>(
+    alloc: Global,
+    node: &Shared<K>,
+    face: &SharedFace<K, Loose>,
+    mut hand: Hand<K>,
+    key: &str,
+    count: u64,
+    wait: &W,
+) -> (Hand<K>, bool)
+    requires own { IsSeatOf node.now.turn hand.place.seat × IsSeatOf face.now.turn hand.seat.seat }
+    requires open { is_open (knows hand.place).seen ≡ true }
+    requires at { IsAt hand.seat node.now.turn }
+    requires one { hand.eye.face ≡ face_of hand.seat }
+    ensures own { IsSeatOf node.now.turn result.0.place.seat × IsSeatOf face.now.turn result.0.seat.seat }
+{
+    for _ in 0..count {
+        if !write_once(alloc, node, face, &mut hand, key, wait) {
+            return (hand, false);
+        }
+    }
+    (hand, true)
+}
+
+// Two threads write beside one another, and each reads at least what it has shown. How many blocks there are then.
+fn beside<K: Keeper + Drop + Send + Sync, R: Threads + Wait + Sync>(
+    alloc: Global,
+    replica: Replica<K>,
+    rt: &R,
+) -> Option<u64>
+where
+    K::Desk: Send,
+    requires runs { replica.stopped ≡ false }
+{
+    let Ok((node, mut place)) = Shared::<K>::new(alloc, replica, false, None) else {
+        return None;
+    };
+    let faces = match open_face::<K, Brand, Loose, R>(alloc, &node, &mut place, 2, rt) {
+        Ok(faces) => faces,
+        Err(_) => return None,
+    };
+    let Faces {
+        face,
+        mut seat,
+        readers,
+    } = faces;
+    let Some((one, other)) = two(readers) else {
+        face.end(seat, rt);
+        return None;
+    };
+    let first = Hand {
+        place: node.split(&mut place),
+        seat: face.split(&mut seat),
+        eye: one,
+    };
+    let second = Hand {
+        place,
+        seat,
+        eye: other,
+    };
+    let (shared, shown) = (&node, &face);
+    let ((first, good), (second, well)) = join(
+        rt,
+        || -> (Hand<K>, bool)
+            requires { IsSeatOf shared.now.turn first.place.seat × IsSeatOf shown.now.turn first.seat.seat
+                × (is_open (knows first.place).seen ≡ true) × IsAt first.seat shared.now.turn
+                × (first.eye.face ≡ face_of first.seat) }
+            ensures { IsSeatOf shared.entry.now.turn result.0.place.seat
+                × IsSeatOf shown.entry.now.turn result.0.seat.seat }
+        { write_some(alloc, shared, shown, first, "/a", 100, rt) },
+        || -> (Hand<K>, bool)
+            requires { IsSeatOf shared.now.turn second.place.seat × IsSeatOf shown.now.turn second.seat.seat
+                × (is_open (knows second.place).seen ≡ true) × IsAt second.seat shared.now.turn
+                × (second.eye.face ≡ face_of second.seat) }
+            ensures { IsSeatOf shared.entry.now.turn result.0.place.seat
+                × IsSeatOf shown.entry.now.turn result.0.seat.seat }
+        { write_some(alloc, shared, shown, second, "/b", 100, rt) },
+    );
+    let Hand {
+        mut place,
+        mut seat,
+        eye: _eye,
+    } = first;
+    let Hand {
+        place: _place,
+        seat: other,
+        eye: _other,
+    } = second;
+    face.join(&mut seat, other);
+    face.end(seat, rt);
+    let seen = node.get(alloc, &mut place, "/a", rt);
+    match seen {
+        Ok(seen) if good && well => Some(seen.length),
+        _ => None,
+    }
+}
+
+// Reads until all is shown, waiting for nobody: whether what is seen only grew, and has the key at last.
+fn watch(alloc: Global, mut eye: FaceReader<Loose>, key: &str, last: u64) -> bool {
+    let mut seen = 0u64;
+    for _ in 0..100_000_000u64 {
+        let Ok(Glance { answer, length }) = eye.get(alloc, key) else {
+            return false;
+        };
+        if length < seen {
+            return false;
+        }
+        if length == last {
+            return answer.is_some();
+        }
+        seen = length;
+    }
+    false
+}
+
+// A thread writes and shows, while another one reads beside it.
+fn watched<K: Keeper + Drop + Send + Sync, R: Threads + Wait + Sync>(
+    alloc: Global,
+    replica: Replica<K>,
+    rt: &R,
+) -> Option<bool>
+where
+    K::Desk: Send,
+    requires runs { replica.stopped ≡ false }
+{
+    let Ok((node, mut place)) = Shared::<K>::new(alloc, replica, false, None) else {
+        return None;
+    };
+    let faces = match open_face::<K, Brand, Loose, R>(alloc, &node, &mut place, 2, rt) {
+        Ok(faces) => faces,
+        Err(_) => return None,
+    };
+    let Faces {
+        face,
+        seat,
+        readers,
+    } = faces;
+    let Some((eye, other)) = two(readers) else {
+        face.end(seat, rt);
+        return None;
+    };
+    let hand = Hand { place, seat, eye };
+    let (shared, shown) = (&node, &face);
+    let ((hand, written), seen) = join(
+        rt,
+        || -> (Hand<K>, bool)
+            requires { IsSeatOf shared.now.turn hand.place.seat × IsSeatOf shown.now.turn hand.seat.seat
+                × (is_open (knows hand.place).seen ≡ true) × IsAt hand.seat shared.now.turn
+                × (hand.eye.face ≡ face_of hand.seat) }
+            ensures { IsSeatOf shared.entry.now.turn result.0.place.seat
+                × IsSeatOf shown.entry.now.turn result.0.seat.seat }
+        { write_some(alloc, shared, shown, hand, "/fruit/apple", 100, rt) },
+        || -> bool { watch(alloc, other, "/fruit/apple", 100) },
+    );
+    let Hand {
+        place: _place,
+        seat,
+        eye: _eye,
+    } = hand;
+    face.end(seat, rt);
+    Some(written && seen)
+}
+
+#[test]
+fn a_reader_beside_a_writer_waits_for_nobody(rt: HostRuntime) -> Result<(), Fail> {
+    let alloc = rt.alloc();
+    let replica = opened(alloc, empty(alloc)?)?;
+    assert!(rt; watched(alloc, replica, &rt) == Some(true));
+    Ok(())
+}
+
+// Two readers of those that were opened.
+fn two(readers: List<FaceReader<Loose>>) -> Option<(FaceReader<Loose>, FaceReader<Loose>)> {
+    let mut readers = readers.into_vec();
+    match (readers.pop(), readers.pop()) {
+        (Some(one), Some(other)) => Some((one, other)),
+        _ => None,
+    }
+}
+
+#[test]
+fn two_threads_write_and_read_what_they_show(rt: HostRuntime) -> Result<(), Fail> {
+    let alloc = rt.alloc();
+    let replica = opened(alloc, empty(alloc)?)?;
+    assert!(rt; beside(alloc, replica, &rt) == Some(200));
+    Ok(())
+}
+
+#[test]
+fn writes_are_shown_to_readers_that_are_told(rt: HostRuntime) -> Result<(), Fail> {
+    assert!(rt; passes(Sharing::ShowWrites, rt.alloc(), &rt)?);
+    assert!(rt; passes(Sharing::OpenTwice, rt.alloc(), &rt)?);
+    Ok(())
+}
+
+#[test]
+fn a_fault_stops_a_show(rt: HostRuntime) -> Result<(), Fail> {
+    let alloc = rt.alloc();
+    assert!(rt; passes_over(Sharing::Stop, alloc, failing(alloc)?, &rt)?);
+    Ok(())
+}
