@@ -101,7 +101,7 @@ def strangers(wave, lines, said):
     names = [it.body.name for it in wave]
     for name, verdict in said.items():
         is_part = name in names or any(name.startswith(f"{it}::") for it in names)
-        if verdict != "proved" and not is_part and LEANS not in verdict:
+        if not verdict.startswith("proved") and not is_part and LEANS not in verdict:
             yield name
     for line in lines:
         if is_complaint(line) and not NAMES.search(line) and not any(is_own(it, line) for it in wave):
@@ -113,6 +113,6 @@ def verdicts(wave, status, output):
     check came to no verdict on the functions, or refuses others."""
     lines = output.rstrip("\n").split("\n")
     said = {found[2]: found[3] for found in map(SAID.match, lines) if found}
-    if status != 1 or not lines[-1].startswith("only=") or any(True for _ in strangers(wave, lines, said)):
+    if status not in (0, 1) or not lines[-1].startswith("only=") or any(True for _ in strangers(wave, lines, said)):
         return None
     return [refusal(it, lines, said) for it in wave]
