@@ -1,15 +1,15 @@
 // A face of a node that threads share: what its readers see beside those that write and show.
-ghost use Rattle.std.specs.Prelude.{◌≡◌, false, true, IfSome};
+ghost use Rattle.std.specs.Prelude.{◌≡◌, true, IfSome};
 ghost use Rattle.mc_turn.specs.Seats.{IsSeatOf};
 ghost use Rattle.mc_model.specs.State.{HasSoundMark};
 ghost use Rattle.mc_node.specs.Entries.{is_open};
 ghost use Rattle.mc_node.specs.Seats.{knows};
 ghost use Rattle.mc_shown.specs.Words.{IsAt, face_of};
 
-use crate::given::{Trial, empty, passes, passes_over};
+use crate::given::{Trial, passes, passes_over};
 use crate::replicas::opened;
-use mc_base::{Bytes, List};
-use mc_core::{CoreError, Replica};
+use mc_base::Bytes;
+use mc_core::CoreError;
 use mc_face::{Exactness, FaceReader, Glance, GlanceError};
 use mc_keep::Keeper;
 use mc_keep_mem::FaultPlan;
@@ -19,7 +19,6 @@ use std::alloc::{AllocError, Global};
 use std::marker::Brand;
 use std::sync::Wait;
 use std::test::Fail;
-use std::thread::{Threads, join};
 
 /// A face of which nothing is known but that its lists grow: the keepers here may tell or not.
 pub(crate) struct Loose;
@@ -30,9 +29,9 @@ impl Exactness for Loose {
     ghost exact = { false };
 }
 
-type Shared<K> = Node<Stored<K, Brand>>;
+pub(crate) type Shared<K> = Node<Stored<K, Brand>>;
 
-type Place<K> = NodeSeat<Stored<K, Brand>, K>;
+pub(crate) type Place<K> = NodeSeat<Stored<K, Brand>, K>;
 
 // Whether a reader answered with this value, over so many blocks.
 fn reads(
@@ -240,231 +239,6 @@ fn failing(alloc: Global) -> Result<FaultPlan, AllocError> {
     let mut plan = FaultPlan::nothing(alloc);
     plan.reads.push(2)?;
     Ok(plan)
-}
-
-// What a thread writes, shows and reads with.
-struct Hand<K: Keeper> {
-    place: Place<K>,
-    seat: FaceSeat<K, Loose>,
-    eye: FaceReader<Loose>,
-}
-
-// Puts a key, shows the node, and reads: whether the reader, which is told, sees at least that list.
-fn write_once<K: Keeper, W: Wait>(
-    alloc: Global,
-    node: &Shared<K>,
-    face: &SharedFace<K, Loose>,
-    hand: &mut Hand<K>,
-    key: &str,
-    wait: &W,
-) -> bool
-    requires own { IsSeatOf node.now.turn hand.old.place.seat × IsSeatOf face.now.turn hand.old.seat.seat }
-    requires open { is_open (knows hand.old.place).seen ≡ true }
-    requires at { IsAt hand.old.seat node.now.turn }
-    requires one { hand.old.eye.face ≡ face_of hand.old.seat }
-    ensures own { IsSeatOf node.now.turn hand.new.place.seat × IsSeatOf face.now.turn hand.new.seat.seat }
-    ensures open { is_open (knows hand.new.place).seen ≡ true }
-    ensures at { IsAt hand.new.seat node.now.turn }
-    ensures one { hand.new.eye.face ≡ face_of hand.new.seat }
-{
-    let put = node.put(alloc, &mut hand.place, key, b"red", wait);
-    let shown = face.show(alloc, &mut hand.seat, node, &mut hand.place, wait);
-    let (Ok(_put), Ok(shown)) = (put, shown) else {
-        return false;
-    };
-    hand.eye.tell(&shown.answer);
-    match hand.eye.get(alloc, key) {
-        Ok(Glance { answer, length }) => answer.is_some() && length >= shown.length,
-        Err(_error) => false,
-    }
-}
-
-// The same so many times. None where one of them was not as it should be.
-fn write_some<K: Keeper, W: Wait>(
-    alloc: Global,
-    node: &Shared<K>,
-    face: &SharedFace<K, Loose>,
-    mut hand: Hand<K>,
-    key: &str,
-    count: u64,
-    wait: &W,
-) -> (Hand<K>, bool)
-    requires own { IsSeatOf node.now.turn hand.place.seat × IsSeatOf face.now.turn hand.seat.seat }
-    requires open { is_open (knows hand.place).seen ≡ true }
-    requires at { IsAt hand.seat node.now.turn }
-    requires one { hand.eye.face ≡ face_of hand.seat }
-    ensures own { IsSeatOf node.now.turn result.0.place.seat × IsSeatOf face.now.turn result.0.seat.seat }
-{
-    for _ in 0..count {
-        if !write_once(alloc, node, face, &mut hand, key, wait) {
-            return (hand, false);
-        }
-    }
-    (hand, true)
-}
-
-// Two threads write beside one another, and each reads at least what it has shown. How many blocks there are then.
-fn beside<K: Keeper + Drop + Send + Sync, R: Threads + Wait + Sync>(
-    alloc: Global,
-    replica: Replica<K>,
-    rt: &R,
-) -> Option<u64>
-where
-    K::Desk: Send,
-    requires runs { replica.stopped ≡ false }
-{
-    let Ok((node, mut place)) = Shared::<K>::new(alloc, replica, false, None) else {
-        return None;
-    };
-    let faces = match open_face::<K, Brand, Loose, R>(alloc, &node, &mut place, 2, rt) {
-        Ok(faces) => faces,
-        Err(_) => return None,
-    };
-    let Faces {
-        face,
-        mut seat,
-        readers,
-    } = faces;
-    let Some((one, other)) = two(readers) else {
-        face.end(seat, rt);
-        return None;
-    };
-    let first = Hand {
-        place: node.split(&mut place),
-        seat: face.split(&mut seat),
-        eye: one,
-    };
-    let second = Hand {
-        place,
-        seat,
-        eye: other,
-    };
-    let (shared, shown) = (&node, &face);
-    let ((first, good), (second, well)) = join(
-        rt,
-        || -> (Hand<K>, bool)
-            requires { IsSeatOf shared.now.turn first.place.seat × IsSeatOf shown.now.turn first.seat.seat
-                × (is_open (knows first.place).seen ≡ true) × IsAt first.seat shared.now.turn
-                × (first.eye.face ≡ face_of first.seat) }
-            ensures { IsSeatOf shared.entry.now.turn result.0.place.seat
-                × IsSeatOf shown.entry.now.turn result.0.seat.seat }
-        { write_some(alloc, shared, shown, first, "/a", 100, rt) },
-        || -> (Hand<K>, bool)
-            requires { IsSeatOf shared.now.turn second.place.seat × IsSeatOf shown.now.turn second.seat.seat
-                × (is_open (knows second.place).seen ≡ true) × IsAt second.seat shared.now.turn
-                × (second.eye.face ≡ face_of second.seat) }
-            ensures { IsSeatOf shared.entry.now.turn result.0.place.seat
-                × IsSeatOf shown.entry.now.turn result.0.seat.seat }
-        { write_some(alloc, shared, shown, second, "/b", 100, rt) },
-    );
-    let Hand {
-        mut place,
-        mut seat,
-        eye: _eye,
-    } = first;
-    let Hand {
-        place: _place,
-        seat: other,
-        eye: _other,
-    } = second;
-    face.join(&mut seat, other);
-    face.end(seat, rt);
-    let seen = node.get(alloc, &mut place, "/a", rt);
-    match seen {
-        Ok(seen) if good && well => Some(seen.length),
-        _ => None,
-    }
-}
-
-// Reads until all is shown, waiting for nobody: whether what is seen only grew, and has the key at last.
-fn watch(alloc: Global, mut eye: FaceReader<Loose>, key: &str, last: u64) -> bool {
-    let mut seen = 0u64;
-    for _ in 0..100_000_000u64 {
-        let Ok(Glance { answer, length }) = eye.get(alloc, key) else {
-            return false;
-        };
-        if length < seen {
-            return false;
-        }
-        if length == last {
-            return answer.is_some();
-        }
-        seen = length;
-    }
-    false
-}
-
-// A thread writes and shows, while another one reads beside it.
-fn watched<K: Keeper + Drop + Send + Sync, R: Threads + Wait + Sync>(
-    alloc: Global,
-    replica: Replica<K>,
-    rt: &R,
-) -> Option<bool>
-where
-    K::Desk: Send,
-    requires runs { replica.stopped ≡ false }
-{
-    let Ok((node, mut place)) = Shared::<K>::new(alloc, replica, false, None) else {
-        return None;
-    };
-    let faces = match open_face::<K, Brand, Loose, R>(alloc, &node, &mut place, 2, rt) {
-        Ok(faces) => faces,
-        Err(_) => return None,
-    };
-    let Faces {
-        face,
-        seat,
-        readers,
-    } = faces;
-    let Some((eye, other)) = two(readers) else {
-        face.end(seat, rt);
-        return None;
-    };
-    let hand = Hand { place, seat, eye };
-    let (shared, shown) = (&node, &face);
-    let ((hand, written), seen) = join(
-        rt,
-        || -> (Hand<K>, bool)
-            requires { IsSeatOf shared.now.turn hand.place.seat × IsSeatOf shown.now.turn hand.seat.seat
-                × (is_open (knows hand.place).seen ≡ true) × IsAt hand.seat shared.now.turn
-                × (hand.eye.face ≡ face_of hand.seat) }
-            ensures { IsSeatOf shared.entry.now.turn result.0.place.seat
-                × IsSeatOf shown.entry.now.turn result.0.seat.seat }
-        { write_some(alloc, shared, shown, hand, "/fruit/apple", 100, rt) },
-        || -> bool { watch(alloc, other, "/fruit/apple", 100) },
-    );
-    let Hand {
-        place: _place,
-        seat,
-        eye: _eye,
-    } = hand;
-    face.end(seat, rt);
-    Some(written && seen)
-}
-
-#[test]
-fn a_reader_beside_a_writer_waits_for_nobody(rt: HostRuntime) -> Result<(), Fail> {
-    let alloc = rt.alloc();
-    let replica = opened(alloc, empty(alloc)?)?;
-    assert!(rt; watched(alloc, replica, &rt) == Some(true));
-    Ok(())
-}
-
-// Two readers of those that were opened.
-fn two(readers: List<FaceReader<Loose>>) -> Option<(FaceReader<Loose>, FaceReader<Loose>)> {
-    let mut readers = readers.into_vec();
-    match (readers.pop(), readers.pop()) {
-        (Some(one), Some(other)) => Some((one, other)),
-        _ => None,
-    }
-}
-
-#[test]
-fn two_threads_write_and_read_what_they_show(rt: HostRuntime) -> Result<(), Fail> {
-    let alloc = rt.alloc();
-    let replica = opened(alloc, empty(alloc)?)?;
-    assert!(rt; beside(alloc, replica, &rt) == Some(200));
-    Ok(())
 }
 
 #[test]
