@@ -1,7 +1,7 @@
 //! The feed of changes.
 ghost use Rattle.std.specs.Prelude.{◌≡◌};
 
-use crate::histories::{hide, put};
+use crate::histories::history;
 use mc_base::{Bytes, List};
 use mc_feed::{Event, Feed, FeedRefused, Hook};
 use mc_model::Block;
@@ -37,8 +37,14 @@ struct Passed {
     spent: bool,
 }
 
-// The events that a hook takes of these blocks, as bytes: the position, the last byte of the key, and the value or `-`.
-fn told_of(alloc: Global, blocks: &[&Block], most: usize) -> Result<(Bytes, Passed), Fail> {
+// The events that a hook takes of these blocks in this order, as bytes: the position, the last byte of the key, and the
+// value or `-`.
+fn told_of(
+    alloc: Global,
+    blocks: &[Block],
+    order: &[usize],
+    most: usize,
+) -> Result<(Bytes, Passed), Fail> {
     let events = Events {
         events: List::new(alloc),
         most,
@@ -46,7 +52,10 @@ fn told_of(alloc: Global, blocks: &[&Block], most: usize) -> Result<(Bytes, Pass
     let mut feed = Feed::new(alloc, events);
     let mut short = false;
     let mut spent = false;
-    for block in blocks {
+    for at in order {
+        let Some(block) = blocks.get(*at) else {
+            break;
+        };
         match feed.pass(alloc, block) {
             Ok(()) => {}
             Err(FeedRefused::Memory) => short = true,
@@ -54,16 +63,7 @@ fn told_of(alloc: Global, blocks: &[&Block], most: usize) -> Result<(Bytes, Pass
         }
     }
     let length = feed.length();
-    let hook = feed.end();
-    let mut bytes = Bytes::new(alloc);
-    for event in hook.events.as_slice() {
-        bytes.push((event.position % 256) as u8)?;
-        bytes.push(*event.key.as_bytes().last().unwrap_or(&0))?;
-        match &event.value {
-            Some(value) => bytes.extend_from_slice(value.as_slice())?,
-            None => bytes.push(b'-')?,
-        }
-    }
+    let bytes = bytes_of(alloc, &feed.end())?;
     Ok((
         bytes,
         Passed {
@@ -74,42 +74,48 @@ fn told_of(alloc: Global, blocks: &[&Block], most: usize) -> Result<(Bytes, Pass
     ))
 }
 
+fn bytes_of(alloc: Global, hook: &Events) -> Result<Bytes, Fail> {
+    let mut bytes = Bytes::new(alloc);
+    for event in hook.events.as_slice() {
+        bytes.push((event.position % 256) as u8)?;
+        bytes.push(*event.key.as_bytes().last().unwrap_or(&0))?;
+        match &event.value {
+            Some(value) => bytes.extend_from_slice(value.as_slice())?,
+            None => bytes.push(b'-')?,
+        }
+    }
+    Ok(bytes)
+}
+
+// Whether blocks in this order, to a hook that takes so many events, are told so.
+fn are_told(
+    alloc: Global,
+    blocks: &[Block],
+    order: &[usize],
+    most: usize,
+    wanted: (&[u8], u64, bool),
+) -> Result<bool, Fail> {
+    let (told, passed) = told_of(alloc, blocks, order, most)?;
+    let (bytes, length, short) = wanted;
+    let all = Passed {
+        length,
+        short,
+        spent: short,
+    };
+    Ok(told.as_slice() == bytes && passed == all)
+}
+
 #[test]
 fn changes_are_told_and_no_others(rt: HostRuntime) -> Result<(), Fail> {
     let alloc = rt.alloc();
-    let first = put(alloc, None, "/a", &[1], 1)?;
-    let second = put(alloc, Some(&first), "/a", &[1], 2)?;
-    let third = put(alloc, Some(&second), "/b", &[], 3)?;
-    let fourth = hide(alloc, &third, "/a", &[&second], 4)?;
-    let fifth = hide(alloc, &fourth, "/a", &[&first], 5)?;
-    let all = Passed {
-        length: 5,
-        short: false,
-        spent: false,
-    };
-    let (told, passed) = told_of(alloc, &[&first, &second, &third, &fourth, &fifth], 100)?;
-    assert_eq!(rt;
-        told.as_slice(),
-        [0, b'a', 1, 2, b'b', 4, b'a', b'-'].as_slice()
-    );
-    assert!(rt; passed == all);
-    // a tombstone is there before its block
-    let (told, passed) = told_of(alloc, &[&first, &fourth, &second, &fifth, &third], 100)?;
-    assert_eq!(rt;
-        told.as_slice(),
-        [0, b'a', 1, 3, b'a', b'-', 4, b'b'].as_slice()
-    );
-    assert!(rt; passed == all);
+    let blocks = history(alloc)?;
+    let all = blocks.as_slice();
+    let told = [0, b'a', 1, 1, b'a', 2, 2, b'b', 3, b'a', 1, 4, b'a', b'-'];
+    assert!(rt; are_told(alloc, all, &[0, 1, 2, 3, 4], 100, (&told, 5, false))?);
+    // a tombstone is there before its block, which then changes nothing
+    let told = [0, b'a', 1, 3, b'a', b'-', 4, b'b'];
+    assert!(rt; are_told(alloc, all, &[0, 3, 1, 4, 2], 100, (&told, 5, false))?);
     // a hook that refuses has some first events, and from then on nothing is told
-    let (told, passed) = told_of(alloc, &[&first, &second, &third, &fourth, &fifth], 1)?;
-    assert_eq!(rt; told.as_slice(), [0, b'a', 1].as_slice());
-    assert!(rt;
-        passed
-            == Passed {
-                length: 2,
-                short: true,
-                spent: true
-            }
-    );
+    assert!(rt; are_told(alloc, all, &[0, 1, 2, 3, 4], 1, (&[0, b'a', 1], 1, true))?);
     Ok(())
 }

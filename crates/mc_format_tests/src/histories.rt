@@ -5,8 +5,25 @@ use mc_model::{Block, Delta, Element, Tomb, id_of};
 use std::alloc::Global;
 use std::test::Fail;
 
-/// A block that puts a value, with a link to the block before it.
-pub(crate) fn put(
+/// A put, a put over it, a put of another key without bytes, a delete that hides the second, and one that hides the first
+/// and the second.
+pub(crate) fn history(alloc: Global) -> Result<Vec<Block>, Fail> {
+    let mut blocks = Vec::with_capacity(alloc, 5)?;
+    let first = put(alloc, None, "/a", &[1], 1)?;
+    let second = put(alloc, Some(&first), "/a", &[2], 2)?;
+    let third = put(alloc, Some(&second), "/b", &[], 3)?;
+    let fourth = hide(alloc, &third, "/a", &[&second], 4)?;
+    let fifth = hide(alloc, &fourth, "/a", &[&first, &second], 5)?;
+    blocks.push_reserved(first);
+    blocks.push_reserved(second);
+    blocks.push_reserved(third);
+    blocks.push_reserved(fourth);
+    blocks.push_reserved(fifth);
+    Ok(blocks)
+}
+
+// A block that puts a value, with a link to the block before it.
+fn put(
     alloc: Global,
     before: Option<&Block>,
     key: &str,
@@ -29,8 +46,8 @@ pub(crate) fn put(
     )
 }
 
-/// A block that hides the elements of a key in other blocks, with a link to the block before it.
-pub(crate) fn hide(
+// A block that hides the elements of a key in other blocks, with a link to the block before it.
+fn hide(
     alloc: Global,
     before: &Block,
     key: &str,
