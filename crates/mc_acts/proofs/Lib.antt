@@ -1,4 +1,5 @@
 pub mod LiftFacts
+pub mod PastsFacts
 pub mod RecordFacts
 pub mod SameFacts
 pub mod SameRows

@@ -1,6 +1,6 @@
 -- From what a command did at a seat to what it did in a world.
 use Rattle.std.proofs.Common.{◌≡◌, ◌++◌, arith, not, ◌&&◌, ℕ, Bool, true, false, true≢false, List, [], ◌∷◌, Option, Some, None, Result, Ok, Err, refl, sym, subst, ap, inl, inr, ◌∙◌, ◌<◌, ◌≤◌, length, map, nat_lt, set, zero, suc}
-use Rattle.std.specs.Prelude.{◌||◌, ◌+◌, ◌-◌, cond, IfOk, IfSome, IsErrOf, unwrap_or}
+use Rattle.std.specs.Prelude.{⊤, ◌||◌, ◌+◌, ◌-◌, cond, IfOk, IfSome, IsErrOf, unwrap_or}
 use Rattle.std.specs.List.{list_all, slice_get, sum_by}
 use Rattle.std.specs.Option.{option_map}
 use Rattle.std.specs.Result.{is_ok}
@@ -21,23 +21,25 @@ use Rattle.mc_core.specs.Hears.{written_cast}
 use Rattle.mc_core.specs.Reads.{read_refusal}
 use Rattle.mc_core.specs.Refusals.{Is, running_refusal}
 use Rattle.mc_script.specs.declared.command.Command.{Command}
-use Rattle.mc_script.specs.declared.command.Command.TheVariants.{Cast, Hear}
+use Rattle.mc_script.specs.declared.command.Command.TheVariants.{Cast, Export, Hear, Import}
 use Rattle.mc_script.specs.declared.reply.Reply.{Reply}
-use Rattle.mc_script.specs.declared.reply.Reply.TheVariants.{FaultKeeper, Message}
+use Rattle.mc_script.specs.declared.reply.Reply.TheVariants.{Car, FaultKeeper, Message, RefusedRoots}
 use Rattle.mc_seats.specs.declared.error.ActError.{ActError}
 use Rattle.mc_seats.specs.declared.error.ActError.TheVariants.{BadLine, Memory}
+use Rattle.mc_files.specs.Files.{IsExport}
+use Rattle.mc_seats.specs.declared.bag.Bag.{Bag}
 use Rattle.mc_seats.specs.declared.seat.Seat.{Seat}
 use Rattle.mc_seats.specs.declared.world.World.{World}
 use Rattle.mc_seats.specs.Arming.{arming}
-use Rattle.mc_seats.specs.Asks.{among_by, arms, fail_by, focus, focus_by, has_message, is_among, is_named, is_there, may_by, message_at}
+use Rattle.mc_seats.specs.Asks.{among_by, arms, fail_by, focus, focus_by, has_car, has_message, has_text, is_among, is_named, is_there, may_by, text_at}
 use Rattle.mc_seats.specs.Calls.{calls_by, is_call}
-use Rattle.mc_seats.specs.Doing.{Act, At, Calls, Casts, Doing, Tends, doing}
+use Rattle.mc_seats.specs.Doing.{Act, At, Calls, Casts, Doing, Exports, Tends, doing}
 use Rattle.mc_seats.specs.Tending.{fuses}
 use Rattle.mc_seats.specs.Keepers.{AllLater, IsPaid, WorldGoes, armed_at, armed_in, desk_count, desks_in, is_calm_desk, is_calm_keeper, keeper_of, own_in}
 use Rattle.mc_seats.specs.Effects.{AsksAt, DoneAt, Leaves, RefusedAt, asks_by, refused_by}
 use Rattle.mc_seats.specs.Record.{RoseAt, RoseIn}
 use Rattle.mc_seats.specs.Step.{CutShort, LeavesStep, Row, Says, Sets, ShortAt, ShortIn, StillRuns, answers_fault, asked_by, is_fault, refuses_by, says_by, sets_by}
-use Rattle.mc_seats.specs.Words.{ActsOn, CastActs, EarlyRow, KeeperGoes, SaysHeads, SeatActsIn, SeatRow, can_fail, has_some, place, state}
+use Rattle.mc_seats.specs.Words.{ActsOn, AsksActs, EarlyRow, FitsExport, IsCastOf, KeeperGoes, Says as SaysKept, SeatActsIn, SeatRow, can_fail, has_some, place, state}
 use Rattle.mc_seats.specs.Worlds.{AtPlace, MovedAt, Place, WorldState, is_down, places_of, state_at}
 use Rattle.mc_seats.proofs.SeatFacts.{all_of_set, both, first, get_of_set, paid_beside, paid_none, paid_of_set, rest, set_of_get}
 use Rattle.mc_seats.proofs.WorkedFacts.{pull_by, short_from}
@@ -113,33 +115,40 @@ pub arm_says : (r commit : ℕ) (after : Bool) (w : WorldState) (reply : Reply) 
 arm_says r commit true w reply = tt
 arm_says r commit false w reply = tt
 
-pub arm_there : (count : ℕ) (bag : List (List ℕ)) (r commit : ℕ) (after : Bool) → nat_lt r count ≡ true → is_among count bag (arming r commit after) ≡ true
+pub arm_there : (count : ℕ) (bag : Bag) (r commit : ℕ) (after : Bool) → nat_lt r count ≡ true → is_among count bag (arming r commit after) ≡ true
 arm_there count bag r commit true there = there
 arm_there count bag r commit false there = there
 
 -- a command of one replica that is there names one of the seats
-at_for : (count : ℕ) (bag : List (List ℕ)) (d : Doing) → calls_by d ≡ true → among_by count bag d ≡ true → unwrap_or (focus_by d) 0 < count
+at_for : (count : ℕ) (bag : Bag) (d : Doing) → calls_by d ≡ true → among_by count bag d ≡ true → unwrap_or (focus_by d) 0 < count
 at_for count bag (At r (Calls call)) is there = ltb-true r count there
 at_for count bag d is there = never is
 
-pub call_within : {A : Type 0} (f : A → Place) (xs : List A) (bag : List (List ℕ)) (command : Command) → is_call command ≡ true → is_among (length (map f xs)) bag command ≡ true → unwrap_or (focus command) 0 < length xs
+pub call_within : {A : Type 0} (f : A → Place) (xs : List A) (bag : Bag) (command : Command) → is_call command ≡ true → is_among (length (map f xs)) bag command ≡ true → unwrap_or (focus command) 0 < length xs
 call_within f xs bag command is there = subst (λ (n : ℕ). unwrap_or (focus command) 0 < n) (length-map xs f) (at_for (length (map f xs)) bag (doing command) is there)
 
-pub hear_within : {A : Type 0} (f : A → Place) (xs : List A) (bag : List (List ℕ)) (r message : ℕ) → is_among (length (map f xs)) bag (Hear r message) ≡ true → r < length xs
+pub hear_within : {A : Type 0} (f : A → Place) (xs : List A) (bag : Bag) (r message : ℕ) → is_among (length (map f xs)) bag (Hear r message) ≡ true → r < length xs
 hear_within f xs bag r message there = subst (λ (n : ℕ). r < n) (length-map xs f) (ltb-true r (length (map f xs)) (first (nat_lt r (length (map f xs))) (has_message bag message) there))
 
-pub heard_within : {A : Type 0} (f : A → Place) (xs : List A) (bag : List (List ℕ)) (r message : ℕ) → is_among (length (map f xs)) bag (Hear r message) ≡ true → has_message bag message ≡ true
+pub heard_within : {A : Type 0} (f : A → Place) (xs : List A) (bag : Bag) (r message : ℕ) → is_among (length (map f xs)) bag (Hear r message) ≡ true → has_message bag message ≡ true
 heard_within f xs bag r message there = rest (nat_lt r (length (map f xs))) (has_message bag message) there
 
 has_within : (count message : ℕ) → (nat_lt 0 message && not (nat_lt count message)) ≡ true → message - 1 < count
 has_within count message is = grind (arith, nat_tests, is)
 
-pub message_within : (bag : List (List ℕ)) (message : ℕ) → has_message bag message ≡ true → message - 1 < length bag
-message_within bag message is = has_within (length bag) message is
+pub text_within : (texts : List (List ℕ)) (number : ℕ) → has_text texts number ≡ true → number - 1 < length texts
+text_within texts number is = has_within (length texts) number is
 
--- the message of a number is the text at its place
-pub message_is : (bag : List (List ℕ)) (message : ℕ) (text : List ℕ) → slice_get bag (message - 1) ≡ Some text → message_at bag message ≡ text
-message_is bag message text stands = ap (λ (o : Option (List ℕ)). unwrap_or o []) stands
+-- the text of a number is that at its place
+pub text_is : (texts : List (List ℕ)) (number : ℕ) (text : List ℕ) → slice_get texts (number - 1) ≡ Some text → text_at texts number ≡ text
+text_is texts number text stands = ap (λ (o : Option (List ℕ)). unwrap_or o []) stands
+
+-- of a file
+pub import_within : {A : Type 0} (f : A → Place) (xs : List A) (bag : Bag) (r car : ℕ) → is_among (length (map f xs)) bag (Import r car) ≡ true → r < length xs
+import_within f xs bag r car there = subst (λ (n : ℕ). r < n) (length-map xs f) (ltb-true r (length (map f xs)) (first (nat_lt r (length (map f xs))) (has_car bag car) there))
+
+pub imported_within : {A : Type 0} (f : A → Place) (xs : List A) (bag : Bag) (r car : ℕ) → is_among (length (map f xs)) bag (Import r car) ≡ true → has_car bag car ≡ true
+imported_within f xs bag r car there = rest (nat_lt r (length (map f xs))) (has_car bag car) there
 
 -- a number below that of the seats is that of a replica
 pub within_places : {A : Type 0} (f : A → Place) (xs : List A) (n r : ℕ) → n ≡ length xs → r < n → nat_lt r (length (map f xs)) ≡ true
@@ -334,43 +343,90 @@ module _ {K D : Type 0} {g : keeper.Ghosts K D} {h : counted.Ghosts K} {i : coun
       entries_same = moved.entries;
     }
 
-  -- a message is sent
-  pub cast_sent : (r : ℕ) (x y : Seat K D g h i) (old new : World K D g h i) (text : List ℕ) (reply : Reply)
-      → slice_get old.seats.items r ≡ Some x → new.seats.items ≡ set old.seats.items r y → new.desks.items ≡ old.desks.items → new.down.items ≡ old.down.items → new.entries ≡ old.entries
-      → (new.bag ≡ old.bag ++ text ∷ []) × (reply ≡ Message (length old.bag + 1)) → SaysHeads text (place k x) (place k y) → KeeperGoes k 0 0 (keeper_of x) (keeper_of y)
-      → ActsOn k desk_faults (Cast r) (Ok reply) old new
-  cast_sent r x y old new text reply stands seats desks down entries sent says goes = record {
-    row = inl (inl (inr (record {
-      allowed = at_place (state k desk_faults old) r (place k x) (λ p. RefusedAt (state k desk_faults old) p (Cast r) None) (stands_at old.seats.items r x stands) (cast_allowed (state k desk_faults old) (place k x) says.up);
-      moved = record { old = place k x; new = place k y; stands = stands_at old.seats.items r x stands; after = set_at old.seats.items new.seats.items r y seats; holds = says.same };
-      says = tt;
-      around = record {
-        text = text;
-        is_text = at_place (state k desk_faults old) r (place k x) (λ p. IfSome (state_at p) (λ s. text ≡ written_cast (kept_of s.state.durable))) (stands_at old.seats.items r x stands) says.says;
-        numbered = sent.1;
-        sent = λ t. record { bag = sent.0 t; down = down t };
-      };
-    })));
+  -- a command of one replica that changes what is around
+  pub row_around : (r : ℕ) (x y : Seat K D g h i) (old new : World K D g h i) (command : Command) (one : OfOne (state k desk_faults old) command r) (reply : Reply) → slice_get old.seats.items r ≡ Some x → new.seats.items ≡ set old.seats.items r y
+      → Says (state k desk_faults old) command reply → Sets (state k desk_faults old) command reply (state k desk_faults new).around → RefusedAt (state k desk_faults old) (place k x) command None → DoneAt (state k desk_faults old) command (place k x) (place k y) reply
+      → Row (state k desk_faults old) command (RoseIn (λ (seat : Seat K D g h i). k.faults (keeper_of seat)) old.seats.items new.seats.items) (RoseIn (λ (seat : Seat K D g h i). k.own (keeper_of seat)) old.seats.items new.seats.items) (RoseIn (desk_count desk_faults) old.desks.items new.desks.items) reply (state k desk_faults new)
+  row_around r x y old new command one reply stands seats says sets refused done = inl (inl (inr (record {
+    allowed = one.refuses None (at_place (state k desk_faults old) r (place k x) (λ p. RefusedAt (state k desk_faults old) p command None) (stands_at old.seats.items r x stands) refused);
+    moved = subst (λ (o : Option ℕ). MovedAt o (places_of k.told k.fuse old.seats.items) (places_of k.told k.fuse new.seats.items) (λ p q. DoneAt (state k desk_faults old) command p q reply)) (sym one.focused)
+        (record { old = place k x; new = place k y; stands = stands_at old.seats.items r x stands; after = set_at old.seats.items new.seats.items r y seats; holds = done });
+    says = says;
+    around = sets;
+  })))
+
+  -- such a command, which no fault cut short
+  acts_around : (r : ℕ) (x y : Seat K D g h i) (old new : World K D g h i) (command : Command) (one : OfOne (state k desk_faults old) command r) (reply : Reply) → slice_get old.seats.items r ≡ Some x → new.seats.items ≡ set old.seats.items r y
+      → new.desks.items ≡ old.desks.items → new.entries ≡ old.entries → is_fault reply ≡ false → arms command ≡ 0 → KeeperGoes k 0 0 (keeper_of x) (keeper_of y)
+      → Says (state k desk_faults old) command reply → Sets (state k desk_faults old) command reply (state k desk_faults new).around → RefusedAt (state k desk_faults old) (place k x) command None → DoneAt (state k desk_faults old) command (place k x) (place k y) reply
+      → ActsOn k desk_faults command (Ok reply) old new
+  acts_around r x y old new command one reply stands seats desks entries plain none goes says sets refused done = record {
+    row = row_around r x y old new command one reply stands seats says sets refused done;
     short = λ no. absurd (no_err reply Memory no);
     not_bad = no_err reply BadLine;
-    goes = rw (sent.1) (goes_of r x y old new stands seats desks 0 0 goes);
+    goes = subst (λ (n : ℕ). WorldGoes k desk_faults (cond (is_fault reply) 1 0) n old new) (sym none) (subst (λ (b : Bool). WorldGoes k desk_faults (cond b 1 0) 0 old new) (sym plain) (goes_of r x y old new stands seats desks 0 0 goes));
     entries_same = entries;
   }
 
-  module _ {r : ℕ} {x y : Seat K D g h i} {old new : World K D g h i} (moved : OneMoved r x y old new) (there : is_there (state k desk_faults old) (Cast r) ≡ true) where
-    -- memory was wanting to make a message, or to send it
-    pub cast_err : (error : ActError) → CastActs k (Err error) x y → ActsOn k desk_faults (Cast r) (Err error) old new
-    cast_err Memory acts = lift_short (Cast r) moved (one_of (state k desk_faults old) r Casts refl) there (acts.short refl r) acts.goes
-    cast_err BadLine acts = absurd (acts.not_bad refl)
+  -- a message is sent
+  pub cast_sent : (r : ℕ) (x y : Seat K D g h i) (old new : World K D g h i) (text : List ℕ) (reply : Reply)
+      → slice_get old.seats.items r ≡ Some x → new.seats.items ≡ set old.seats.items r y → new.desks.items ≡ old.desks.items → new.down.items ≡ old.down.items → new.entries ≡ old.entries
+      → new.bag.cars ≡ old.bag.cars → (new.bag.messages ≡ old.bag.messages ++ text ∷ []) × (reply ≡ Message (length old.bag.messages + 1)) → SaysKept (λ text. ⊤) IsCastOf text (place k x) (place k y) → KeeperGoes k 0 0 (keeper_of x) (keeper_of y)
+      → ActsOn k desk_faults (Cast r) (Ok reply) old new
+  cast_sent r x y old new text reply stands seats desks down entries cars sent says goes =
+      acts_around r x y old new (Cast r) (one_of (state k desk_faults old) r Casts refl) reply stands seats desks entries (ap is_fault sent.1) refl goes tt
+      (record {
+        text = text;
+        is_text = at_place (state k desk_faults old) r (place k x) (λ p. IfSome (state_at p) (λ s. text ≡ written_cast (kept_of s.state.durable))) (stands_at old.seats.items r x stands) says.says;
+        numbered = sent.1;
+        sent = λ t. record { bag = record { messages = sent.0 t; cars = cars t }; down = down t };
+      })
+      (cast_allowed (state k desk_faults old) (place k x) says.up) says.same
 
-    pub cast_unsent : (text : List ℕ) → CastActs k (Ok (Ok text)) x y → ActsOn k desk_faults (Cast r) (Err Memory) old new
-    cast_unsent text acts = lift_short (Cast r) moved (one_of (state k desk_faults old) r Casts refl) there (short_self (Cast r) (place k x) (place k y) (λ s. refl) acts.sent.same) acts.goes
+  -- a file is made
+  pub export_filed : (r : ℕ) (x y : Seat K D g h i) (old new : World K D g h i) (text : List ℕ) (reply : Reply)
+      → slice_get old.seats.items r ≡ Some x → new.seats.items ≡ set old.seats.items r y → new.desks.items ≡ old.desks.items → new.down.items ≡ old.down.items → new.entries ≡ old.entries
+      → new.bag.messages ≡ old.bag.messages → (new.bag.cars ≡ old.bag.cars ++ text ∷ []) × (reply ≡ Car (length old.bag.cars + 1) (length text)) → SaysKept FitsExport IsExport (Ok text) (place k x) (place k y) → KeeperGoes k 0 0 (keeper_of x) (keeper_of y)
+      → ActsOn k desk_faults (Export r) (Ok reply) old new
+  export_filed r x y old new text reply stands seats desks down entries messages sent says goes =
+      acts_around r x y old new (Export r) (one_of (state k desk_faults old) r Exports refl) reply stands seats desks entries (ap is_fault sent.1) refl goes tt
+      (inl (record {
+        text = text;
+        is_text = at_place (state k desk_faults old) r (place k x) (λ p. IfSome (state_at p) (λ s. IsExport (kept_of s.state.durable) (Ok text))) (stands_at old.seats.items r x stands) says.says;
+        numbered = sent.1;
+        filed = λ t. record { bag = record { messages = messages t; cars = sent.0 t }; down = down t };
+      }))
+      (cast_allowed (state k desk_faults old) (place k x) says.up) says.same
 
-    pub cast_early : (reply : Reply) → CastActs k (Ok (Err reply)) x y → ActsOn k desk_faults (Cast r) (Ok reply) old new
-    cast_early reply acts = record {
-      row = early_in (Cast r) moved (one_of (state k desk_faults old) r Casts refl) reply (acts.early (state k desk_faults old) r);
+  -- or the heads are too many for one
+  pub export_many : (r : ℕ) (x y : Seat K D g h i) (old new : World K D g h i) (number : ℕ) → OneMoved r x y old new → SaysKept FitsExport IsExport (Err number) (place k x) (place k y) → KeeperGoes k 0 0 (keeper_of x) (keeper_of y)
+      → ActsOn k desk_faults (Export r) (Ok (RefusedRoots number)) old new
+  export_many r x y old new number moved says goes =
+      acts_around r x y old new (Export r) (one_of (state k desk_faults old) r Exports refl) (RefusedRoots number) moved.stands moved.seats moved.desks moved.entries refl refl goes tt
+      (inr (record {
+        number = number;
+        is_number = at_place (state k desk_faults old) r (place k x) (λ p. IfSome (state_at p) (λ s. IsExport (kept_of s.state.durable) (Err number))) (stands_at old.seats.items r x moved.stands) says.says;
+        many = says.fits;
+        says = refl;
+        same = around_same old new moved.bag moved.down;
+      }))
+      (cast_allowed (state k desk_faults old) (place k x) says.up) says.same
+
+  module _ {T : Type 0} {Fits : T → Type 0} {P : Kept → T → Type 0} (asks : ℕ → Command) {r : ℕ} {x y : Seat K D g h i} {old new : World K D g h i} (moved : OneMoved r x y old new) (one : OfOne (state k desk_faults old) (asks r) r)
+      (none : arms (asks r) ≡ 0) (self : (s : ReplicaState) → Leaves (asks r) s s) (there : is_there (state k desk_faults old) (asks r) ≡ true) where
+    -- memory was wanting to make what is asked for, or to keep it
+    pub asked_err : (error : ActError) → AsksActs k Fits P asks (Err error) x y → ActsOn k desk_faults (asks r) (Err error) old new
+    asked_err Memory acts = lift_short (asks r) moved one there (acts.short refl r) (subst (λ (n : ℕ). KeeperGoes k 0 n (keeper_of x) (keeper_of y)) (sym none) acts.goes)
+    asked_err BadLine acts = absurd (acts.not_bad refl)
+
+    pub asked_unsent : (value : T) → AsksActs k Fits P asks (Ok (Ok value)) x y → ActsOn k desk_faults (asks r) (Err Memory) old new
+    asked_unsent value acts = lift_short (asks r) moved one there (short_self (asks r) (place k x) (place k y) self acts.sent.same) (subst (λ (n : ℕ). KeeperGoes k 0 n (keeper_of x) (keeper_of y)) (sym none) acts.goes)
+
+    pub asked_early : (reply : Reply) → AsksActs k Fits P asks (Ok (Err reply)) x y → ActsOn k desk_faults (asks r) (Ok reply) old new
+    asked_early reply acts = record {
+      row = early_in (asks r) moved one reply (acts.early (state k desk_faults old) r);
       short = λ no. absurd (no_err reply Memory no);
       not_bad = no_err reply BadLine;
-      goes = goes_in (Cast r) moved (one_of (state k desk_faults old) r Casts refl) (cond (is_fault reply) 1 0) 0 acts.goes;
+      goes = goes_in (asks r) moved one (cond (is_fault reply) 1 0) (arms (asks r)) (subst (λ (n : ℕ). KeeperGoes k (cond (is_fault reply) 1 0) n (keeper_of x) (keeper_of y)) (sym none) acts.goes);
       entries_same = moved.entries;
     }

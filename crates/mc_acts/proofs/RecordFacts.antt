@@ -13,15 +13,16 @@ use Rattle.mc_core.specs.Events.{ReplicaState}
 use Rattle.mc_keep.specs.Calls.{Members}
 use Rattle.mc_keep.specs.declared.keeper.Keeper as keeper
 use Rattle.mc_script.specs.declared.command.Command.{Command}
-use Rattle.mc_script.specs.declared.command.Command.TheVariants.{Del, Step as StepOf, Storm}
+use Rattle.mc_script.specs.declared.command.Command.TheVariants.{Del, Import, Step as StepOf, Storm}
 use Rattle.mc_script.specs.declared.reply.Reply.{Reply}
+use Rattle.mc_seats.specs.declared.bag.Bag.{Bag}
 use Rattle.mc_seats.specs.declared.error.ActError.TheVariants.{Memory}
 use Rattle.mc_seats.specs.declared.entry.LineEntry.{LineEntry}
 use Rattle.mc_acts.specs.declared.record.Counts.{Counts}
 use Rattle.mc_seats.specs.declared.seat.Seat.{Seat}
 use Rattle.mc_seats.specs.declared.world.World.{World}
-use Rattle.mc_seats.specs.Asks.{among_by, arms, focus, focus_by, has_message, is_named, is_there}
-use Rattle.mc_seats.specs.Doing.{At, Doing, Hears, doing}
+use Rattle.mc_seats.specs.Asks.{among_by, arms, focus, focus_by, has_car, has_message, is_named, is_there}
+use Rattle.mc_seats.specs.Doing.{At, Doing, Hears, Imports, doing}
 use Rattle.mc_acts.specs.Counting.{HasRecord, desk_counts, entry_since, firsts, keeper_counts, risen_from, rises, seconds}
 use Rattle.mc_seats.specs.Keepers.{AllLater, DesksStay, IsPaid, WorldGoes, armed_in, counted_in, desk_count, desks_in, is_calm, is_calm_desk, is_calm_keeper, keeper_of, own_in}
 use Rattle.mc_seats.specs.Effects.{Leaves}
@@ -172,10 +173,12 @@ leaves_self : (command : Command) (s : ReplicaState) → Leaves command s s
 leaves_self (Del r key) s = inl refl
 leaves_self (StepOf r) s = inl refl
 leaves_self (Storm r writers writes) s = inl refl
+leaves_self (Import r car) s = ([], inl refl)
 leaves_self command s = refl
 
-focus_within : (count : ℕ) (bag : List (List ℕ)) (d : Doing) → among_by count bag d ≡ true → IfSome (focus_by d) (λ r. r < count)
+focus_within : (count : ℕ) (bag : Bag) (d : Doing) → among_by count bag d ≡ true → IfSome (focus_by d) (λ r. r < count)
 focus_within count bag (At r (Hears message)) there = ltb-true r count (first (nat_lt r count) (has_message bag message) there)
+focus_within count bag (At r (Imports car)) there = ltb-true r count (first (nat_lt r count) (has_car bag car) there)
 focus_within count bag (At r act) there = ltb-true r count there
 focus_within count bag d there = tt
 

@@ -23,6 +23,7 @@ use Rattle.mc_core.specs.Events.{ReplicaState, state_of}
 use Rattle.mc_script.specs.declared.command.Command.TheVariants.{Same as SameOf}
 use Rattle.mc_script.specs.declared.reply.Reply.{Reply}
 use Rattle.mc_script.specs.declared.reply.Reply.TheVariants.{FaultKeeper, Same, Stopped}
+use Rattle.mc_seats.specs.declared.bag.Bag.{Bag}
 use Rattle.mc_seats.specs.declared.error.ActError.TheVariants.{BadLine, Memory}
 use Rattle.mc_acts.specs.declared.sames.CompareError.{CompareError}
 use Rattle.mc_acts.specs.declared.sames.CompareError.TheVariants.{Fault, TooMany}
@@ -315,7 +316,7 @@ module _ {K D : Type 0} {g : keeper.Ghosts K D} {h : counted.Ghosts K} {i : coun
       same_stopped r other world x.0 y.0 x.1 y.1
       ((λ t. unwrap_or (option_map (is_up_seat k.told k.fuse) (sym x.1 t)) false && unwrap_or (option_map (is_up_seat k.told k.fuse) (sym y.1 t)) false) ∙ not_both)
 
-  pub same_within : (xs : List (Seat K D g h i)) (bag : List (List ℕ)) (r other : ℕ) → is_among (length (places_of k.told k.fuse xs)) bag (SameOf r other) ≡ true → (r < length xs) × (other < length xs)
+  pub same_within : (xs : List (Seat K D g h i)) (bag : Bag) (r other : ℕ) → is_among (length (places_of k.told k.fuse xs)) bag (SameOf r other) ≡ true → (r < length xs) × (other < length xs)
   same_within xs bag r other there =
       let len = length-map xs (place k) in
       (subst (λ (n : ℕ). r < n) len (ltb-true r (length (places_of k.told k.fuse xs)) (first _ _ there)), subst (λ (n : ℕ). other < n) len (ltb-true other (length (places_of k.told k.fuse xs)) (rest _ _ there)))

@@ -1,12 +1,12 @@
 // What a command names.
 ghost use Rattle.std.specs.Prelude.{◌≡◌, Some, unwrap_or, length};
-ghost use Rattle.mc_seats.specs.Asks.{focus, has_message, is_among, is_there};
+ghost use Rattle.mc_seats.specs.Asks.{focus, has_text, is_among, is_there};
 ghost use Rattle.mc_seats.specs.Words.{state};
 
 use mc_base::{Bytes, List};
 use mc_keep::Keeper;
 use mc_script::Command;
-use mc_seats::World;
+use mc_seats::{Bag, World};
 
 /// Whether all that a command names is there.
 pub fn is_there<K: Keeper>(world: &World<K>, command: &Command) -> bool
@@ -15,23 +15,24 @@ pub fn is_there<K: Keeper>(world: &World<K>, command: &Command) -> bool
     is_among(world.seats.as_slice().len() as u64, &world.bag, command)
 }
 
-// The same of so many replicas and these messages.
-fn is_among(count: u64, bag: &List<Bytes>, command: &Command) -> bool
+// The same of so many replicas and these messages and files.
+fn is_among(count: u64, bag: &Bag, command: &Command) -> bool
     ensures { result ≡ is_among count bag.now command.now }
 {
     match command {
-        Command::Wire { .. } => true,
-        Command::Hear { r, message } => *r < count && has_message(bag, *message),
+        Command::Wire { .. } | Command::CarIn { .. } => true,
+        Command::Hear { r, message } => *r < count && has_text(&bag.messages, *message),
+        Command::Import { r, car } => *r < count && has_text(&bag.cars, *car),
         Command::Link { r, other, .. } => *r < count && *other < count,
         Command::Same { r, other } => *r < count && *other < count,
         _ => replica_of(command) < count,
     }
 }
 
-fn has_message(bag: &List<Bytes>, message: u64) -> bool
-    ensures { result ≡ has_message bag.now message }
+fn has_text(texts: &List<Bytes>, number: u64) -> bool
+    ensures { result ≡ has_text texts.now number }
 {
-    0 < message && message <= bag.as_slice().len() as u64
+    0 < number && number <= texts.as_slice().len() as u64
 }
 
 // The replica that a command of one replica works on, and else 0.

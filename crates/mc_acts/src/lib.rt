@@ -3,6 +3,7 @@
 #![tactic(auto)]
 
 mod asks;
+mod files;
 mod messages;
 mod places;
 mod record;
@@ -10,6 +11,7 @@ mod sames;
 mod stepping;
 
 pub use asks::is_there;
+pub use files::{export_in, import_in, load_in};
 pub use messages::{cast_in, hear_in, send_in};
 pub use places::{arm_in, call_in, link_in, open_in, plant_in, state_in, stop_in};
 pub use record::{Counts, counts_of, record_line};

@@ -17,7 +17,7 @@ pub fn cast_in<K: Keeper>(world: &mut World<K>, alloc: Global, r: u64) -> Result
     ensures acts { ActsOn K.Keeper K.Desk.faults (Cast r) result world.old world.new }
 {
     match cast_at(&mut world.seats[r as usize], alloc) {
-        Ok(Ok(text)) => match send(&mut world.bag, text) {
+        Ok(Ok(text)) => match send(&mut world.bag.messages, text) {
             Ok(reply) => Ok(reply),
             Err(AllocError) => Err(ActError::Memory),
         },
@@ -35,7 +35,7 @@ pub fn send_in<K: Keeper>(
     ensures acts { ActsOn K.Keeper K.Desk.faults (Wire bytes.now) result world.old world.new }
 {
     match Bytes::from_slice(alloc, bytes) {
-        Ok(text) => match send(&mut world.bag, text) {
+        Ok(text) => match send(&mut world.bag.messages, text) {
             Ok(reply) => Ok(reply),
             Err(AllocError) => Err(ActError::Memory),
         },
@@ -53,16 +53,17 @@ pub fn hear_in<K: Keeper>(
     requires there { is_there (state K.Keeper K.Desk.faults world.old) (Hear r message) ≡ true }
     ensures acts { ActsOn K.Keeper K.Desk.faults (Hear r message) result world.old world.new }
 {
-    let text = world.bag.as_slice()[(message - 1) as usize].as_slice();
+    let text = world.bag.messages.as_slice()[(message - 1) as usize].as_slice();
     hear_at(&mut world.seats[r as usize], alloc, text)
 }
 
-// A message into the bag: its number, counted from 1.
-fn send(bag: &mut List<Bytes>, text: Bytes) -> Result<Reply, AllocError>
-    ensures ok { IfOk result (λ reply. (bag.new ≡ bag.old ++ text ∷ []) × (reply ≡ Message (length bag.old + 1))) }
-    ensures err { OnErr result (bag.new ≡ bag.old) }
+// A message behind others: its number, counted from 1.
+fn send(messages: &mut List<Bytes>, text: Bytes) -> Result<Reply, AllocError>
+    ensures ok { IfOk result (λ reply. (messages.new ≡ messages.old ++ text ∷ [])
+        × (reply ≡ Message (length messages.old + 1))) }
+    ensures err { OnErr result (messages.new ≡ messages.old) }
 {
-    let number = bag.as_slice().len() as u64 + 1;
-    bag.push(text)?;
+    let number = messages.as_slice().len() as u64 + 1;
+    messages.push(text)?;
     Ok(Reply::Message { number })
 }

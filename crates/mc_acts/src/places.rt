@@ -7,12 +7,14 @@ ghost use Rattle.mc_seats.specs.Calls.{is_call};
 ghost use Rattle.mc_seats.specs.Holds.{run_in};
 ghost use Rattle.mc_seats.specs.Keepers.{keeper_in, keeper_of};
 ghost use Rattle.mc_seats.specs.Effects.{armed};
+ghost use Rattle.mc_seats.specs.Pasts.{PastsFit};
 ghost use Rattle.mc_seats.specs.Words.{ActsOn, KeeperGoes, SeatActs, place, state};
 ghost use Rattle.mc_script.specs.declared.reply.Reply.{Reply};
 
 use crate::asks::replica_of;
 use mc_base::Cid;
 use mc_keep::{Fused, Keeper};
+use mc_past::Past;
 use mc_script::{Command, Reply};
 use mc_seats::{
     ActError, Held, Idle, Seat, World, call_at, open_at, plant_at, put_at, set_link, state_at,
@@ -20,18 +22,21 @@ use mc_seats::{
 };
 use std::alloc::{AllocError, Global};
 
-/// Executes a command that is one call of a replica.
+/// Executes a command that is one call of a replica, of each of which `pasts` has what is kept of its past.
 pub fn call_in<K: Keeper>(
     world: &mut World<K>,
+    pasts: &mut [Past],
     alloc: Global,
     command: &Command,
 ) -> Result<Reply, ActError>
     requires there { is_there (state K.Keeper K.Desk.faults world.old) command.now ≡ true }
     requires call { is_call command.now ≡ true }
+    requires fits { PastsFit (state K.Keeper K.Desk.faults world.old) pasts.old }
     ensures acts { ActsOn K.Keeper K.Desk.faults command.now result world.old world.new }
+    ensures fits { PastsFit (state K.Keeper K.Desk.faults world.old) pasts.new }
 {
     let r = replica_of(command) as usize;
-    call_at(&mut world.seats[r], alloc, command)
+    call_at(&mut world.seats[r], &mut pasts[r], alloc, command)
 }
 
 /// Asks a replica for its numbers.

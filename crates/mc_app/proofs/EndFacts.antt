@@ -39,7 +39,7 @@ use Rattle.mc_runs.specs.Runs.{Answer, MayAnswer}
 use Rattle.mc_app.specs.LineWords.{MayEnd}
 use Rattle.mc_seats.specs.Keepers.{Tally}
 use Rattle.mc_seats.specs.Words.{place}
-use Rattle.mc_seats.specs.Worlds.{Place, WorldState, place_with}
+use Rattle.mc_seats.specs.Worlds.{Place, WorldState, no_bag, place_with}
 use Rattle.mc_app.specs.declared.status.Status.{Status}
 use Rattle.mc_app.specs.declared.status.Status.TheVariants as status
 use Rattle.mc_app.proofs.RunFacts.{gives_up_first, nothing_said, nothing_yet, untouched}
@@ -55,7 +55,7 @@ start_place told = record { content = told; fuse = None; run = opens_run told; p
 
 -- a first world over what some keepers tell
 abbrev first_world : List (Option Kept) → WorldState
-first_world starts = record { places = map start_place starts; around = record { bag = []; down = [] } }
+first_world starts = record { places = map start_place starts; around = record { bag = no_bag; down = [] } }
 
 is_first : (starts : List (Option Kept)) → IsFirst starts (first_world starts)
 is_first starts = (all starts, refl)

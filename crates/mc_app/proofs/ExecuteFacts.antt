@@ -13,6 +13,7 @@ use Rattle.mc_script.specs.ReplyText.{reply_text}
 use Rattle.mc_script.specs.declared.command.Command.{Command}
 use Rattle.mc_script.specs.declared.reply.Reply.{Reply}
 use Rattle.mc_seats.specs.declared.error.ActError.{ActError}
+use Rattle.mc_seats.specs.declared.error.ActError.TheVariants.{BadLine, Memory}
 use Rattle.mc_seats.specs.declared.entry.LineEntry.{LineEntry}
 use Rattle.mc_seats.specs.declared.seat.Seat.{Seat}
 use Rattle.mc_seats.specs.declared.world.World.{World}
@@ -20,7 +21,7 @@ use Rattle.mc_seats.specs.Asks.{arms, is_named, is_there}
 use Rattle.mc_app.specs.Executes.{CutsShort, Executes, ExecutesPart, IsAnswered}
 use Rattle.mc_seats.specs.Keepers.{WorldGoes, desk_count, is_calm, is_calm_desk, is_calm_keeper, keeper_of}
 use Rattle.mc_app.specs.LineWords.{AnswersIn}
-use Rattle.mc_seats.specs.Record.{NamesNone, RoseIn}
+use Rattle.mc_seats.specs.Record.{IsLonger, NamesNone, RoseIn}
 use Rattle.mc_runs.specs.Runs.{Answer, names_none, owns_none}
 use Rattle.mc_seats.specs.Step.{IsFaulted, IsPeerFault, LeavesStep, Row, Step, answers_fault, is_fault}
 use Rattle.mc_seats.specs.Words.{DeskRose, KeeperRose, OwnRose, Records, Shortens, state, tally}
@@ -148,6 +149,12 @@ module _ {K D : Type 0} {g : keeper.Ghosts K D} {h : counted.Ghosts K} {i : coun
   pub still_goes : (error : ActError) (result : Result Reply ActError) → IsErrOf result error → WorldGoes k desk_faults (cond (answers_fault result) 1 0) (arms command) old new → WorldGoes k desk_faults 0 (arms command) old new
   still_goes error (Ok reply) is goes = absurd (cc)
   still_goes error (Err e) is goes = goes
+
+  -- the record has at most one entry more
+  pub longer : {P : Type 0} (result : Result Reply ActError) → IfOk result (Records k desk_faults command old new) → (IsErrOf result BadLine → P × (new ≡ old)) → (IsErrOf result Memory → Shortens k desk_faults command old new) → IsLonger old.entries new.entries
+  longer (Ok reply) line bad short = inr (line.entry, line.grows)
+  longer (Err BadLine) line bad short = inl (ap (λ (w : World K D g h i). w.entries) (bad refl).1)
+  longer (Err Memory) line bad short = inl (short refl).entries_same
 
   pub cut_short : Shortens k desk_faults command old new → WorldGoes k desk_faults 0 (arms command) old new → CutsShort (state k desk_faults old) (tally k desk_faults old) command (state k desk_faults new) (tally k desk_faults new)
   cut_short short goes = record { left = by_left short.left; paid = goes.paid; calm = goes.calm }

@@ -21,11 +21,12 @@ use Rattle.mc_runs.specs.Promises.{OnlyGrows}
 use Rattle.mc_script.specs.Line.{line_of}
 use Rattle.mc_script.specs.declared.command.Command.{Command}
 use Rattle.mc_script.specs.declared.reply.Reply.{Reply}
-use Rattle.mc_seats.specs.Asks.{among_by, has_message, is_among}
-use Rattle.mc_seats.specs.Doing.{At, Doing, Hears, doing}
+use Rattle.mc_seats.specs.declared.bag.Bag.{Bag}
+use Rattle.mc_seats.specs.Asks.{among_by, has_car, has_message, is_among}
+use Rattle.mc_seats.specs.Doing.{At, Doing, Hears, Imports, doing}
 use Rattle.mc_seats.specs.Starts.{AreStarts, IsFirst}
 use Rattle.mc_seats.specs.Step.{Step}
-use Rattle.mc_seats.specs.Worlds.{Place, WorldState}
+use Rattle.mc_seats.specs.Worlds.{Place, WorldState, no_bag}
 use Rattle.mc_seats.specs.declared.entry.LineEntry.{LineEntry}
 use Rattle.mc_seats.proofs.OpeningFacts.{second_true}
 
@@ -154,15 +155,16 @@ and_not : (b : Bool) → (b && not b) ≡ true → ⊥
 and_not true e = true≢false (sym e)
 and_not false e = true≢false (sym e)
 
-among_any : (replicas : ℕ) (bag : List (List ℕ)) (d : Doing) → among_by replicas [] d ≡ true → among_by replicas bag d ≡ true
-among_any replicas bag (At r (Hears message)) e = absurd (and_not (nat_lt 0 message) (second_true (nat_lt r replicas) (has_message [] message) e))
+among_any : (replicas : ℕ) (bag : Bag) (d : Doing) → among_by replicas no_bag d ≡ true → among_by replicas bag d ≡ true
+among_any replicas bag (At r (Hears message)) e = absurd (and_not (nat_lt 0 message) (second_true (nat_lt r replicas) (has_message no_bag message) e))
+among_any replicas bag (At r (Imports car)) e = absurd (and_not (nat_lt 0 car) (second_true (nat_lt r replicas) (has_car no_bag car) e))
 among_any replicas bag d e = e
 
 plain_not_bad : (w : WorldState) (replicas : ℕ) (read : Option (Option Command)) → length w.places ≡ replicas → IsPlain replicas read → IsBadCommand w read → ⊥
 plain_not_bad w replicas None many plain bad = plain
 plain_not_bad w replicas (Some None) many plain bad = bad
 plain_not_bad w replicas (Some (Some command)) many plain bad =
-    true≢false (sym (among_any (length w.places) w.around.bag (doing command) (subst (λ (n : ℕ). is_among n [] command ≡ true) (sym many) plain)) ∙ bad)
+    true≢false (sym (among_any (length w.places) w.around.bag (doing command) (subst (λ (n : ℕ). is_among n no_bag command ≡ true) (sym many) plain)) ∙ bad)
 
 module _ (grows : StepGrows) where
   many_still : (old new : WorldState) (read : Option (Option Command)) (answer : Option Answer) → LineStep old read new answer → length new.places ≡ length old.places

@@ -1,5 +1,5 @@
 -- How parts are given back to the maker of their keepers.
-use Rattle.std.specs.Prelude.{◌≡◌, ◌≤◌, ◌⊎◌, ⊤, ℕ, List, [], ◌∷◌, length, map, Option}
+use Rattle.std.specs.Prelude.{◌≡◌, ◌≤◌, ◌⊎◌, List, [], ◌∷◌, length, map, Option}
 use Rattle.std.specs.List.{AllByRecursion, AllZip}
 use Rattle.mc_keep.specs.Calls.{Members}
 use Rattle.mc_keep.specs.Plan.{Schedule}

@@ -1,8 +1,9 @@
 -- The words of a line that is executed in a world, at a bound `K: Keeper`.
-use Rattle.std.specs.Prelude.{◌≡◌, ℕ, ◌+◌, true, List, Option, Some}
+use Rattle.std.specs.Prelude.{◌≡◌, ℕ, ◌+◌, true, List, Option, Some, IfSome}
 use Rattle.mc_base.specs.declared.counted.Counted as counted
 use Rattle.mc_keep.specs.Calls.{Members}
 use Rattle.mc_keep.specs.declared.keeper.Keeper as keeper
+use Rattle.mc_model.specs.Kept.{IsKept}
 use Rattle.mc_script.specs.declared.command.Command.{Command}
 use Rattle.mc_script.specs.declared.reply.Reply.{Reply}
 use Rattle.mc_seats.specs.declared.world.World.{World}
@@ -10,6 +11,7 @@ use Rattle.mc_app.specs.Executes.{CutsShort, Executes, ExecutesPart, IsAnswered,
 use Rattle.mc_runs.specs.Runs.{Answer, IsWithin, arms_in, faults_in, own_free, owns_in}
 use Rattle.mc_seats.specs.Words.{state, tally}
 use Rattle.mc_seats.specs.Keepers.{Tally}
+use Rattle.mc_seats.specs.Worlds.{AtPlace, WorldState}
 
 -- what may be answered to some lines from a tally on, where the count is this at the end: no more faults than it rose
 -- by and fuses were armed, in the lines or before them; no more answers whose entry names a keeper or a desk that failed
@@ -18,6 +20,10 @@ pub record MayEnd (first : Tally) (count : ℕ) (lines : List (List ℕ)) (answe
   pub paid : IsWithin first.count (count + first.armed + arms_in lines) (faults_in answers)
   pub own_paid : IsWithin first.count count (owns_in answers)
   pub own_none : first.calm ≡ true → own_free answers ≡ true
+
+-- what the keepers of a world tell is sound
+abbrev pub AreKept : WorldState → Type 0
+AreKept w = (r : ℕ) → AtPlace w r (λ place. IfSome place.content IsKept)
 
 module _ {K D : Type 0} {g : keeper.Ghosts K D} {h : counted.Ghosts K} {i : counted.Ghosts D} (k : Members K D)
     (desk_faults : D → ℕ) where

@@ -29,7 +29,7 @@ pub record Progress (script : List ℕ) (First : WorldState → Type 0)
   pub within : All (λ line. length line ≤ line_max) lines
   pub in_script : length taken ≤ script_max
 
--- what was read of a line is no command, or names a replica or a message that isn't there
+-- what was read of a line is no command, or names a replica, a message or a file that isn't there
 abbrev pub IsBadCommand : WorldState → Option (Option Command) → Type 0
 IsBadCommand w None = ⊤
 IsBadCommand w (Some None) = ⊥

@@ -10,7 +10,7 @@ use Rattle.mc_app.specs.declared.status.Status.{Status}
 use Rattle.mc_app.specs.declared.status.Status.TheVariants.{Done, Memory}
 use Rattle.mc_runs.specs.Runs.{Answer, LineStep}
 use Rattle.mc_seats.specs.Asks.{is_among}
-use Rattle.mc_seats.specs.Worlds.{WorldState}
+use Rattle.mc_seats.specs.Worlds.{WorldState, no_bag}
 
 -- from this world on, whatever is answered to the lines before it, each line is a command of which all that it names is
 -- there, or asks for nothing
@@ -25,11 +25,12 @@ pub record IsValid (First : WorldState → Type 0) (script : List ℕ) : Type 0 
   pub within : AllByRecursion (λ line. length line ≤ line_max) (lines_of script)
   pub none_bad : (first : WorldState) → First first → NoneIsBad first (lines_of script)
 
--- what was read of a line asks for nothing, or is a command on some of so many replicas that hears no message
+-- what was read of a line asks for nothing, or is a command on some of so many replicas that hears no message and
+-- imports no file
 abbrev pub IsPlain : ℕ → Option (Option Command) → Type 0
 IsPlain replicas None = ⊥
 IsPlain replicas (Some None) = ⊤
-IsPlain replicas (Some (Some command)) = is_among replicas [] command ≡ true
+IsPlain replicas (Some (Some command)) = is_among replicas no_bag command ≡ true
 
 -- neither a script nor a line of it is too long, and all its lines are of this kind
 pub record IsPlainScript (replicas : ℕ) (script : List ℕ) : Type 0 where

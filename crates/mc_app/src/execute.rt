@@ -10,6 +10,7 @@ ghost use Rattle.mc_seats.specs.Asks.{is_there};
 ghost use Rattle.mc_seats.specs.Keepers.{DesksStay};
 ghost use Rattle.mc_app.specs.LineWords.{
   AnswersIn,
+  AreKept,
   CutsShortIn,
   ExecutesIn,
   ExecutesPartIn,
@@ -17,6 +18,7 @@ ghost use Rattle.mc_app.specs.LineWords.{
   SameWorld,
 };
 ghost use Rattle.mc_app.specs.Progress.{IsBadCommand};
+ghost use Rattle.mc_seats.specs.Pasts.{PastsFit};
 ghost use Rattle.mc_seats.specs.Record.{IsLonger};
 ghost use Rattle.mc_seats.specs.Words.{state};
 ghost use Rattle.mc_app.specs.declared.execute.ExecuteError.TheVariants.{Failed as WriteFailed, Memory};
@@ -24,9 +26,12 @@ ghost use Rattle.mc_app.specs.declared.execute.ExecuteError.TheVariants.{Failed 
 use crate::write::write_text;
 use mc_base::{Bytes, Failed, List, Sink};
 use mc_keep::{Fused, Keeper};
+use mc_model::kept_is_durable;
+use mc_past::{Past, pasts_stay_fit};
+use mc_runs::runs_only_grow;
 use mc_script::{Command, LineError, Reply, read_line, write_reply};
 use mc_worker::Gate;
-use mc_world::{ActError, LineEntry, World, act};
+use mc_world::{ActError, LineEntry, World, act, new_pasts};
 use std::alloc::{AllocError, Global};
 use std::mem::replace;
 use std::sync::Wait;
@@ -63,9 +68,30 @@ impl From<AllocError> for ExecuteError {
     }
 }
 
-/// Executes a line, and writes its reply, whose text is made in the buffer `text`. `Bad` comes exactly where the line
-/// is no command, or names a replica or a message that isn't there, and then nothing is written and nothing changes.
-/// `Failed` comes only where the sink failed, and then some first bytes of the reply are written. Under `Memory`
+/// What is carried from line to line: the buffer in which the text of a reply is made, and what was read of the past of
+/// each replica.
+#[derive(Drop)]
+pub struct Carried {
+    /// The buffer.
+    pub text: Bytes,
+    /// What was read of each past, in order of the replicas' names.
+    pub pasts: Vec<Past>,
+}
+
+impl Carried {
+    /// An empty buffer, and nothing of the past of a world's replicas.
+    pub fn new<K: Keeper>(alloc: Global, world: &World<K>) -> Result<Carried, AllocError>
+        ensures { IfOk result (λ carried. PastsFit (state K.Keeper K.Desk.faults world.now) carried.pasts.items) }
+    {
+        let pasts = new_pasts(world, alloc)?;
+        let text = Bytes::new(alloc);
+        Ok(Carried { text, pasts })
+    }
+}
+
+/// Executes a line, and writes its reply, whose text is made in the buffer that is carried. `Bad` comes exactly where
+/// the line is no command, or names a replica, a message or a file that isn't there, and then nothing is written or
+/// changes. `Failed` comes only where the sink failed, and then some first bytes of the reply are written. Under `Memory`
 /// nothing is written, and the command was done, or nothing or a part of it.
 pub fn execute_line<
     K: Keeper + Send + Sync,
@@ -77,7 +103,7 @@ pub fn execute_line<
     alloc: Global,
     world: &mut World<Fused<K>>,
     line: &[u8],
-    text: &mut Bytes,
+    carried: &mut Carried,
     out: &mut O,
     gate: &G,
     threads: &T,
@@ -85,6 +111,7 @@ pub fn execute_line<
 ) -> Result<(), ExecuteError>
 where
     K::Desk: Send,
+    requires fits { PastsFit (state ⟦<Fused<K> as Keeper>⟧ K.Desk.faults world.old) carried.old.pasts.items }
     ensures ok { OnOk result (ExecutesIn ⟦<Fused<K> as Keeper>⟧ K.Desk.faults (line_of line.now) world.old world.new
         (O.written out.old) (O.written out.new)) }
     ensures bad { IsErrOf result ExecuteError.Bad →
@@ -98,9 +125,11 @@ where
     ensures desks { DesksStay ⟦<Fused<K> as Keeper>⟧ K.Desk.faults world.old.desks.items world.new.desks.items }
     ensures entries { IsLonger world.old.entries world.new.entries }
     ensures cause { Counts (O.faults out.old) (O.faults out.new) (IsErrOf result ExecuteError.Failed) }
+    ensures fits { OnOk result
+        (PastsFit (state ⟦<Fused<K> as Keeper>⟧ K.Desk.faults world.new) carried.new.pasts.items) }
 {
     match read_line(alloc, line) {
-        Ok(Some(command)) => answer(alloc, world, &command, text, out, gate, threads, wait),
+        Ok(Some(command)) => answer(alloc, world, &command, carried, out, gate, threads, wait),
         Ok(None) => Ok(()),
         Err(LineError::Bad) => Err(ExecuteError::Bad),
         Err(LineError::Memory) => Err(ExecuteError::Memory),
@@ -118,7 +147,7 @@ pub fn execute_and_clear<
     alloc: Global,
     world: &mut World<Fused<K>>,
     line: &[u8],
-    text: &mut Bytes,
+    carried: &mut Carried,
     out: &mut O,
     gate: &G,
     threads: &T,
@@ -126,7 +155,8 @@ pub fn execute_and_clear<
 ) -> Result<(), ExecuteError>
 where
     K::Desk: Send,
-    requires { world.old.entries ≡ [] }
+    requires entries { world.old.entries ≡ [] }
+    requires fits { PastsFit (state ⟦<Fused<K> as Keeper>⟧ K.Desk.faults world.old) carried.old.pasts.items }
     ensures ok { OnOk result (ExecutesIn ⟦<Fused<K> as Keeper>⟧ K.Desk.faults (line_of line.now) world.old world.new
         (O.written out.old) (O.written out.new)) }
     ensures bad { IsErrOf result ExecuteError.Bad →
@@ -141,8 +171,10 @@ where
     ensures desks { DesksStay ⟦<Fused<K> as Keeper>⟧ K.Desk.faults world.old.desks.items world.new.desks.items }
     ensures entries { world.new.entries ≡ [] }
     ensures cause { Counts (O.faults out.old) (O.faults out.new) (IsErrOf result ExecuteError.Failed) }
+    ensures fits { OnOk result
+        (PastsFit (state ⟦<Fused<K> as Keeper>⟧ K.Desk.faults world.new) carried.new.pasts.items) }
 {
-    let result = execute_line(alloc, world, line, text, out, gate, threads, wait);
+    let result = execute_line(alloc, world, line, carried, out, gate, threads, wait);
     clear_record(alloc, &mut world.entries);
     result
 }
@@ -161,7 +193,7 @@ fn answer<K: Keeper + Send + Sync, O: Sink, G: Gate + Sync, T: Threads + Sync, W
     alloc: Global,
     world: &mut World<Fused<K>>,
     command: &Command,
-    text: &mut Bytes,
+    carried: &mut Carried,
     out: &mut O,
     gate: &G,
     threads: &T,
@@ -170,6 +202,7 @@ fn answer<K: Keeper + Send + Sync, O: Sink, G: Gate + Sync, T: Threads + Sync, W
 where
     K::Desk: Send,
     requires limits { IsInLimits command.now }
+    requires fits { PastsFit (state ⟦<Fused<K> as Keeper>⟧ K.Desk.faults world.old) carried.old.pasts.items }
     ensures ok { OnOk result (ExecutesIn ⟦<Fused<K> as Keeper>⟧ K.Desk.faults (Some (Some command.now))
         world.old world.new (O.written out.old) (O.written out.new)) }
     ensures bad { IsErrOf result ExecuteError.Bad →
@@ -183,13 +216,23 @@ where
     ensures desks { DesksStay ⟦<Fused<K> as Keeper>⟧ K.Desk.faults world.old.desks.items world.new.desks.items }
     ensures entries { IsLonger world.old.entries world.new.entries }
     ensures cause { Counts (O.faults out.old) (O.faults out.new) (IsErrOf result ExecuteError.Failed) }
+    ensures fits { OnOk result
+        (PastsFit (state ⟦<Fused<K> as Keeper>⟧ K.Desk.faults world.new) carried.new.pasts.items) }
 {
-    let reply = match act_on(alloc, world, command, gate, threads, wait) {
+    let reply = match act_on(
+        alloc,
+        world,
+        &mut carried.pasts,
+        command,
+        gate,
+        threads,
+        wait,
+    ) {
         Ok(reply) => reply,
         Err(ActError::BadLine) => return Err(ExecuteError::Bad),
         Err(ActError::Memory) => return Err(ExecuteError::Memory),
     };
-    write_answer(alloc, &reply, text, out)
+    write_answer(alloc, &reply, &mut carried.text, out)
 }
 
 // Writes a reply, whose text is made in a buffer.
@@ -216,6 +259,7 @@ fn write_answer<O: Sink>(
 fn act_on<K: Keeper + Send + Sync, G: Gate + Sync, T: Threads + Sync, W: Wait + Sync>(
     alloc: Global,
     world: &mut World<Fused<K>>,
+    pasts: &mut Vec<Past>,
     command: &Command,
     gate: &G,
     threads: &T,
@@ -224,6 +268,7 @@ fn act_on<K: Keeper + Send + Sync, G: Gate + Sync, T: Threads + Sync, W: Wait + 
 where
     K::Desk: Send,
     requires limits { IsInLimits command.now }
+    requires fits { PastsFit (state ⟦<Fused<K> as Keeper>⟧ K.Desk.faults world.old) pasts.old.items }
     ensures answered { IfOk result (AnswersIn ⟦<Fused<K> as Keeper>⟧ K.Desk.faults command.now world.old world.new) }
     ensures bad { IsErrOf result ActError.BadLine →
         (is_there (state ⟦<Fused<K> as Keeper>⟧ K.Desk.faults world.old) command.now ≡ false)
@@ -232,6 +277,24 @@ where
         CutsShortIn ⟦<Fused<K> as Keeper>⟧ K.Desk.faults command.now world.old world.new }
     ensures desks { DesksStay ⟦<Fused<K> as Keeper>⟧ K.Desk.faults world.old.desks.items world.new.desks.items }
     ensures entries { IsLonger world.old.entries world.new.entries }
+    ensures fits { OnOk result (PastsFit (state ⟦<Fused<K> as Keeper>⟧ K.Desk.faults world.new) pasts.new.items) }
 {
-    act(world, alloc, command, gate, threads, wait)
+    is_sound(world);
+    kept_is_durable();
+    runs_only_grow();
+    pasts_stay_fit();
+    act(
+        world,
+        pasts.as_mut_slice(),
+        alloc,
+        command,
+        gate,
+        threads,
+        wait,
+    )
 }
+
+// What the keepers of a world tell is sound.
+fn is_sound<K: Keeper>(world: &World<K>)
+    ensures { AreKept (state K.Keeper K.Desk.faults world.now) }
+{}

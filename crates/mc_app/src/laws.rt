@@ -17,8 +17,9 @@ pub fn generated_lines_are_commands()
 }
 
 /// A script is valid, whatever faults and stops come, where neither it nor a line of it is too long, and each line asks
-/// for nothing or is a command on some of the replicas that hears no message. One with a `hear` is valid where its
-/// message was sent by then, which depends on what was answered before.
+/// for nothing or is a command on some of the replicas that hears no message and imports no file. One with a `hear` is
+/// valid where its message was sent by then, and one with an `import` where its file was there by then, which depends
+/// on what was answered before.
 pub fn plain_scripts_are_valid()
     ensures { (starts : List (Option Kept)) (script : List ℕ) →
         IsPlainScript (length starts) script → IsValid (IsFirst starts) script }

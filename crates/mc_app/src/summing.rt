@@ -6,9 +6,10 @@ ghost use Rattle.mc_seats.specs.Keepers.{DesksStay, counted_in};
 ghost use Rattle.mc_app.specs.LineWords.{MayEnd, SameWorld};
 ghost use Rattle.mc_app.specs.Progress.{IsBadCommand};
 ghost use Rattle.mc_app.specs.Summing.{SumsLine, SumsShort, SumsUp};
+ghost use Rattle.mc_seats.specs.Pasts.{PastsFit};
 ghost use Rattle.mc_seats.specs.Words.{state, tally};
 
-use crate::execute::{ExecuteError, execute_and_clear};
+use crate::execute::{Carried, ExecuteError, execute_and_clear};
 use crate::line_reader::{LineReader, ReadError};
 use mc_base::{Bytes, List, MemorySink, MemorySource};
 use mc_gen::Summary;
@@ -54,8 +55,10 @@ where
     let Ok(mut reader) = LineReader::new(alloc) else {
         return Summed::Short;
     };
+    let Ok(mut carried) = Carried::new(alloc, world) else {
+        return Summed::Short;
+    };
     let mut executed: u64 = 0;
-    let mut text = Bytes::new(alloc);
     loop {
         match reader.next_line(&mut source) {
             Ok(true) => {}
@@ -69,7 +72,7 @@ where
             alloc,
             world,
             reader.line(),
-            &mut text,
+            &mut carried,
             summary,
             gate,
             threads,
@@ -88,7 +91,7 @@ fn sum_line<K: Keeper + Send + Sync, G: Gate + Sync, T: Threads + Sync, W: Wait 
     alloc: Global,
     world: &mut World<Fused<K>>,
     line: &[u8],
-    text: &mut Bytes,
+    carried: &mut Carried,
     summary: &mut Summary,
     gate: &G,
     threads: &T,
@@ -96,7 +99,8 @@ fn sum_line<K: Keeper + Send + Sync, G: Gate + Sync, T: Threads + Sync, W: Wait 
 ) -> Result<(), ExecuteError>
 where
     K::Desk: Send,
-    requires { world.old.entries ≡ [] }
+    requires entries { world.old.entries ≡ [] }
+    requires fits { PastsFit (state ⟦<Fused<K> as Keeper>⟧ K.Desk.faults world.old) carried.old.pasts.items }
     ensures ok { OnOk result (SumsLine (state ⟦<Fused<K> as Keeper>⟧ K.Desk.faults world.old)
         (tally ⟦<Fused<K> as Keeper>⟧ K.Desk.faults world.old) (line_of line.now)
         (state ⟦<Fused<K> as Keeper>⟧ K.Desk.faults world.new) (tally ⟦<Fused<K> as Keeper>⟧ K.Desk.faults world.new)
@@ -116,9 +120,11 @@ where
         × SameWorld ⟦<Fused<K> as Keeper>⟧ K.Desk.faults world.old world.new }
     ensures desks { DesksStay ⟦<Fused<K> as Keeper>⟧ K.Desk.faults world.old.desks.items world.new.desks.items }
     ensures entries { world.new.entries ≡ [] }
+    ensures fits { OnOk result
+        (PastsFit (state ⟦<Fused<K> as Keeper>⟧ K.Desk.faults world.new) carried.new.pasts.items) }
 {
     let mut reply = MemorySink::new(Bytes::new(alloc), 0, List::new(alloc));
-    match execute_and_clear(alloc, world, line, text, &mut reply, gate, threads, wait) {
+    match execute_and_clear(alloc, world, line, carried, &mut reply, gate, threads, wait) {
         Ok(()) => {}
         Err(error) => return Err(error),
     }

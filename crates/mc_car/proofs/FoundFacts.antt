@@ -151,7 +151,7 @@ cid_found bytes cid e =
       | false ↦ λ t f. absurd (cc)
     ] refl e
 
-cid_in_front : (text : List ℕ) (cid : Cid) (rest : List ℕ) → cid_and_rest text ≡ Some (cid, rest) → (text ≡ cid_bytes cid ++ rest) × (length cid.0 ≡ 32)
+pub cid_in_front : (text : List ℕ) (cid : Cid) (rest : List ℕ) → cid_and_rest text ≡ Some (cid, rest) → (text ≡ cid_bytes cid ++ rest) × (length cid.0 ≡ 32)
 cid_in_front text cid rest e = by (cid_of_bytes (take 36 text)) refl e
   where
     by : (read : Option Cid) → cid_of_bytes (take 36 text) ≡ read → ◌≡◌ {A = Option (Cid × List ℕ)} (option_map (λ (c : Cid). (c, drop 36 text)) read) (Some (cid, rest)) → (text ≡ cid_bytes cid ++ rest) × (length cid.0 ≡ 32)

@@ -20,10 +20,10 @@ use Rattle.mc_car.proofs.Sections.{first_past}
 taken : {A : Type 0} (n : ℕ) (xs ys : List A) → length xs ≡ n → take n (xs ++ ys) ≡ xs
 taken n xs ys len = take-append-le n xs ys (omega (arith, len)) ∙ take_all n xs (omega (arith, len))
 
-dropped : {A : Type 0} (n : ℕ) (xs ys : List A) → length xs ≡ n → drop n (xs ++ ys) ≡ ys
+pub dropped : {A : Type 0} (n : ℕ) (xs ys : List A) → length xs ≡ n → drop n (xs ++ ys) ≡ ys
 dropped n xs ys len = drop-append-le n xs ys (omega (arith, len)) ∙ ap (λ z. z ++ ys) (drop_all n xs (omega (arith, len)))
 
-cid_len : (cid : Cid) → length cid.0 ≡ 32 → length (cid_bytes cid) ≡ 36
+pub cid_len : (cid : Cid) → length cid.0 ≡ 32 → length (cid_bytes cid) ≡ 36
 cid_len cid len = omega (arith, len)
 
 cid_named : CidsAreRead → (cid : Cid) → length cid.0 ≡ 32 → cid_of_bytes (cid_bytes cid) ≡ Some cid

@@ -47,7 +47,7 @@ onto_none : (rest : Result (List Section) CarFault) → rest ≡ onto_all [] res
 onto_none (Err fault) = refl
 onto_none (Ok rest) = refl
 
-onto_next : (sections : List Section) (section : Section) (rest : Result (List Section) CarFault) → onto_all sections (onto_sections (Ok section) rest) ≡ onto_all (sections ++ section ∷ []) rest
+pub onto_next : (sections : List Section) (section : Section) (rest : Result (List Section) CarFault) → onto_all sections (onto_sections (Ok section) rest) ≡ onto_all (sections ++ section ∷ []) rest
 onto_next sections section (Err fault) = refl
 onto_next sections section (Ok rest) = ap (λ z. Ok z) (sym (append_assoc sections (section ∷ []) rest))
 

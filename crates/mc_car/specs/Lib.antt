@@ -1,3 +1,4 @@
 pub mod Car
 pub mod CarRead
+pub mod Places
 pub mod Steps

@@ -1,9 +1,10 @@
 -- What the parts of reading and writing a file say.
 use Rattle.std.specs.Prelude.{◌≡◌, ℕ, ◌-◌, ◌<◌, ◌≤◌, List, ◌++◌, length, take, drop, Result, Ok, Err, ⊤}
 use denote.Ref.{Bor}
+use Rattle.mc_base.specs.Cid.{digest_of}
 use Rattle.mc_base.specs.declared.cid.Cid.{Cid}
 use Rattle.mc_car.specs.Car.{AreSections, IsPiece}
-use Rattle.mc_car.specs.CarRead.{piece_of}
+use Rattle.mc_car.specs.CarRead.{piece_of, section_of}
 use Rattle.mc_car.specs.declared.car.Section.{Section}
 use Rattle.mc_car.specs.declared.fault.CarError.{CarError}
 use Rattle.mc_car.specs.declared.fault.CarError.TheVariants.{Fault, Memory}
@@ -22,6 +23,12 @@ pub record PieceAt (text : List ℕ) (at : ℕ) (span : Span) : Type 0 where
   pub begins : at < span.from
   pub order : span.from ≤ span.to
   pub ends : span.to ≤ length text
+
+-- the body is the section under this identifier, whose bytes have it
+pub record Names (at : ℕ) (body : List ℕ) (cid : Cid) : Type 0 where
+  pub room : 36 ≤ length body
+  pub found : section_of at body ≡ Ok (record { cid = cid; bytes = drop 36 body })
+  pub named : digest_of (drop 36 body) ≡ cid.0
 
 -- what borrowed parts of a text stand for
 abbrev pub counted : ℕ × Bor (List ℕ) → ℕ × List ℕ

@@ -1,13 +1,12 @@
 // Reading a file.
 ghost use Rattle.std.specs.Prelude.{◌≡◌, ◌≤◌, length, Ok, IfOk, IfErr};
-ghost use Rattle.mc_car.specs.CarRead.{car_of, section_of, sections_at};
+ghost use Rattle.mc_car.specs.CarRead.{car_of, sections_at};
 ghost use Rattle.mc_car.specs.Steps.{IsFaultOf};
 
 use crate::car::{Car, Section};
-use crate::fault::{CarError, CarFault, CarFaultKind};
-use crate::header::{read_roots, split_cid};
-use crate::piece::next_piece;
-use mc_base::{Bytes, Cid, List};
+use crate::fault::CarError;
+use crate::places::{Front, read_front, read_place};
+use mc_base::{Bytes, List};
 use std::alloc::Global;
 
 /// What a CARv1 file of this profile holds (IPLD CARv1 specification): a header of version 1 with at most 255 roots, and
@@ -17,15 +16,11 @@ pub fn read_car(alloc: Global, bytes: &[u8]) -> Result<Car, CarError>
     ensures car { IfOk result (λ car. car_of bytes.now ≡ Ok car) }
     ensures fault { IfErr result (λ error. IsFaultOf (car_of bytes.now) error) }
 {
-    let header = match next_piece(bytes, 0) {
-        Ok(header) => header,
-        Err(fault) => return Err(CarError::Fault(fault)),
-    };
-    let roots = match read_roots(alloc, &bytes[header.from..header.to]) {
-        Ok(roots) => roots,
+    let Front { roots, end } = match read_front(alloc, bytes) {
+        Ok(front) => front,
         Err(error) => return Err(error),
     };
-    match read_sections(alloc, bytes, header.to) {
+    match read_sections(alloc, bytes, end) {
         Ok(sections) => Ok(Car { roots, sections }),
         Err(error) => Err(error),
     }
@@ -40,37 +35,16 @@ fn read_sections(alloc: Global, bytes: &[u8], from: usize) -> Result<List<Sectio
     let mut sections = List::new(alloc);
     let mut at = from;
     while at < bytes.len() {
-        let span = match next_piece(bytes, at) {
-            Ok(span) => span,
+        let place = match read_place(bytes, at) {
+            Ok(place) => place,
             Err(fault) => return Err(CarError::Fault(fault)),
         };
-        let section = match read_section(alloc, at as u64, &bytes[span.from..span.to]) {
-            Ok(section) => section,
-            Err(error) => return Err(error),
-        };
-        sections.push(section)?;
-        at = span.to;
+        let block = Bytes::from_slice(alloc, &bytes[place.from..place.to])?;
+        sections.push(Section {
+            cid: place.cid,
+            bytes: block,
+        })?;
+        at = place.to;
     }
     Ok(sections)
-}
-
-// The section that a piece's body is, where the piece's varint stands at an offset.
-fn read_section(alloc: Global, at: u64, body: &[u8]) -> Result<Section, CarError>
-    ensures section { IfOk result (λ section. section_of at body.now ≡ Ok section) }
-    ensures fault { IfErr result (λ error. IsFaultOf (section_of at body.now) error) }
-{
-    let Some((cid, block)) = split_cid(body) else {
-        return Err(CarError::Fault(CarFault {
-            kind: CarFaultKind::NoCid,
-            at,
-        }));
-    };
-    if Cid::of(block) != cid {
-        return Err(CarError::Fault(CarFault {
-            kind: CarFaultKind::WrongDigest,
-            at,
-        }));
-    }
-    let bytes = Bytes::from_slice(alloc, block)?;
-    Ok(Section { cid, bytes })
 }

@@ -1,8 +1,9 @@
 // Writing a file.
-ghost use Rattle.std.specs.Prelude.{◌≡◌, ◌++◌, ◌≤◌, length, IfOk, OnOk};
+ghost use Rattle.std.specs.Prelude.{◌≡◌, [], ◌∷◌, ◌++◌, ◌≤◌, length, IfOk, OnOk};
 ghost use Rattle.std.specs.List.{flat_map};
 ghost use Rattle.mc_car.specs.Car as car;
 ghost use Rattle.mc_car.specs.Car.{IsCarText};
+ghost use Rattle.mc_car.specs.Places.{AddsSections};
 ghost use Rattle.mc_car.specs.Steps.{AppendsPiece, AppendsSections};
 
 use crate::car::Section;
@@ -27,6 +28,14 @@ pub fn write_car(alloc: Global, roots: &[Cid], sections: &[Section]) -> Result<B
     put_piece(&mut out, header.as_slice())?;
     put_sections(&mut out, sections)?;
     Ok(out)
+}
+
+/// Adds a section to the end of a file. Whether the block's bytes have the identifier isn't looked at. A refusal may leave
+/// a part of the section.
+pub fn add_section(file: &mut Bytes, cid: &Cid, block: &[u8]) -> Result<(), AllocError>
+    ensures { OnOk result (AddsSections file.old file.new (record { cid = cid.now; bytes = block.now } ∷ [])) }
+{
+    put_block(file, cid, block)
 }
 
 // Room for a file with a header of this length: each varint counts as the longest.
@@ -93,15 +102,21 @@ fn put_sections(out: &mut Bytes, sections: &[Section]) -> Result<(), AllocError>
     Ok(())
 }
 
-// A length, the identifier and the block. A block whose section's length has no varint has no room in memory twice.
 fn put_section(out: &mut Bytes, section: &Section) -> Result<(), AllocError>
     ensures { OnOk result (AppendsPiece out.old out.new (car.section_body section.now)) }
 {
-    let len = section.bytes.len();
+    put_block(out, &section.cid, section.bytes.as_slice())
+}
+
+// A length, the identifier and the block. A block whose section's length has no varint has no room in memory twice.
+fn put_block(out: &mut Bytes, cid: &Cid, block: &[u8]) -> Result<(), AllocError>
+    ensures { OnOk result (AppendsPiece out.old out.new (car.cid_bytes cid.now ++ block.now)) }
+{
+    let len = block.len();
     if len > BLOCK_MOST {
         return Err(AllocError);
     }
     write_varint(CID_LEN as u64 + len as u64, out)?;
-    out.extend_from_slice(&section.cid.bytes())?;
-    out.extend_from_slice(section.bytes.as_slice())
+    out.extend_from_slice(&cid.bytes())?;
+    out.extend_from_slice(block)
 }

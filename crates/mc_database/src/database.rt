@@ -84,6 +84,17 @@ pub struct FileDatabase {
     log: Log,
 }
 
+// How many pages stand in the log before it is copied into the file. Each copy takes four syncs, and the commit after it
+// one more; so many pages are 16 MB.
+const LOG_PAGES: usize = 4000;
+
+// How a file is opened, with a number that is drawn anew.
+fn options_of(seed: u64) -> Options {
+    let mut options = Options::new(seed);
+    options.checkpoint_frames = LOG_PAGES;
+    options
+}
+
 // A connection over these files. Where they are refused the log is as it was before.
 fn connected<D: Disk + Drop>(
     rt: &HostRuntime,
@@ -94,7 +105,7 @@ fn connected<D: Disk + Drop>(
     if !(files.log.may_be_used() && files.db.may_be_used()) {
         return Err(FileCause::ReadOrWrite);
     }
-    match Connection::open_files(rt.alloc(), files, Options::new(seed)) {
+    match Connection::open_files(rt.alloc(), files, options_of(seed)) {
         Ok(connection) => Ok(connection),
         Err((error, left)) => {
             log.take_away(rt);

@@ -26,6 +26,8 @@ mod generated;
 #[cfg(test)]
 mod histories;
 #[cfg(test)]
+mod index;
+#[cfg(test)]
 mod key;
 #[cfg(test)]
 mod script;

@@ -175,6 +175,56 @@ fn lines_that_are_no_command_of_a_crowd(rt: HostRuntime) -> Result<(), Fail> {
     Ok(())
 }
 
+#[test]
+fn lines_that_are_no_command_of_histories(rt: HostRuntime) -> Result<(), Fail> {
+    let alloc = rt.alloc();
+    let bad: [&[u8]; 38] = [
+        b"export",
+        b"export a 1",
+        b"export i",
+        b"export ",
+        b"Export a",
+        b"carin",
+        b"carin 0",
+        b"carin 0g",
+        b"carin a 00",
+        b"carin 00 00",
+        b"import",
+        b"import a",
+        b"import a 1 2",
+        b"import i 1",
+        b"import 1 a",
+        b"import a -1",
+        b"import a 18446744073709551616",
+        b"import a 000000000000000000001",
+        b"feed",
+        b"feed a",
+        b"feed a 0",
+        b"feed a 0 10 20",
+        b"feed i 0 10",
+        b"feed a -1 10",
+        b"feed a 0 all",
+        b"feed a 18446744073709551616 1",
+        b"feed a 1 18446744073709551616",
+        b"feed a 0 000000000000000000001",
+        b"getat",
+        b"getat a",
+        b"getat a bafybeihdwdcefgh4dqkjv67uzcmw7ojee6xedzdetojuzjevtenxquvyku",
+        b"getat a bafybeihdwdcefgh4dqkjv67uzcmw7ojee6xedzdetojuzjevtenxquvyku ",
+        b"getat a bafybeihdwdcefgh4dqkjv67uzcmw7ojee6xedzdetojuzjevtenxquvyku /a /b",
+        b"getat i bafybeihdwdcefgh4dqkjv67uzcmw7ojee6xedzdetojuzjevtenxquvyku /a",
+        b"getat a /a bafybeihdwdcefgh4dqkjv67uzcmw7ojee6xedzdetojuzjevtenxquvyku",
+        b"getat a notacid /a",
+        b"getat a bAfybeihdwdcefgh4dqkjv67uzcmw7ojee6xedzdetojuzjevtenxquvyku /a",
+        b"getat a bafyreihdwdcefgh4dqkjv67uzcmw7ojee6xedzdetojuzjevtenxquvyku /a",
+    ];
+    for line in bad {
+        let answer = read_line(alloc, line);
+        assert!(rt; matches!(answer, Err(LineError::Bad)), "at {line:?}");
+    }
+    Ok(())
+}
+
 // The parts of a command: its name, its replica, its key or prefix or the word of a link, its bytes, and its numbers.
 fn parts(command: &Command) -> (&str, u64, &str, &[u8], u64, u64) {
     match command {
@@ -225,6 +275,19 @@ fn parts_of_a_run(command: &Command) -> (&str, u64, &str, &[u8], u64, u64) {
         Command::Open { r } => ("open", *r, "", b"", 0, 0),
         Command::StopAt { r, commit } => ("stopat", *r, "", b"", *commit, 0),
         Command::StopAfter { r, commit } => ("stopafter", *r, "", b"", *commit, 0),
+        _ => parts_of_histories(command),
+    }
+}
+
+fn parts_of_histories(command: &Command) -> (&str, u64, &str, &[u8], u64, u64) {
+    match command {
+        Command::Export { r } => ("export", *r, "", b"", 0, 0),
+        Command::CarIn { bytes } => ("carin", 0, "", bytes.as_slice(), 0, 0),
+        Command::Import { r, car } => ("import", *r, "", b"", *car, 0),
+        Command::Feed { r, from, count } => ("feed", *r, "", b"", *from, *count),
+        Command::GetAt { r, cid, key } => {
+            ("getat", *r, name_of(cid), key.as_str().as_bytes(), 0, 0)
+        }
         _ => ("another", 0, "", b"", 0, 0),
     }
 }
@@ -322,6 +385,53 @@ fn lines_that_are_commands_of_a_run(rt: HostRuntime) -> Result<(), Fail> {
         (
             b"stopafter h 1000000",
             ("stopafter", 7, "", b"", 1_000_000, 0),
+        ),
+    ];
+    for (line, want) in rows {
+        let read = read_line(alloc, line)?;
+        let Some(command) = read else {
+            return Err(Fail::new("the line is a command"));
+        };
+        assert_eq!(rt; parts(&command), want);
+    }
+    Ok(())
+}
+
+#[test]
+fn lines_that_are_commands_of_histories(rt: HostRuntime) -> Result<(), Fail> {
+    let alloc = rt.alloc();
+    let rows: [(&[u8], (&str, u64, &str, &[u8], u64, u64)); 14] = [
+        (b"export a", ("export", 0, "", b"", 0, 0)),
+        (b"export h", ("export", 7, "", b"", 0, 0)),
+        (b"carin 0aFf", ("carin", 0, "", b"\x0a\xff", 0, 0)),
+        (b"carin -", ("carin", 0, "", b"", 0, 0)),
+        (b"import b 1", ("import", 1, "", b"", 1, 0)),
+        (b"import c 0", ("import", 2, "", b"", 0, 0)),
+        (
+            b"import d 18446744073709551615",
+            ("import", 3, "", b"", u64::MAX, 0),
+        ),
+        (b"feed a 0 10", ("feed", 0, "", b"", 0, 10)),
+        (b"feed b 3 0", ("feed", 1, "", b"", 3, 0)),
+        (
+            b"feed h 18446744073709551615 00000000000000000007",
+            ("feed", 7, "", b"", u64::MAX, 7),
+        ),
+        (
+            b"feed a 1 18446744073709551615",
+            ("feed", 0, "", b"", 1, u64::MAX),
+        ),
+        (
+            b"getat a bafybeihdwdcefgh4dqkjv67uzcmw7ojee6xedzdetojuzjevtenxquvyku /a",
+            ("getat", 0, "the empty block", b"/a", 0, 0),
+        ),
+        (
+            b"getat e bafybeif2pall7dybz7vecqka3zo24irdwabwdi4wc55jznaq75q7eaavvu %\xc3\xa9",
+            ("getat", 4, "another block", b"%\xc3\xa9", 0, 0),
+        ),
+        (
+            b"getat f bafybeihdwdcefgh4dqkjv67uzcmw7ojee6xedzdetojuzjevtenxquvyku -",
+            ("getat", 5, "the empty block", b"-", 0, 0),
         ),
     ];
     for (line, want) in rows {
@@ -451,6 +561,50 @@ fn replies_of_a_run(rt: HostRuntime) -> Result<(), Fail> {
     Ok(())
 }
 
+#[test]
+fn replies_of_histories(rt: HostRuntime) -> Result<(), Fail> {
+    let alloc = rt.alloc();
+    let rows: [(Reply, &[u8]); 7] = [
+        (
+            Reply::Car {
+                number: 1,
+                len: 109,
+            },
+            b"\ncar 1 109\n",
+        ),
+        (
+            Reply::Car {
+                number: u64::MAX,
+                len: 0,
+            },
+            b"\ncar 18446744073709551615 0\n",
+        ),
+        (
+            Reply::Imported {
+                stored: 0,
+                queued: u64::MAX,
+            },
+            b"\nimported 0 18446744073709551615\n",
+        ),
+        (
+            Reply::RefusedRoots { number: 256 },
+            b"\nrefused roots 256\n",
+        ),
+        (Reply::RefusedCar { number: 6 }, b"\nrefused car 6\n"),
+        (Reply::RefusedView, b"\nrefused view\n"),
+        (
+            Reply::Events {
+                events: List::new(alloc),
+            },
+            b"\nfeed 0\n",
+        ),
+    ];
+    for (reply, want) in &rows {
+        assert_eq!(rt; written(alloc, reply)?.as_slice(), *want);
+    }
+    Ok(())
+}
+
 // The state of a replica with three jobs that wait, four missing blocks, and five bad ones.
 fn state_of(processed: u64, stored: u64, mark: bool, whole: bool) -> Reply {
     Reply::State {
@@ -494,6 +648,33 @@ fn replies_of_many_lines(rt: HostRuntime) -> Result<(), Fail> {
     assert_eq!(rt;
         written(alloc, &heads)?.as_slice(),
         b"\nheads 2\nbafybeihdwdcefgh4dqkjv67uzcmw7ojee6xedzdetojuzjevtenxquvyku 0\nbafybeif2pall7dybz7vecqka3zo24irdwabwdi4wc55jznaq75q7eaavvu 7\n".as_slice()
+    );
+    Ok(())
+}
+
+#[test]
+fn replies_of_changes(rt: HostRuntime) -> Result<(), Fail> {
+    let alloc = rt.alloc();
+    let changes: [(u64, &str, Option<&[u8]>); 5] = [
+        (0, "/a", Some(b"\x01")),
+        (2, "/b", Some(b"")),
+        (2, "/none", None),
+        (10, "", Some(b"none")),
+        (u64::MAX, " ~!%\u{7f}\u{e9}", Some(b"\xab\xff")),
+    ];
+    let mut events = List::new(alloc);
+    for (position, key, value) in changes {
+        let key = Text::from_text(alloc, key)?;
+        let value = match value {
+            Some(bytes) => Some(Bytes::from_slice(alloc, bytes)?),
+            None => None,
+        };
+        events.push((position, key, value))?;
+    }
+    let events = Reply::Events { events };
+    assert_eq!(rt;
+        written(alloc, &events)?.as_slice(),
+        b"\nfeed 5\n0 /a 01\n2 /b -\n2 /none none\n10 % 6e6f6e65\n18446744073709551615 %20~!%25%7F%C3%A9 abff\n".as_slice()
     );
     Ok(())
 }

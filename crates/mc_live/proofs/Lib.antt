@@ -1,3 +1,4 @@
+pub mod HeldFacts
 pub mod OnOk
 pub mod PruneFacts
 pub mod RowFacts

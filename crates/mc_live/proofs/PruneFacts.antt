@@ -1,10 +1,9 @@
 -- Rows that are let go.
 use Rattle.std.proofs.Common.{◌≡◌, ℕ, ◌+◌, ◌<◌, Bool, true, false, cond, ◌||◌, List, [], ◌∷◌, length, take, get_or, Option, Some, refl, sym, ap, ◌∙◌, subst, arith}
 use Rattle.std.specs.Prelude.{slice_index_or}
-use Rattle.std.specs.BinaryHeap.{heap_items, IsHeap}
-use Rattle.std.specs.declared.collections.BinaryHeap.{BinaryHeap}
+use Rattle.std.specs.BinaryHeap.{IsHeap}
 use Rattle.std.specs.declared.string.String.{String}
-use Rattle.std.specs.BTreeMap.{BTreeMap, get_by_text}
+use Rattle.std.specs.HashMap.{HashMap, get_by_text}
 use Rattle.std.specs.List.{list_any}
 use Rattle.std.specs.List.Sorted.{IsPermutation}
 use Rattle.std.specs.Str.{bytes_eq}
@@ -15,7 +14,8 @@ use Rattle.mc_live.specs.Prune.{OfShown, Prunes, PrunesKeys}
 use Rattle.std.proofs.lemmas.List.Folds.{list_any-append}
 use Rattle.std.proofs.lemmas.Slice.Eq.{bytes_eq-Decides}
 use Rattle.mc_live.proofs.RowFacts.{keeps_heaps, keeps_rows, next_item, or_none, rows_set}
-use Rattle.mc_live.specs.Rows.{IsTopShown, is_shown, rows_in}
+use Rattle.mc_live.specs.Rows.{IsTopShown, is_shown, items_of, rows_in}
+use Rattle.mc_live.specs.declared.held.Held.{Held}
 use Rattle.mc_live.specs.declared.order.Row.{Row}
 
 pub record IsPruning (hidden : List ℕ → Bool) (ids : List (Option (List ℕ))) (old new : List Row) : Type 0 where
@@ -63,31 +63,31 @@ pruning_pops hidden ids old now new row gone pruning e f hides moved heap =
     pruning_next hidden ids old now new gone pruning (subst (λ (r : Row). is_shown hidden ids r ≡ false) same hides) moved heap
 
 -- the rows of one key among all
-module _ {Y Z : Type 0} (old new : BTreeMap (String Y) (BinaryHeap Row Z)) (key : List ℕ) (heap : BinaryHeap Row Z)
-    (updates : (other : List ℕ) → get_by_text new other ≡ cond (bytes_eq key other) (Some heap) (get_by_text old other)) where
-  pub key_pruned : (tombs : List ℕ → List ℕ → Bool) (ids : List (Option (List ℕ))) → Prunes (tombs key) ids (rows_in old key) (heap_items heap) → PrunesKeys tombs ids (bytes_eq key) (rows_in old) (rows_in new)
+module _ {Y S : Type 0} (old new : HashMap (String Y) Held S) (key : List ℕ) (held : Held)
+    (updates : (other : List ℕ) → get_by_text new other ≡ cond (bytes_eq key other) (Some held) (get_by_text old other)) where
+  pub key_pruned : (tombs : List ℕ → List ℕ → Bool) (ids : List (Option (List ℕ))) → Prunes (tombs key) ids (rows_in old key) (items_of held) → PrunesKeys tombs ids (bytes_eq key) (rows_in old) (rows_in new)
   key_pruned tombs ids prunes =
-      let set = rows_set old new key heap updates in
+      let set = rows_set old new key held updates in
       record {
         rest = λ other test of. ap (list_any test) (set other) ∙ rest_by other test of (bytes_eq key other) refl;
         fewer = λ other test none. ap (list_any test) (set other) ∙ fewer_by other test none (bytes_eq key other) refl;
-        heaps = keeps_heaps old new key heap updates prunes.heap;
+        heaps = keeps_heaps old new key held updates prunes.heap;
         top = λ other is. subst (IsTopShown (tombs other) ids) (sym (set other)) (top_by other (bytes_eq key other) refl is);
-        others = keeps_rows old new key heap updates;
+        others = keeps_rows old new key held updates;
       }
     where
-      rest_by : (other : List ℕ) (test : Row → Bool) → OfShown (tombs other) ids test → (b : Bool) → bytes_eq key other ≡ b → list_any test (cond b (heap_items heap) (rows_in old other)) ≡ list_any test (rows_in old other)
+      rest_by : (other : List ℕ) (test : Row → Bool) → OfShown (tombs other) ids test → (b : Bool) → bytes_eq key other ≡ b → list_any test (cond b (items_of held) (rows_in old other)) ≡ list_any test (rows_in old other)
       rest_by other test of true e =
           let same = (bytes_eq-Decides key other).0 e in
           prunes.rest test (subst (λ k. OfShown (tombs k) ids test) (sym same) of) ∙ ap (λ k. list_any test (rows_in old k)) same
       rest_by other test of false e = refl
 
-      fewer_by : (other : List ℕ) (test : Row → Bool) → list_any test (rows_in old other) ≡ false → (b : Bool) → bytes_eq key other ≡ b → list_any test (cond b (heap_items heap) (rows_in old other)) ≡ false
+      fewer_by : (other : List ℕ) (test : Row → Bool) → list_any test (rows_in old other) ≡ false → (b : Bool) → bytes_eq key other ≡ b → list_any test (cond b (items_of held) (rows_in old other)) ≡ false
       fewer_by other test none true e = prunes.fewer test (ap (λ k. list_any test (rows_in old k)) ((bytes_eq-Decides key other).0 e) ∙ none)
       fewer_by other test none false e = none
 
-      top_by : (other : List ℕ) (b : Bool) → bytes_eq key other ≡ b → bytes_eq key other ≡ true → IsTopShown (tombs other) ids (cond b (heap_items heap) (rows_in old other))
-      top_by other true e is = subst (λ k. IsTopShown (tombs k) ids (heap_items heap)) ((bytes_eq-Decides key other).0 e) prunes.top
+      top_by : (other : List ℕ) (b : Bool) → bytes_eq key other ≡ b → bytes_eq key other ≡ true → IsTopShown (tombs other) ids (cond b (items_of held) (rows_in old other))
+      top_by other true e is = subst (λ k. IsTopShown (tombs k) ids (items_of held)) ((bytes_eq-Decides key other).0 e) prunes.top
       top_by other false e is = absurd (let f : false ≡ true = sym e ∙ is in cc)
 
 module _ (tombs : List ℕ → List ℕ → Bool) (ids : List (Option (List ℕ))) where

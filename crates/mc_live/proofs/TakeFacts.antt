@@ -1,7 +1,6 @@
 -- What is kept after one block more, or after a block that was refused.
-use Rattle.std.proofs.Common.{◌≡◌, ℕ, ◌+◌, ◌<◌, arith, Bool, true, false, not, ◌||◌, ◌&&◌, List, [], ◌∷◌, ◌++◌, length, Option, Some, None, refl, sym, ap, ◌∙◌, subst, length-append, rules}
+use Rattle.std.proofs.Common.{◌≡◌, ℕ, ◌+◌, ◌<◌, arith, Bool, true, false, not, ◌||◌, ◌&&◌, List, [], ◌∷◌, ◌++◌, length, Option, Some, None, refl, sym, ap, ◌∙◌, subst, length-append}
 use Rattle.std.specs.Prelude.{fold, nat_lt}
-use Rattle.std.specs.BinaryHeap.{IsHeap}
 use Rattle.std.specs.List.{list_any}
 use Rattle.std.specs.Str.{bytes_eq}
 use Rattle.std.proofs.lemmas.Bool.{or_parts, lt-ltb}
@@ -12,13 +11,13 @@ use Rattle.mc_model.specs.declared.delta.Tomb.{Tomb}
 use Rattle.mc_model.specs.Id.{id_text}
 use Rattle.mc_model.specs.Live.{has_tomb, is_tomb}
 use Rattle.mc_model.proofs.Members.{any_agree}
-use Rattle.mc_live.specs.Order.{row_cmp}
 use Rattle.mc_live.specs.Prune.{PrunesKeys}
 use Rattle.mc_live.specs.Rows.{AddsOf, AddsRows, Entry, IsTopShown, KeepsHeaps, KeepsRows, gives_row, id_at, is_shown, lives, row_lives, rows_in, shows}
 use Rattle.mc_live.specs.Stands.{KeyStands, Stands, entries, entries_in, tomb_in, touches}
 use Rattle.mc_live.specs.declared.live.Live.{Live}
 use Rattle.mc_live.specs.Hiding.{with_tomb}
 use Rattle.mc_live.specs.declared.order.Row.{Row}
+use Rattle.mc_live.proofs.HeldFacts.{no_heap}
 use Rattle.mc_live.proofs.Shows.{entries_more, hides_more, id_before, id_past, id_refused, is_late, lives_more, new_rows_show, not_shown, old_rows_show, refused_rows_show, shows_more}
 
 -- tombstones put in one after another
@@ -216,10 +215,6 @@ stands_same blocks was now stands told ids rows = record {
   tombs = λ key id. told key id ∙ stands.tombs key id;
   keys = λ key. subst (λ z. KeyStands (has_tomb blocks key) now.calls.items (rows_in z key) (entries blocks key)) (sym rows) (subst (λ z. KeyStands (has_tomb blocks key) z (rows_in was.rows key) (entries blocks key)) (sym ids) (stands.keys key));
 }
-
-no_heap : IsHeap row_cmp []
-unfolding IsHeap
-no_heap = search rules
 
 -- nothing was taken
 pub stands_empty : (now : Live) → ((key id : List ℕ) → tomb_in now key id ≡ false) → now.calls.items ≡ [] → ((key : List ℕ) → rows_in now.rows key ≡ []) → Stands [] now

@@ -3,6 +3,7 @@
 //! keeps no bytes of them. Its contract stands on `Live`, in the words of specs/Stands.antt.
 #![tactic(auto)]
 
+mod held;
 mod hiding;
 mod live;
 mod order;

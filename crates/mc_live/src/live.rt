@@ -6,18 +6,20 @@ ghost use Rattle.mc_model.specs.declared.block.Block.{Block as B};
 ghost use Rattle.mc_model.specs.Live as model;
 ghost use Rattle.mc_live.specs.Prune.{PrunesKeys};
 ghost use Rattle.std.specs.BinaryHeap.{heap_items};
-ghost use Rattle.mc_live.specs.Rows.{IsFirst, rows_in};
+ghost use Rattle.mc_live.specs.Rows.{IsFirst, items_of, rows_in};
 ghost use Rattle.mc_live.specs.Stands.{Stands, tomb_in, touches};
 
+use crate::held::Held;
 use crate::hiding::{Hidden, put_tombs};
 use crate::order::Row;
 use crate::prune::{prune_elements, prune_tombs};
-use crate::rows::push_rows;
+use crate::rows::{Rows, push_rows};
+use indexmap::IndexMap;
 use mc_base::Text;
 use mc_model::{Block, Delta, Tomb, id_of};
 use mc_tombs::{Tombs, reserve_tombs};
 use std::alloc::{AllocError, Global};
-use std::collections::{BTreeMap, BinaryHeap};
+use std::collections::BinaryHeap;
 use std::hash::BuildHasherDefault;
 
 /// The values of keys over a list of blocks, kept in memory: it takes a block at a time, for as much as the block holds
@@ -27,7 +29,7 @@ pub struct Live {
     pub(crate) tombs: Hidden,
     // The id of the block that each call took; none for a call that was refused.
     pub(crate) calls: Vec<Option<Text>>,
-    pub(crate) rows: BTreeMap<String, BinaryHeap<Row>>,
+    pub(crate) rows: Rows,
 }
 
 impl Live {
@@ -38,7 +40,7 @@ impl Live {
         Live {
             tombs: Tombs::with_hasher(alloc, BuildHasherDefault::new()),
             calls: Vec::new(alloc),
-            rows: BTreeMap::new(alloc),
+            rows: IndexMap::new(alloc),
         }
     }
 
@@ -78,14 +80,24 @@ impl Live {
             option_map (λ bytes. bytes.now) result ≡ model.value blocks key.now }
     {
         match self.rows.get(key) {
-            Some(heap) => first_of(heap),
+            Some(held) => first_of(held),
             None => None,
         }
     }
 }
 
 // The value of the first row.
-fn first_of(heap: &BinaryHeap<Row>) -> Option<&[u8]>
+fn first_of(held: &Held) -> Option<&[u8]>
+    ensures { IsFirst (items_of held.now) (option_map (λ bytes. bytes.now) result) }
+{
+    match held {
+        Held::Gone => None,
+        Held::One(row) => Some(row.value.as_slice()),
+        Held::Several(heap) => top_of(heap),
+    }
+}
+
+fn top_of(heap: &BinaryHeap<Row>) -> Option<&[u8]>
     ensures { IsFirst (heap_items heap.now) (option_map (λ bytes. bytes.now) result) }
 {
     match heap.peek() {

@@ -1,5 +1,5 @@
 -- The list of a face beside the processed blocks that a log shows.
-use Rattle.std.proofs.Common.{◌≡◌, ℕ, Bool, true, false, List, [], ◌∷◌, ◌++◌, length, map, take, Option, Some, None, Result, Ok, Err, refl, sym, ap, ◌∙◌, subst}
+use Rattle.std.proofs.Common.{◌≡◌, ℕ, Bool, true, false, List, [], ◌∷◌, ◌++◌, length, take, Option, Some, None, Result, Ok, Err, refl, sym, ap, ◌∙◌, subst}
 use Rattle.std.specs.Prelude.{IfOk, IfSome, OnErr, OnOk, is_some}
 use Rattle.std.proofs.lemmas.Bool.{false≢true}
 use Rattle.std.proofs.lemmas.List.{map-append}
@@ -21,7 +21,7 @@ use Rattle.mc_node.specs.declared.entry.Entry.{Entry}
 use Rattle.mc_node.specs.declared.node.Seen.{Seen}
 use Rattle.mc_node.specs.Entries.{is_open, is_rooted_log, items_at, shown_at}
 use Rattle.mc_node.specs.Faces.{IsFaceOf, IsWholeFace}
-use Rattle.mc_node.specs.Items.{Item, Shown, blocks, blocks_in, is_rooted, is_sealed, is_unsealed, last, root, state_in, tells}
+use Rattle.mc_node.specs.Items.{Item, Shown, blocks, blocks_in, is_rooted, is_sealed, is_unsealed, last, root, tells}
 use Rattle.mc_node.specs.Moves.{seen_by}
 use Rattle.mc_node.specs.Ties.{IsGrowing, IsTied}
 use Rattle.mc_node.specs.Works.{Bounds}
@@ -35,11 +35,11 @@ root_stays : (first rest : List Item) → is_rooted first ≡ true → root (fir
 root_stays [] rest rooted = absurd (false≢true rooted)
 root_stays (item ∷ first) rest rooted = refl
 
-tells_stays : (first log : List Item) → is_rooted first ≡ true → Begins first log → tells log ≡ tells first
+pub tells_stays : (first log : List Item) → is_rooted first ≡ true → Begins first log → tells log ≡ tells first
 tells_stays first log rooted begins = ap (λ (l : List Item). tells l) (sym begins.1) ∙ ap (λ s. is_some s.told) (root_stays first begins.0 rooted)
 
 -- the processed blocks of an earlier log come first
-blocks_first : (first log : List Item) → IsGrowing log → Begins first log → Starts (blocks log) (blocks first)
+pub blocks_first : (first log : List Item) → IsGrowing log → Begins first log → Starts (blocks log) (blocks first)
 blocks_first first log grows begins =
     let part : take (length first) log ≡ first = ap (take (length first)) (sym begins.1) ∙ take-append_seam first begins.0 in
     subst (λ (l : List Item). take (length (blocks l)) (blocks log) ≡ blocks l) part (grows (length first))
@@ -50,7 +50,7 @@ face_still first log list rooted grows begins face tell =
     longer_on list (blocks first) (blocks log) (face (sym (tells_stays first log rooted begins) ∙ tell)) (blocks_first first log grows begins)
 
 -- the blocks that an unsealed log shows are those that the keeper tells
-blocks_told : (back : BackLaw) (limit : Bounds) (now : Shown) (log : List Item) (kept : Kept) → IsTied limit now log → is_sealed log ≡ false → now.told ≡ Some kept → blocks log ≡ processed kept
+pub blocks_told : (back : BackLaw) (limit : Bounds) (now : Shown) (log : List Item) (kept : Kept) → IsTied limit now log → is_sealed log ≡ false → now.told ≡ Some kept → blocks log ≡ processed kept
 blocks_told back limit now log kept tied unsealed told =
     of_told (last log).told (last log).fuse (run_of (last log).stopped (last log).run) (sym (tied.moment.told unsealed) ∙ told)
   where
@@ -93,11 +93,11 @@ seen_on_err n (Err error) P is = is
 
 -- the same at a seat of a node
 module _ {K D : Type 0} {g : keeper.Ghosts K D} {h : counted.Ghosts K} {i : counted.Ghosts D} (told : K → Option Kept) (fuse : K → Option Fuse) (own faults : K → ℕ) (quiet : K → Bool) (schedule : K → Option Schedule) where
-  rooted_items : (log : List (Entry K D g h i)) → is_rooted_log log ≡ true → is_rooted (items_at told fuse own faults quiet schedule log) ≡ true
+  pub rooted_items : (log : List (Entry K D g h i)) → is_rooted_log log ≡ true → is_rooted (items_at told fuse own faults quiet schedule log) ≡ true
   rooted_items [] rooted = absurd (false≢true rooted)
   rooted_items (entry ∷ log) rooted = rooted
 
-  begins_items : (xs ys : List (Entry K D g h i)) → Begins xs ys → Begins (items_at told fuse own faults quiet schedule xs) (items_at told fuse own faults quiet schedule ys)
+  pub begins_items : (xs ys : List (Entry K D g h i)) → Begins xs ys → Begins (items_at told fuse own faults quiet schedule xs) (items_at told fuse own faults quiet schedule ys)
   begins_items xs ys begins = (
     items_at told fuse own faults quiet schedule begins.0,
     sym (map-append (λ (entry : Entry K D g h i). record { note = entry.note; shown = shown_at told fuse own faults quiet schedule entry.replica.value }) xs begins.0) ∙ ap (items_at told fuse own faults quiet schedule) begins.1,

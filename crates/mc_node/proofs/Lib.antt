@@ -1,5 +1,6 @@
 pub mod ItemFacts
 pub mod FaceFacts
+pub mod FeedFacts
 pub mod FrameFacts
 mod StuckFacts
 pub mod WorkFacts

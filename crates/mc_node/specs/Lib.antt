@@ -1,6 +1,7 @@
 pub mod Ahead
 pub mod Entries
 pub mod Faces
+pub mod Feeds
 pub mod Fillings
 pub mod Handovers
 pub mod Items

@@ -10,7 +10,7 @@ mod note;
 mod stored;
 
 pub use entry::Entry;
-pub use error::TryError;
+pub use error::{NodeFeedError, TryError};
 pub use hired::Hired;
 pub use node::{Node, NodeGlimpse, NodeRefused, NodeSeat, Seen};
 pub use note::Note;

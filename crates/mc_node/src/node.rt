@@ -12,6 +12,7 @@ mod ahead;
 mod calls;
 mod deliveries;
 mod faces;
+mod feeds;
 mod reads;
 mod seats;
 mod shop;

@@ -17,6 +17,7 @@ mod ahead;
 mod calls;
 mod entries;
 mod faces;
+mod feeds;
 mod groups;
 mod jobs;
 mod making;

@@ -8,7 +8,7 @@ use mc_base::{Bytes, Counted, List};
 use mc_keep::{Fused, KeepError, Keeper};
 use mc_script::{read_line, write_reply};
 use mc_worker::Open;
-use mc_world::{NoWorld, Part, World, act};
+use mc_world::{NoWorld, Part, World, act, new_pasts};
 use std::alloc::Global;
 use std::sync::Wait;
 use std::test::Fail;
@@ -98,7 +98,16 @@ where
     let Some(command) = read_line(alloc, line.as_bytes())? else {
         return Ok(());
     };
-    let reply = act(world, alloc, &command, &Open, wait, wait)?;
+    let mut pasts = new_pasts(world, alloc)?;
+    let reply = act(
+        world,
+        pasts.as_mut_slice(),
+        alloc,
+        &command,
+        &Open,
+        wait,
+        wait,
+    )?;
     write_reply(alloc, &reply, replies)?;
     Ok(())
 }

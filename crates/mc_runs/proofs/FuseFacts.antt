@@ -20,7 +20,7 @@ use Rattle.mc_script.specs.declared.reply.Reply.TheVariants.{FaultKeeper, FaultP
 use Rattle.mc_seats.specs.declared.entry.LineEntry.{LineEntry}
 use Rattle.mc_seats.specs.Asks.{focus, is_named, may_fail}
 use Rattle.mc_seats.specs.Calling.{Batches, Blocks, Calling, Nothing, Reach}
-use Rattle.mc_seats.specs.Doing.{At, Calls, Casts, Doing, Hears, Repairs, Steps, Storms, Tends, Works, doing}
+use Rattle.mc_seats.specs.Doing.{At, Calls, Casts, Doing, Exports, Hears, Imports, Repairs, Steps, Storms, Tends, Works, doing}
 use Rattle.mc_seats.specs.Effects.{CallsAt, DoneAt, done_by, events_by, happens_by}
 use Rattle.mc_runs.specs.Promises.{fired_at, fuse_at, tells_at}
 use Rattle.mc_seats.specs.Step.{GivesBack, IsFaulted, PeerBreaks, Row, Step, breaks_by, is_fault}
@@ -141,6 +141,8 @@ done_unfired w (At r (Calls call)) reply p q is tells h = reach_unfired w (At r 
 done_unfired w (At r (Tends tending)) reply p q is tells h = not_fired p.fuse q.fuse (is.fuse_kept p q reply h)
 done_unfired w (At r Casts) reply p q is tells h = now_same p q h
 done_unfired w (At r (Hears message)) reply p q is tells h = same_fuse p.fuse q.fuse h.0.1.1
+done_unfired w (At r Exports) reply p q is tells h = now_same p q h
+done_unfired w (At r (Imports car)) reply p q is tells h = place_unfired w (At r (Imports car)) reply p q tells h.1
 done_unfired w (At r Steps) reply p q is tells h = place_unfired w (At r Steps) reply p q tells h.1
 done_unfired w (At r (Works budget)) reply p q is tells h = pulled_unfired _ _ (WorkLeads (budget_of budget) (finds_of (peers_of w r)) (Ok h.value)) (λ s t leads. fuse_stays _ s.fuse t.fuse leads.fuse) p q tells h.works
 done_unfired w (At r Repairs) reply p q is tells h = pulled_unfired _ _ (RepairLeads repair_budget (finds_of (peers_of w r)) (Ok h.value)) (λ s t leads. fuse_stays _ s.fuse t.fuse leads.fuse) p q tells h.repairs

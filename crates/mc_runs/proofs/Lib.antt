@@ -1,4 +1,5 @@
 pub mod StormFacts
+pub mod BelowFacts
 pub mod TendFacts
 pub mod PromiseFacts
 pub mod WrittenFacts
@@ -19,3 +20,5 @@ pub mod OneEnds
 pub mod LowHeights
 pub mod OneDeletes
 pub mod Arrivals
+pub mod ExportedFacts
+pub mod PassedFacts

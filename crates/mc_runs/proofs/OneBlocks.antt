@@ -6,7 +6,7 @@ use Rattle.mc_base.specs.declared.cid.Cid.{Cid}
 use Rattle.mc_model.specs.declared.block.Block.{Block}
 use Rattle.mc_model.specs.Front.{same_cid}
 use Rattle.mc_model.specs.Graph.{has}
-use Rattle.mc_model.specs.Kept.{block_in, block_under, bytes_at}
+use Rattle.mc_model.specs.Kept.{block_in, block_under}
 use Rattle.mc_model.specs.SameMembers.{SameMembers}
 use Rattle.mc_model.specs.State.{blocks_of, kept_of}
 use Rattle.mc_model.proofs.Counts.{cid_is, cid_itself}

@@ -60,7 +60,7 @@ wanted_of : (run : Option Running) → wanted_in run ≡ wanted (queue_in run)
 wanted_of None = refl
 wanted_of (Some run) = refl
 
-record IsEnd (map : Map) (start : List Cid) (s n : ReplicaState) : Type 0 where
+pub record IsEnd (map : Map) (start : List Cid) (s n : ReplicaState) : Type 0 where
   pub at_end : IsAtEnd map start s n
   pub sound : IsSound n.state
   pub still : IsStill (queue_in n.state.run)
@@ -100,7 +100,7 @@ module _ (map : Map) (start : List Cid) (s n n2 : ReplicaState) (a : IsEnd map s
 
 -- what is found is known
 
-found_told : (w : WorldState) (r : ℕ) (s : ReplicaState) → AreTold w → (map : Map) × (found_from s.state.durable.graph (offered_by (peers_of w r)) ≡ Some map)
+pub found_told : (w : WorldState) (r : ℕ) (s : ReplicaState) → AreTold w → (map : Map) × (found_from s.state.durable.graph (offered_by (peers_of w r)) ≡ Some map)
 found_told w r s all =
     let told = offers_told (peers_of w r) (all_picked (λ (p : Place). is_some p.content ≡ true) (peer_row w.around.down r 0 w.places) w.places all) in (
       (λ c. first_bytes (bytes_in s.state.durable.graph c) (first_offer c (places_of told.0 c))),
@@ -147,7 +147,7 @@ no_end core.KeeperFault reply end e = e
 no_end core.Memory reply end e = e
 no_end error reply end e = true≢false (sym end ∙ sym (ap ends_reply e))
 
-work_done : (w : WorldState) (r workers : ℕ) (budget : Option ℕ) (entry : LineEntry) (reply : Reply) (w2 : WorldState) → is_end reply ≡ true → Step w (Work r workers budget) entry reply w2 → IsDone w (Work r workers budget) reply w2
+pub work_done : (w : WorldState) (r workers : ℕ) (budget : Option ℕ) (entry : LineEntry) (reply : Reply) (w2 : WorldState) → is_end reply ≡ true → Step w (Work r workers budget) entry reply w2 → IsDone w (Work r workers budget) reply w2
 work_done w r workers budget entry reply w2 end step = over step.row
   where
     over : Row w (Work r workers budget) (λ r. is_named entry.keepers r ≡ true) (λ r. is_named entry.own r ≡ true) (λ r. is_named entry.desks r ≡ true) reply w2 → IsDone w (Work r workers budget) reply w2
@@ -167,7 +167,7 @@ repair_done w r workers entry reply w2 end step = over step.row
 
 -- the end of a work, or where its budget is used
 
-record IsWorked (map : Map) (budget : ℕ) (s : ReplicaState) (q : Place) (reply : Reply) : Type 0 where
+pub record IsWorked (map : Map) (budget : ℕ) (s : ReplicaState) (q : Place) (reply : Reply) : Type 0 where
   pub state : ReplicaState
   pub is_state : state_at q ≡ Some state
   pub end : IsEnd map (wanted_in s.state.run) s state
@@ -213,7 +213,7 @@ work_cases map peers budget p q s reply is known done = over done.value done.say
               ∙ ap (λ (x : Option Running). replies.Worked (came_between s after.0) (length (queue_in x).missing) (length (queue_in x).bad)) run;
         })
 
-work_end : (map : Map) (peers : List Place) (budget : ℕ) (p q : Place) (s : ReplicaState) (reply : Reply) → is_end reply ≡ true → state_at p ≡ Some s → found_from s.state.durable.graph (offered_by peers) ≡ Some map → WorkDone peers budget p q reply → IsWorked map budget s q reply
+pub work_end : (map : Map) (peers : List Place) (budget : ℕ) (p q : Place) (s : ReplicaState) (reply : Reply) → is_end reply ≡ true → state_at p ≡ Some s → found_from s.state.durable.graph (offered_by peers) ≡ Some map → WorkDone peers budget p q reply → IsWorked map budget s q reply
 work_end map peers budget p q s reply end is known done = over (work_cases map peers budget p q s reply is known done)
   where
     over : IsWorked map budget s q reply ⊎ IsSpent map budget s q reply → IsWorked map budget s q reply

@@ -1,5 +1,5 @@
 -- What a command that has one outcome makes: its events and its reply are those of its world alone.
-use Rattle.std.proofs.Common.{◌≡◌, ℕ, Bool, true, false, ◌&&◌, true≢false, List, [], ◌∷◌, length, map, Option, Some, None, Result, Ok, Err, refl, sym, ◌∙◌, ap, subst, inl, inr, arith}
+use Rattle.std.proofs.Common.{◌≡◌, ℕ, Bool, true, false, ◌&&◌, true≢false, List, [], ◌∷◌, ◌++◌, length, map, Option, Some, None, Result, Ok, Err, refl, sym, ◌∙◌, ap, subst, inl, inr, arith}
 use Rattle.std.specs.Prelude.{◌⊎◌, is_ok, is_some, unwrap_or}
 use Rattle.std.specs.List.{AllByRecursion}
 use Rattle.std.specs.Option.{option_map}
@@ -27,19 +27,27 @@ use Rattle.mc_core.specs.Jobs.{IsDelivered, first_waiting}
 use Rattle.mc_core.specs.Puts.{next_links}
 use Rattle.mc_core.specs.declared.Heard.{Heard}
 use Rattle.mc_core.specs.declared.Written.{Written}
+use Rattle.mc_car.specs.declared.car.Car.{Car}
+use Rattle.mc_car.specs.declared.fault.CarFault.{CarFault}
+use Rattle.mc_feed.specs.declared.event.Event.{Event as Change}
+use Rattle.mc_files.specs.Files.{ImportEvents, IsExport, TakeEvents, blocks_of}
+use Rattle.mc_files.specs.declared.taking.Imported.{Imported}
+use Rattle.mc_past.specs.Past.{FoundsAreOne}
+use Rattle.mc_model.specs.declared.block.Stored.{Stored}
 use Rattle.mc_model.specs.declared.delta.Delta.{Delta}
 use Rattle.mc_script.specs.declared.command.Command.{Command}
-use Rattle.mc_script.specs.declared.command.Command.TheVariants.{Put, Del, Begin, BatchPut, BatchDel, Commit, Hear, Step as StepOf}
+use Rattle.mc_script.specs.declared.command.Command.TheVariants.{Put, Del, Begin, BatchPut, BatchDel, Commit, Feed, GetAt, Hear, Import, Step as StepOf}
 use Rattle.mc_script.specs.declared.reply.Reply.{Reply}
-use Rattle.mc_script.specs.declared.reply.Reply.TheVariants.{Bad, Deleted, Priority, Queued, Idle}
+use Rattle.mc_script.specs.declared.reply.Reply.TheVariants.{Bad, Deleted, Events, Priority, Queued, Idle}
 use Rattle.mc_seats.specs.declared.error.ActError.{ActError}
-use Rattle.mc_seats.specs.Asks.{message_at}
+use Rattle.mc_seats.specs.Asks.{car_at, message_at}
 use Rattle.mc_seats.specs.Calling.{Finds, Makes, Outcome, batch_priority, outcome_of}
-use Rattle.mc_seats.specs.Doing.{At, Calls, Doing, Hears, Steps, doing}
-use Rattle.mc_seats.specs.Effects.{events_by, happens_by}
+use Rattle.mc_seats.specs.Doing.{At, Calls, Doing, Hears, Imports, Steps, below_reply, change_of, doing}
+use Rattle.mc_seats.specs.Effects.{events_by, happens_by, import_reply}
 use Rattle.mc_seats.specs.Fetching.{Decides, IsFound, IsStepReply, StepEvents, StepsWith, all_tell, first_in_front, offers_of}
 use Rattle.mc_seats.specs.Worlds.{Place, WorldState, peer_row, peers_of, picked, state_at}
 use Rattle.mc_runs.specs.OneText.{AreOpen, IsOpen, has_one_outcome}
+use Rattle.mc_runs.proofs.BelowFacts.{below_again}
 use Rattle.mc_runs.proofs.OneDeletes.{deltas_one}
 
 -- values under constructors
@@ -61,6 +69,16 @@ no_some e = true≢false (sym (ap is_some e))
 
 abbrev pub BackLaw : Type 0
 BackLaw = (kept : Kept) → kept_of (durable_of kept) ≡ kept
+
+-- what is exported of something that is kept is one
+abbrev pub ExportsLaw : Type 0
+ExportsLaw = (kept : Kept) (first second : List ℕ) → IsExport kept (Ok first) → IsExport kept (Ok second) → first ≡ second
+
+-- what these facts stand on
+pub record OneLaws : Type 0 where
+  pub back : BackLaw
+  pub exports : ExportsLaw
+  pub founds : FoundsAreOne
 
 pub told_state : (armed : Bool) → (p : Place) → IsOpen armed p → (s : ReplicaState) × (state_at p ≡ Some s) × (armed ≡ false → s.fuse ≡ None)
 told_state armed p open_p = over p.content p.fuse p.run open_p.told open_p.no_fuse
@@ -261,11 +279,39 @@ heard_one s text events events2 heard heard2 a b = (a.only ∙ ap (λ (c : List 
         let same = ap (λ (c : List Cid). length (hear_all s.state.durable.order (queue_in s.state.run) c).waiting) cids in
         omega (arith, p, q, same)
 
+-- a file that is taken in
+
+pub file_one : (car car2 : Car) → ◌≡◌ {A = Result Car CarFault} (Ok car) (Ok car2) → car ≡ car2
+file_one car car2 e = ap (or_first car) e
+  where
+    or_first : Car → Result Car CarFault → Car
+    or_first car (Ok found) = found
+    or_first car (Err fault) = car
+
+taken_one : (s : ReplicaState) (roots : List Cid) (items : List Stored) (events events2 : List Event) (imported imported2 : Imported) → TakeEvents s roots items events imported → TakeEvents s roots items events2 imported2 → (events ≡ events2) × (imported ≡ imported2)
+taken_one s roots items events events2 imported imported2 a b =
+    let stored : imported.stored ≡ imported2.stored = a.keeps.counts ∙ sym b.keeps.counts in
+    let queued : imported.queued ≡ imported2.queued = count a.heard b.heard in
+    (a.are ∙ ap (λ (store : List Event). store ++ HearOf roots ∷ []) (a.keeps.are ∙ sym b.keeps.are) ∙ sym b.are, λ i. record { stored = stored i; queued = queued i })
+  where
+    count : IsQueued (queue_in s.state.run) (hear_all s.state.durable.order (queue_in s.state.run) roots) imported.queued → IsQueued (queue_in s.state.run) (hear_all s.state.durable.order (queue_in s.state.run) roots) imported2.queued → imported.queued ≡ imported2.queued
+    count p q = omega (arith, p, q)
+
+imported_one : (s : ReplicaState) (text : List ℕ) (events events2 : List Event) (said said2 : Result Imported ℕ) → ImportEvents s text events said → ImportEvents s text events2 said2 → (events ≡ events2) × (said ≡ said2)
+imported_one s text events events2 (Ok imported) (Ok imported2) a b =
+    let car : b.car ≡ a.car = file_one b.car a.car (sym b.found ∙ a.found) in
+    let both = taken_one s a.car.roots (blocks_of a.car) events events2 imported imported2 a.takes (subst (λ (c : Car). TakeEvents s c.roots (blocks_of c) events2 imported2) car b.takes) in
+    (both.0, ap Ok both.1)
+imported_one s text events events2 (Ok imported) (Err number) a b = absurd (no_some (sym a.sound ∙ b.1))
+imported_one s text events events2 (Err number) (Ok imported) a b = absurd (no_some (sym b.sound ∙ a.1))
+imported_one s text events events2 (Err number) (Err number2) a b = (a.0 ∙ sym b.0, ap Err (some_is (sym a.1 ∙ b.1)))
+
 -- which events a command makes
 
 abbrev pub made_by : Doing → Bool
 made_by (At r (Calls call)) = true
 made_by (At r (Hears message)) = true
+made_by (At r (Imports car)) = true
 made_by (At r Steps) = true
 made_by d = false
 
@@ -286,25 +332,31 @@ outcome_one (Makes M) s events events2 reply reply2 found h h2 = absurd (true≢
 reading_one : (w : WorldState) (s : ReplicaState) (d : Doing) → made_by d ≡ true → found_by d ≡ made_by d → Made w s d
 reading_one w s (At r (Calls call)) made found = λ events events2 reply reply2 h h2. outcome_one call.outcome s events events2 reply reply2 found h h2
 reading_one w s (At r (Hears message)) made found = absurd (true≢false (sym found))
+reading_one w s (At r (Imports car)) made found = absurd (true≢false (sym found))
 reading_one w s (At r Steps) made found = absurd (true≢false (sym found))
 reading_one w s d made found = absurd (true≢false (sym made))
 
-pub made_one : (armed : Bool) → (w : WorldState) (s : ReplicaState) (command : Command) → AreOpen armed w → has_one_outcome armed command ≡ true → made_by (doing command) ≡ true → Made w s (doing command)
-made_one armed w s (Put r key bytes) all one made = λ events events2 reply reply2 h h2. (h.1.0 ∙ sym h2.1.0, h.2 ∙ ap (λ (x : Written). Priority x.priority) (h.1.1 ∙ sym h2.1.1) ∙ sym h2.2)
-made_one armed w s (Del r key) all one made = λ events events2 reply reply2 h h2.
+pub made_one : (armed : Bool) (founds : FoundsAreOne) (w : WorldState) (s : ReplicaState) (command : Command) → AreOpen armed w → has_one_outcome armed command ≡ true → made_by (doing command) ≡ true → Made w s (doing command)
+made_one armed founds w s (Put r key bytes) all one made = λ events events2 reply reply2 h h2. (h.1.0 ∙ sym h2.1.0, h.2 ∙ ap (λ (x : Written). Priority x.priority) (h.1.1 ∙ sym h2.1.1) ∙ sym h2.2)
+made_one armed founds w s (Del r key) all one made = λ events events2 reply reply2 h h2.
     let kept = kept_of s.state.durable in
     let deltas : h.1.0 ≡ h2.1.0 = deltas_one kept key h.1.0 h2.1.0 h.1.1 h2.1.1 in (
       h.1.2 ∙ ap (chain_events kept (next_links kept)) deltas ∙ sym h2.1.2,
       h.2 ∙ ap Deleted (h.1.3 ∙ ap (λ (l : List Delta). length l) deltas ∙ sym h2.1.3) ∙ sym h2.2,
     )
-made_one armed w s (Begin r) all one made = λ events events2 reply reply2 h h2. (h.1 ∙ sym h2.1, h.2 ∙ sym h2.2)
-made_one armed w s (BatchPut r key bytes) all one made = λ events events2 reply reply2 h h2. (of_run s.state.run _ _ (events ≡ events2) (λ b p q. p ∙ sym q) h.1 h2.1, h.2 ∙ sym h2.2)
-made_one armed w s (BatchDel r key) all one made = λ events events2 reply reply2 h h2. (of_run s.state.run _ _ (events ≡ events2) (λ b p q. p ∙ sym q) h.1 h2.1, h.2 ∙ sym h2.2)
-made_one armed w s (Commit r) all one made = λ events events2 reply reply2 h h2.
+made_one armed founds w s (Begin r) all one made = λ events events2 reply reply2 h h2. (h.1 ∙ sym h2.1, h.2 ∙ sym h2.2)
+made_one armed founds w s (BatchPut r key bytes) all one made = λ events events2 reply reply2 h h2. (of_run s.state.run _ _ (events ≡ events2) (λ b p q. p ∙ sym q) h.1 h2.1, h.2 ∙ sym h2.2)
+made_one armed founds w s (BatchDel r key) all one made = λ events events2 reply reply2 h h2. (of_run s.state.run _ _ (events ≡ events2) (λ b p q. p ∙ sym q) h.1 h2.1, h.2 ∙ sym h2.2)
+made_one armed founds w s (Commit r) all one made = λ events events2 reply reply2 h h2.
     let both = of_run s.state.run (λ batch. BatchBecomes (kept_of s.state.durable) batch (is_empty_batch batch) events h.0) (λ batch. BatchBecomes (kept_of s.state.durable) batch (is_empty_batch batch) events2 h2.0) ((events ≡ events2) × (h.0 ≡ h2.0))
     (λ b p q. becomes_one (kept_of s.state.durable) b (is_empty_batch b) events events2 h.0 h2.0 p q) h.1 h2.1 in
     (both.0, h.2 ∙ ap (λ (x : Option Written). Priority (batch_priority x)) both.1 ∙ sym h2.2)
-made_one armed w s (Hear r message) all one made = λ events events2 reply reply2 h h2.
+made_one armed founds w s (Hear r message) all one made = λ events events2 reply reply2 h h2.
     let both = heard_one s (message_at w.around.bag message) events events2 h.0 h2.0 h.1 h2.1 in (both.0, h.2 ∙ ap Queued both.1 ∙ sym h2.2)
-made_one armed w s (StepOf r) all one made = λ events events2 reply reply2 h h2. step_made armed (peers_of w r) s events events2 reply reply2 (all_picked (IsOpen armed) (peer_row w.around.down r 0 w.places) w.places all) h h2
-made_one armed w s command all one made = reading_one w s (doing command) made refl
+made_one armed founds w s (Import r car) all one made = λ events events2 reply reply2 h h2.
+    let both = imported_one s (car_at w.around.bag car) events events2 h.0 h2.0 h.1 h2.1 in (both.0, h.2 ∙ ap import_reply both.1 ∙ sym h2.2)
+made_one armed founds w s (Feed r from count) all one made = λ events events2 reply reply2 h h2. (h.1.0 ∙ sym h2.1.0, h.2 ∙ ap (λ (found : List Change). Events (map change_of found)) (h.1.1 ∙ sym h2.1.1) ∙ sym h2.2)
+made_one armed founds w s (GetAt r cid key) all one made = λ events events2 reply reply2 h h2.
+    (h.1.0 ∙ sym h2.1.0, h.2 ∙ ap below_reply (below_again founds (kept_of s.state.durable) cid key h.0 h2.0 h.1.1 h2.1.1) ∙ sym h2.2)
+made_one armed founds w s (StepOf r) all one made = λ events events2 reply reply2 h h2. step_made armed (peers_of w r) s events events2 reply reply2 (all_picked (IsOpen armed) (peer_row w.around.down r 0 w.places) w.places all) h h2
+made_one armed founds w s command all one made = reading_one w s (doing command) made refl

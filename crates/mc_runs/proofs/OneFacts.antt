@@ -1,5 +1,5 @@
 -- A command that has one outcome: two steps of it from one world are one, and so are two runs.
-use Rattle.std.proofs.Common.{◌≡◌, ℕ, zero, suc, Bool, true, false, true≢false, not, List, [], ◌∷◌, ◌++◌, length, set, Option, Some, None, Ok, refl, sym, ◌∙◌, ap, subst, inl, inr, nat_lt}
+use Rattle.std.proofs.Common.{◌≡◌, ℕ, zero, suc, ◌+◌, Bool, true, false, true≢false, not, List, [], ◌∷◌, ◌++◌, length, set, Option, Some, None, Result, Ok, Err, refl, sym, ◌∙◌, ap, subst, arith, inl, inr, nat_lt}
 use Rattle.std.specs.Prelude.{◌⊎◌, ◌↔◌, IfSome, is_some, slice_get}
 use Rattle.std.specs.List.{AllByRecursion, list_all}
 use Rattle.std.proofs.lemmas.Bool.{ltb-true}
@@ -11,34 +11,37 @@ use Rattle.mc_core.specs.Events.{ReplicaState}
 use Rattle.mc_core.specs.Hears.{written_cast}
 use Rattle.mc_core.specs.Refusals.{ByKind, kind_of}
 use Rattle.mc_core.specs.declared.CoreError.{CoreError}
+use Rattle.mc_files.specs.Files.{IsExport}
 use Rattle.mc_script.specs.Line.{line_of}
 use Rattle.mc_script.specs.declared.command.Command.{Command}
-use Rattle.mc_script.specs.declared.command.Command.TheVariants.{Put, Del, Cast, Wire, Plant, Link, Work, Repair, Storm, State as StateOf, Same as SameOf, Stop, Open, StopAt, StopAfter}
+use Rattle.mc_script.specs.declared.command.Command.TheVariants.{Put, Del, CarIn, Cast, Export, Wire, Plant, Link, Work, Repair, Storm, State as StateOf, Same as SameOf, Stop, Open, StopAt, StopAfter}
 use Rattle.mc_script.specs.declared.reply.Reply.{Reply}
-use Rattle.mc_script.specs.declared.reply.Reply.TheVariants.{State, Same}
+use Rattle.mc_script.specs.declared.reply.Reply.TheVariants.{Car, RefusedRoots, Same, State}
 use Rattle.mc_seats.specs.declared.entry.LineEntry.{LineEntry}
-use Rattle.mc_seats.specs.Asks.{among_by, focus_by, has_message, is_named, is_there}
+use Rattle.mc_seats.specs.Asks.{among_by, focus_by, is_named, is_there}
 use Rattle.mc_seats.specs.Calling.{Batches, Blocks, Calling, Nothing, Reach}
-use Rattle.mc_seats.specs.Doing.{Act, At, Calls, Compares, Doing, Hears, Steps, Tends, doing}
+use Rattle.mc_seats.specs.Doing.{At, Calls, Compares, Doing, Hears, Imports, Steps, Tends, doing}
 use Rattle.mc_seats.specs.Effects.{CallsAt, DoneAt, IsReply, answer_of, call_refused, done_by, due_by, exact_by, happens_by, refused_by}
 use Rattle.mc_seats.specs.Record.{NamesNone}
-use Rattle.mc_seats.specs.Step.{CutShort, IsDone, IsFaulted, IsRefused, IsSent, Refuses, Row, SameProcessed, Step, refuses_by, sets_by}
+use Rattle.mc_seats.specs.Step.{CutShort, ExportsAt, HasManyRoots, IsDone, IsFaulted, IsFiled, IsRefused, IsSent, Refuses, Row, SameProcessed, Step, refuses_by, sets_by}
 use Rattle.mc_seats.specs.Tending.{HasNumbers, OpensAs}
 use Rattle.mc_seats.specs.Worlds.{Around, AtPlace, IfRuns, Moved, MovedAt, Place, WorldState, state_at}
 use Rattle.mc_seats.proofs.OpeningFacts.{first_true, second_true}
 use Rattle.mc_runs.specs.OneText.{AreOpen, IsOne, IsOpen, NoneRefused, blocks_none, has_one_outcome, refuses_block, replies_in, said_by}
 use Rattle.mc_runs.specs.Runs.{Answer, LineStep, Runs, own_free, owns_none}
 use Rattle.mc_runs.proofs.CalmFacts.{entry_none}
+use Rattle.mc_runs.proofs.ReplyFacts.{within}
 use Rattle.mc_runs.proofs.WrittenFacts.{of_place, stands_within}
 use Rattle.mc_runs.proofs.OneDeletes.{delete_due_one}
 use Rattle.mc_runs.proofs.OneFused.{IsFiredAt, fired_at, fired_not_done, fired_place, none_named, refused_seen}
-use Rattle.mc_runs.proofs.OneEvents.{BackLaw, IsOnePlace, both_happen, made_by, made_one, no_some, ok_is, some_is, told_state}
+use Rattle.mc_runs.proofs.OneEvents.{IsOnePlace, OneLaws, both_happen, made_by, made_one, no_some, ok_is, some_is, told_state}
 
 -- what it makes of its place
 
 split_done : (w : WorldState) (d : Doing) (p q : Place) (reply : Reply) → made_by d ≡ true → done_by w d p q reply → exact_by w d p q reply × happens_by w d p q reply
 split_done w (At r (Calls call)) p q reply made h = h
 split_done w (At r (Hears message)) p q reply made h = h
+split_done w (At r (Imports car)) p q reply made h = h
 split_done w (At r Steps) p q reply made h = h
 split_done w d p q reply made h = absurd (true≢false (sym made))
 
@@ -50,14 +53,15 @@ calls_planted (Blocks B) call p q reply h = h.0.planted_same
 exact_planted : (w : WorldState) (d : Doing) (p q : Place) (reply : Reply) → exact_by w d p q reply → q.planted ≡ p.planted
 exact_planted w (At r (Calls call)) p q reply h = calls_planted call.reach call p q reply h
 exact_planted w (At r (Hears message)) p q reply h = h.0.planted_same
+exact_planted w (At r (Imports car)) p q reply h = h.0.planted_same
 exact_planted w (At r Steps) p q reply h = h.0.planted_same
 exact_planted w d p q reply h = absurd h
 
-made_place : (armed : Bool) → (back : BackLaw) (w : WorldState) (command : Command) (p q q2 : Place) (reply reply2 : Reply) → AreOpen armed w → has_one_outcome armed command ≡ true → made_by (doing command) ≡ true → IsOpen armed p → DoneAt w command p q reply → DoneAt w command p q2 reply2 → IsOnePlace armed q q2 reply reply2
-made_place armed back w command p q q2 reply reply2 all one made open_p h h2 =
+made_place : (armed : Bool) → (laws : OneLaws) (w : WorldState) (command : Command) (p q q2 : Place) (reply reply2 : Reply) → AreOpen armed w → has_one_outcome armed command ≡ true → made_by (doing command) ≡ true → IsOpen armed p → DoneAt w command p q reply → DoneAt w command p q2 reply2 → IsOnePlace armed q q2 reply reply2
+made_place armed laws w command p q q2 reply reply2 all one made open_p h h2 =
     let a = split_done w (doing command) p q reply made h in
     let b = split_done w (doing command) p q2 reply2 made h2 in
-    both_happen armed back w (doing command) p q q2 reply reply2 open_p (λ s. made_one armed w s command all one made) (exact_planted w (doing command) p q reply a.0) (exact_planted w (doing command) p q2 reply2 b.0) a.1 b.1
+    both_happen armed laws.back w (doing command) p q q2 reply reply2 open_p (λ s. made_one armed laws.founds w s command all one made) (exact_planted w (doing command) p q reply a.0) (exact_planted w (doing command) p q2 reply2 b.0) a.1 b.1
 
 -- what is made of a place without a call
 
@@ -115,30 +119,57 @@ moved_one armed w w2 w3 r reply reply2 P P2 all a b around one =
 made_around : (w : WorldState) (d : Doing) (reply : Reply) (around : Around) → made_by d ≡ true → sets_by w d reply around → around ≡ w.around
 made_around w (At r (Calls call)) reply around made h = h
 made_around w (At r (Hears message)) reply around made h = h
+made_around w (At r (Imports car)) reply around made h = h
 made_around w (At r Steps) reply around made h = h
 made_around w d reply around made h = absurd (true≢false (sym made))
 
 made_focus : (d : Doing) (olds news : List Place) (P : Place → Place → Type 0) → made_by d ≡ true → MovedAt (focus_by d) olds news P → (r : ℕ) × (focus_by d ≡ Some r)
 made_focus (At r (Calls call)) olds news P made m = (r, refl)
 made_focus (At r (Hears message)) olds news P made m = (r, refl)
+made_focus (At r (Imports car)) olds news P made m = (r, refl)
 made_focus (At r Steps) olds news P made m = (r, refl)
 made_focus d olds news P made m = absurd (true≢false (sym made))
 
-done_made : (armed : Bool) → (back : BackLaw) (w : WorldState) (command : Command) (reply reply2 : Reply) (w2 w3 : WorldState) → AreOpen armed w → has_one_outcome armed command ≡ true → made_by (doing command) ≡ true → IsDone w command reply w2 → IsDone w command reply2 w3 → IsOneStep armed w2 w3 reply reply2
-done_made armed back w command reply reply2 w2 w3 all one made a b =
+done_made : (armed : Bool) → (laws : OneLaws) (w : WorldState) (command : Command) (reply reply2 : Reply) (w2 w3 : WorldState) → AreOpen armed w → has_one_outcome armed command ≡ true → made_by (doing command) ≡ true → IsDone w command reply w2 → IsDone w command reply2 w3 → IsOneStep armed w2 w3 reply reply2
+done_made armed laws w command reply reply2 w2 w3 all one made a b =
     let at = made_focus (doing command) w.places w2.places (λ p q. DoneAt w command p q reply) made a.moved in
     moved_one armed w w2 w3 at.0 reply reply2 (λ p q. DoneAt w command p q reply) (λ p q. DoneAt w command p q reply2) all
     (subst (λ (o : Option ℕ). MovedAt o w.places w2.places (λ p q. DoneAt w command p q reply)) at.1 a.moved)
     (subst (λ (o : Option ℕ). MovedAt o w.places w3.places (λ p q. DoneAt w command p q reply2)) at.1 b.moved)
     (made_around w (doing command) reply w2.around made a.around ∙ sym (made_around w (doing command) reply2 w3.around made b.around))
-    (λ p q q2 open_p h h2. made_place armed back w command p q q2 reply reply2 all one made open_p h h2)
+    (λ p q q2 open_p h h2. made_place armed laws w command p q q2 reply reply2 all one made open_p h h2)
 
 -- messages and replies that are one
 
 sent_one : (P Q : List ℕ → Type 0) (old : Around) (reply reply2 : Reply) (new new2 : Around) → ((x y : List ℕ) → P x → Q y → x ≡ y) → IsSent P old reply new → IsSent Q old reply2 new2 → (new ≡ new2) × (reply ≡ reply2)
 sent_one P Q old reply reply2 new new2 same a b =
     let text = same a.text b.text a.is_text b.is_text in
-    (a.sent ∙ ap (λ (x : List ℕ). record old { bag = old.bag ++ x ∷ [] }) text ∙ sym b.sent, a.numbered ∙ sym b.numbered)
+    (a.sent ∙ ap (λ (x : List ℕ). record old { bag = record old.bag { messages = old.bag.messages ++ x ∷ [] } }) text ∙ sym b.sent, a.numbered ∙ sym b.numbered)
+
+-- files that are one
+
+filed_one : (P Q : List ℕ → Type 0) (old : Around) (reply reply2 : Reply) (new new2 : Around) → ((x y : List ℕ) → P x → Q y → x ≡ y) → IsFiled P old reply new → IsFiled Q old reply2 new2 → (new ≡ new2) × (reply ≡ reply2)
+filed_one P Q old reply reply2 new new2 same a b =
+    let text = same a.text b.text a.is_text b.is_text in (
+      a.filed ∙ ap (λ (x : List ℕ). record old { bag = record old.bag { cars = old.bag.cars ++ x ∷ [] } }) text ∙ sym b.filed,
+      a.numbered ∙ ap (λ (x : List ℕ). Car (length old.bag.cars + 1) (length x)) text ∙ sym b.numbered,
+    )
+
+-- what is exported of something that is kept has too many heads, or hasn't
+few_or_many : (kept : Kept) (text : List ℕ) (number : ℕ) → IsExport kept (Ok text) → IsExport kept (Err number) → ⊥
+few_or_many kept text number file many = omega (arith, file.few, many.0, many.1)
+
+module _ (laws : OneLaws) (w : WorldState) (r : ℕ) (kept : Kept) (is : (said : Result (List ℕ) ℕ) → ExportsAt w r said → IsExport kept said) where
+  export_one : (old : Around) (reply reply2 : Reply) (new new2 : Around)
+      → IsFiled (λ text. ExportsAt w r (Ok text)) old reply new ⊎ HasManyRoots (λ number. ExportsAt w r (Err number)) old reply new
+      → IsFiled (λ text. ExportsAt w r (Ok text)) old reply2 new2 ⊎ HasManyRoots (λ number. ExportsAt w r (Err number)) old reply2 new2 → (new ≡ new2) × (reply ≡ reply2)
+  export_one old reply reply2 new new2 (inl a) (inl b) =
+      filed_one _ _ old reply reply2 new new2 (λ x y at at2. laws.exports kept x y (is (Ok x) at) (is (Ok y) at2)) a b
+  export_one old reply reply2 new new2 (inl a) (inr b) = absurd (few_or_many kept a.text b.number (is (Ok a.text) a.is_text) (is (Err b.number) b.is_number))
+  export_one old reply reply2 new new2 (inr a) (inl b) = absurd (few_or_many kept b.text a.number (is (Ok b.text) b.is_text) (is (Err a.number) a.is_number))
+  export_one old reply reply2 new new2 (inr a) (inr b) =
+      let number : a.number ≡ b.number = (is (Err a.number) a.is_number).0 ∙ sym (is (Err b.number) b.is_number).0 in
+      (a.same ∙ sym b.same, a.says ∙ ap RefusedRoots number ∙ sym b.says)
 
 told_one : (armed : Bool) → (p : Place) (x y : List ℕ) (f : ReplicaState → List ℕ) → IsOpen armed p → IfSome (state_at p) (λ s. x ≡ f s) → IfSome (state_at p) (λ s. y ≡ f s) → x ≡ y
 told_one armed p x y f open_p a b =
@@ -161,45 +192,55 @@ same_says armed p q a b open_p open_q x y =
 
 -- two commands that are done
 
-done_one : (armed : Bool) → (back : BackLaw) (w : WorldState) (command : Command) (reply reply2 : Reply) (w2 w3 : WorldState) → AreOpen armed w → is_there w command ≡ true → has_one_outcome armed command ≡ true → IsDone w command reply w2 → IsDone w command reply2 w3 → IsOneStep armed w2 w3 reply reply2
-done_one armed back w (Plant r cid bytes) reply reply2 w2 w3 all there one a b = moved_one armed w w2 w3 r reply reply2 _ _ all a.moved b.moved (a.around ∙ sym b.around) (λ p q q2 open_p h h2.
+done_one : (armed : Bool) → (laws : OneLaws) (w : WorldState) (command : Command) (reply reply2 : Reply) (w2 w3 : WorldState) → AreOpen armed w → is_there w command ≡ true → has_one_outcome armed command ≡ true → IsDone w command reply w2 → IsDone w command reply2 w3 → IsOneStep armed w2 w3 reply reply2
+done_one armed laws w (Plant r cid bytes) reply reply2 w2 w3 all there one a b = moved_one armed w w2 w3 r reply reply2 _ _ all a.moved b.moved (a.around ∙ sym b.around) (λ p q q2 open_p h h2.
     record { same = h.0 ∙ sym h2.0; says = h.1 ∙ sym h2.1; still = open_like armed p q open_p (ap (λ (x : Place). x.content) h.0) (ap (λ (x : Place). x.fuse) h.0) })
-done_one armed back w (StateOf r) reply reply2 w2 w3 all there one a b = moved_one armed w w2 w3 r reply reply2 _ _ all a.moved b.moved (a.around ∙ sym b.around) (λ p q q2 open_p h h2.
+done_one armed laws w (StateOf r) reply reply2 w2 w3 all there one a b = moved_one armed w w2 w3 r reply reply2 _ _ all a.moved b.moved (a.around ∙ sym b.around) (λ p q q2 open_p h h2.
     record { same = h.0 ∙ sym h2.0; says = state_one p.content p.run reply reply2 open_p.told h.1 h2.1; still = open_like armed p q open_p (ap (λ (x : Place). x.content) h.0) (ap (λ (x : Place). x.fuse) h.0) })
-done_one armed back w (Stop r) reply reply2 w2 w3 all there one a b = moved_one armed w w2 w3 r reply reply2 _ _ all a.moved b.moved (a.around ∙ sym b.around) (λ p q q2 open_p h h2.
+done_one armed laws w (Stop r) reply reply2 w2 w3 all there one a b = moved_one armed w w2 w3 r reply reply2 _ _ all a.moved b.moved (a.around ∙ sym b.around) (λ p q q2 open_p h h2.
     record { same = h.0 ∙ sym h2.0; says = h.1 ∙ sym h2.1; still = open_like armed p q open_p (ap (λ (x : Place). x.content) h.0) (ap (λ (x : Place). x.fuse) h.0) })
-done_one armed back w (Open r) reply reply2 w2 w3 all there one a b = moved_one armed w w2 w3 r reply reply2 _ _ all a.moved b.moved (a.around ∙ sym b.around) (λ p q q2 open_p h h2.
+done_one armed laws w (Open r) reply reply2 w2 w3 all there one a b = moved_one armed w w2 w3 r reply reply2 _ _ all a.moved b.moved (a.around ∙ sym b.around) (λ p q q2 open_p h h2.
     let content : q.content ≡ q2.content = h.0.tells.0 ∙ sym h2.0.tells.0 in
     let fuse : q.fuse ≡ q2.fuse = h.0.tells.1 ∙ sym h2.0.tells.1 in
     let run : q.run ≡ q2.run = opens_one p.content q.run q2.run open_p.told h.0.runs h2.0.runs in
     let planted : q.planted ≡ q2.planted = h.0.planted_same ∙ sym h2.0.planted_same in
     record { same = λ i. record { content = content i; fuse = fuse i; run = run i; planted = planted i }; says = h.1 ∙ sym h2.1; still = open_like armed p q open_p h.0.tells.0 h.0.tells.1 })
-done_one armed back w (Cast r) reply reply2 w2 w3 all there one a b =
+done_one armed laws w (Cast r) reply reply2 w2 w3 all there one a b =
     let p = stands_within w.places r (ltb-true r (length w.places) there) in
     let open_p = open_at armed w.places r p.0 all p.1 in
     let sent = sent_one _ _ w.around reply reply2 w2.around w3.around (λ x y is is2. told_one armed p.0 x y (λ s. written_cast (kept_of s.state.durable)) open_p
     (of_place w r (λ p. IfSome (state_at p) (λ s. x ≡ written_cast (kept_of s.state.durable))) p.0 p.1 is) (of_place w r (λ p. IfSome (state_at p) (λ s. y ≡ written_cast (kept_of s.state.durable))) p.0 p.1 is2)) a.around b.around in
     moved_one armed w w2 w3 r reply reply2 _ _ all a.moved b.moved sent.0 (λ p q q2 open_p h h2. record { same = h ∙ sym h2; says = sent.1; still = open_like armed p q open_p (ap (λ (x : Place). x.content) h) (ap (λ (x : Place). x.fuse) h) })
-done_one armed back w (Wire bytes) reply reply2 w2 w3 all there one a b =
+done_one armed laws w (Export r) reply reply2 w2 w3 all there one a b =
+    let p = stands_within w.places r (ltb-true r (length w.places) there) in
+    let s = told_state armed p.0 (open_at armed w.places r p.0 all p.1) in
+    let is = λ (said : Result (List ℕ) ℕ) (at : ExportsAt w r said). subst (λ (o : Option ReplicaState). IfSome o (λ s. IsExport (kept_of s.state.durable) said)) s.1
+    (of_place w r (λ p. IfSome (state_at p) (λ s. IsExport (kept_of s.state.durable) said)) p.0 p.1 at) in
+    let filed = export_one laws w r (kept_of s.0.state.durable) is w.around reply reply2 w2.around w3.around a.around b.around in
+    moved_one armed w w2 w3 r reply reply2 _ _ all a.moved b.moved filed.0 (λ p q q2 open_p h h2. record { same = h ∙ sym h2; says = filed.1; still = open_like armed p q open_p (ap (λ (x : Place). x.content) h) (ap (λ (x : Place). x.fuse) h) })
+done_one armed laws w (CarIn bytes) reply reply2 w2 w3 all there one a b =
+    let filed = filed_one _ _ w.around reply reply2 w2.around w3.around (λ x y is is2. is ∙ sym is2) a.around b.around in
+    record { same = world_is w2 w3 (a.moved ∙ sym b.moved) filed.0; says = filed.1; still = subst (AllByRecursion (IsOpen armed)) (sym a.moved) all }
+done_one armed laws w (Wire bytes) reply reply2 w2 w3 all there one a b =
     let sent = sent_one _ _ w.around reply reply2 w2.around w3.around (λ x y is is2. is ∙ sym is2) a.around b.around in
     record { same = world_is w2 w3 (a.moved ∙ sym b.moved) sent.0; says = sent.1; still = subst (AllByRecursion (IsOpen armed)) (sym a.moved) all }
-done_one armed back w (Link r other up) reply reply2 w2 w3 all there one a b =
+done_one armed laws w (Link r other up) reply reply2 w2 w3 all there one a b =
     record { same = world_is w2 w3 (a.moved ∙ sym b.moved) (a.around.1 ∙ sym b.around.1); says = a.around.0 ∙ sym b.around.0; still = subst (AllByRecursion (IsOpen armed)) (sym a.moved) all }
-done_one armed back w (SameOf r other) reply reply2 w2 w3 all there one a b =
+done_one armed laws w (SameOf r other) reply reply2 w2 w3 all there one a b =
     let p = stands_within w.places r (ltb-true r (length w.places) (first_true (nat_lt r (length w.places)) (nat_lt other (length w.places)) there)) in
     let q = stands_within w.places other (ltb-true other (length w.places) (second_true (nat_lt r (length w.places)) (nat_lt other (length w.places)) there)) in
     let of = λ (yes : Bool) (says : AtPlace w r (λ p. AtPlace w other (λ q. IfSome (state_at p) (λ s. IfSome (state_at q) (λ t. (yes ≡ true) ↔ SameProcessed s t))))).
     of_place w other (λ q. IfSome (state_at p.0) (λ s. IfSome (state_at q) (λ t. (yes ≡ true) ↔ SameProcessed s t))) q.0 q.1 (of_place w r (λ p. AtPlace w other (λ q. IfSome (state_at p) (λ s. IfSome (state_at q) (λ t. (yes ≡ true) ↔ SameProcessed s t)))) p.0 p.1 says) in
     let yes = same_says armed p.0 q.0 a.says.0 b.says.0 (open_at armed w.places r p.0 all p.1) (open_at armed w.places other q.0 all q.1) (of a.says.0 a.says.2) (of b.says.0 b.says.2) in
     record { same = world_is w2 w3 (a.moved ∙ sym b.moved) (a.around ∙ sym b.around); says = a.says.1 ∙ ap Same yes ∙ sym b.says.1; still = subst (AllByRecursion (IsOpen armed)) (sym a.moved) all }
-done_one armed back w (Work r workers budget) reply reply2 w2 w3 all there one a b = absurd (true≢false (sym one))
-done_one armed back w (Repair r workers) reply reply2 w2 w3 all there one a b = absurd (true≢false (sym one))
-done_one armed back w (Storm r writers writes) reply reply2 w2 w3 all there one a b = absurd (true≢false (sym one))
-done_one armed back w (StopAt r commit) reply reply2 w2 w3 all there one a b = moved_one armed w w2 w3 r reply reply2 _ _ all a.moved b.moved (a.around ∙ sym b.around) (λ p q q2 open_p h h2.
+done_one armed laws w (Work r workers budget) reply reply2 w2 w3 all there one a b = absurd (true≢false (sym one))
+done_one armed laws w (Repair r workers) reply reply2 w2 w3 all there one a b = absurd (true≢false (sym one))
+done_one armed laws w (Storm r writers writes) reply reply2 w2 w3 all there one a b = absurd (true≢false (sym one))
+done_one armed laws w (StopAt r commit) reply reply2 w2 w3 all there one a b = moved_one armed w w2 w3 r reply reply2 _ _ all a.moved b.moved (a.around ∙ sym b.around) (λ p q q2 open_p h h2.
     record { same = h.0 ∙ sym h2.0; says = h.1 ∙ sym h2.1; still = record { told = ap (λ (x : Place). is_some x.content) h.0 ∙ open_p.told; no_fuse = λ off. absurd (true≢false (sym one ∙ off)) } })
-done_one armed back w (StopAfter r commit) reply reply2 w2 w3 all there one a b = moved_one armed w w2 w3 r reply reply2 _ _ all a.moved b.moved (a.around ∙ sym b.around) (λ p q q2 open_p h h2.
+done_one armed laws w (StopAfter r commit) reply reply2 w2 w3 all there one a b = moved_one armed w w2 w3 r reply reply2 _ _ all a.moved b.moved (a.around ∙ sym b.around) (λ p q q2 open_p h h2.
     record { same = h.0 ∙ sym h2.0; says = h.1 ∙ sym h2.1; still = record { told = ap (λ (x : Place). is_some x.content) h.0 ∙ open_p.told; no_fuse = λ off. absurd (true≢false (sym one ∙ off)) } })
-done_one armed back w command reply reply2 w2 w3 all there one a b = done_made armed back w command reply reply2 w2 w3 all one refl a b
+done_one armed laws w command reply reply2 w2 w3 all there one a b = done_made armed laws w command reply reply2 w2 w3 all one refl a b
 
 -- a refusal that is due
 
@@ -231,13 +272,9 @@ refused_one : (w : WorldState) (p : Place) (d : Doing) (due due2 : Option Reply)
 refused_one w p (At r (Tends tending)) due due2 s is one a b = a ∙ sym b
 refused_one w p d due due2 s is one a b = call_one w p d due due2 s is one a b
 
-act_within : (count : ℕ) (bag : List (List ℕ)) (r : ℕ) (act : Act) → among_by count bag (At r act) ≡ true → nat_lt r count ≡ true
-act_within count bag r (Hears message) there = first_true (nat_lt r count) (has_message bag message) there
-act_within count bag r act there = there
-
 refuses_for : (armed : Bool) → (w : WorldState) (d : Doing) (due due2 : Option Reply) → among_by (length w.places) w.around.bag d ≡ true → AreOpen armed w → ((s : ReplicaState) → Due w s d) → refuses_by w d due → refuses_by w d due2 → due ≡ due2
 refuses_for armed w (At r act) due due2 there all one a b =
-    let p = stands_within w.places r (ltb-true r (length w.places) (act_within (length w.places) w.around.bag r act there)) in
+    let p = stands_within w.places r (ltb-true r (length w.places) (within (length w.places) w.around.bag r act there)) in
     let s = told_state armed p.0 (open_at armed w.places r p.0 all p.1) in
     refused_one w p.0 (At r act) due due2 s.0 s.1 (one s.0) (of_place w r (λ p. refused_by w p (At r act) due) p.0 p.1 a) (of_place w r (λ p. refused_by w p (At r act) due2) p.0 p.1 b)
 refuses_for armed w (Compares r other) due due2 there all one a b = a ∙ sym b
@@ -275,7 +312,7 @@ plain_row armed w command entry reply w2 all none step = over step.row
     over (inr peer) = absurd (none_named none.1 peer.at peer.cause)
 
 -- no entry names a keeper that failed by itself, so a fault is that of a fuse
-module _ (armed : Bool) (back : BackLaw) (w : WorldState) (command : Command) (all : AreOpen armed w) (one : has_one_outcome armed command ≡ true) where
+module _ (armed : Bool) (laws : OneLaws) (w : WorldState) (command : Command) (all : AreOpen armed w) (one : has_one_outcome armed command ≡ true) where
   fused_at : (entry : LineEntry) (reply : Reply) (w2 : WorldState) → NamesNone entry → (fused : IsFused armed w command entry reply w2) → IsFiredAt armed w command fused.fault.at fused.fault.moved.old fused.fault.moved.new
   fused_at entry reply w2 none fused = let fault = fused.fault in
       fired_at armed w command fault.at fault.moved.old fault.moved.new _ one fault.among (none_named none.0 fault.at) (open_at armed w.places fault.at fault.moved.old all fault.moved.stands) fault.moved.holds
@@ -287,7 +324,7 @@ module _ (armed : Bool) (back : BackLaw) (w : WorldState) (command : Command) (a
       let same : b.fault.at ≡ a.fault.at = some_is (sym at2.focused ∙ at.focused) in
       let moved : Moved a.fault.at w.places w3.places (CutShort w command (Named entry2.own b.fault.at)) = subst (λ (n : ℕ). Moved n w.places w3.places (CutShort w command (Named entry2.own b.fault.at))) same b.fault.moved in
       moved_one armed w w2 w3 a.fault.at reply reply2 _ _ all a.fault.moved moved (a.fault.around ∙ sym b.fault.around)
-      (λ p q q2 open_p h h2. fired_place armed back w command p q q2 reply reply2 _ _ all one a.on at.made (none_named none.0 a.fault.at) (none_named none2.0 b.fault.at) open_p (a.fault.says ∙ sym b.fault.says) h h2)
+      (λ p q q2 open_p h h2. fired_place armed laws w command p q q2 reply reply2 _ _ all one a.on at.made (none_named none.0 a.fault.at) (none_named none2.0 b.fault.at) open_p (a.fault.says ∙ sym b.fault.says) h h2)
 
   fused_done : (entry : LineEntry) (reply reply2 : Reply) (w2 w3 : WorldState) → NamesNone entry → IsFused armed w command entry reply w2 → IsDone w command reply2 w3 → ⊥
   fused_done entry reply reply2 w2 w3 none a b =
@@ -295,16 +332,16 @@ module _ (armed : Bool) (back : BackLaw) (w : WorldState) (command : Command) (a
       let moved = subst (λ (o : Option ℕ). MovedAt o w.places w3.places (λ p q. DoneAt w command p q reply2)) at.focused b.moved in
       let old : moved.old ≡ a.fault.moved.old = some_is (sym moved.stands ∙ a.fault.moved.stands) in
       let done = split_done w (doing command) a.fault.moved.old moved.new reply2 at.made (subst (λ (p : Place). DoneAt w command p moved.new reply2) old moved.holds) in
-      fired_not_done armed w command a.fault.at a.fault.moved.old a.fault.moved.new moved.new reply2 all one at done.1
+      fired_not_done armed laws w command a.fault.at a.fault.moved.old a.fault.moved.new moved.new reply2 all one at done.1
 
   fused_refused : (entry : LineEntry) (reply reply2 : Reply) (w2 w3 : WorldState) → is_there w command ≡ true → NamesNone entry → refuses_block reply2 ≡ false → IsFused armed w command entry reply w2 → IsRefused w command reply2 w3 → ⊥
   fused_refused entry reply reply2 w2 w3 there none free a b =
       let at = fused_at entry reply w2 none a in
       true≢false (sym (refused_seen w (doing command) reply2 a.fault.at a.fault.moved.old at.made at.focused a.fault.moved.stands a.fault.asked b.cause) ∙ free)
 
-step_one : (armed : Bool) → (back : BackLaw) (w : WorldState) (command : Command) (entry entry2 : LineEntry) (reply reply2 : Reply) (w2 w3 : WorldState) → AreOpen armed w → has_one_outcome armed command ≡ true → NamesNone entry → NamesNone entry2 → (armed ≡ true → refuses_block reply ≡ false) → (armed ≡ true → refuses_block reply2 ≡ false)
+step_one : (armed : Bool) → (laws : OneLaws) (w : WorldState) (command : Command) (entry entry2 : LineEntry) (reply reply2 : Reply) (w2 w3 : WorldState) → AreOpen armed w → has_one_outcome armed command ≡ true → NamesNone entry → NamesNone entry2 → (armed ≡ true → refuses_block reply ≡ false) → (armed ≡ true → refuses_block reply2 ≡ false)
     → Step w command entry reply w2 → Step w command entry2 reply2 w3 → IsOneStep armed w2 w3 reply reply2
-step_one armed back w command entry entry2 reply reply2 w2 w3 all one none none2 free free2 a b = over (plain_row armed w command entry reply w2 all none a) (plain_row armed w command entry2 reply2 w3 all none2 b)
+step_one armed laws w command entry entry2 reply reply2 w2 w3 all one none none2 free free2 a b = over (plain_row armed w command entry reply w2 all none a) (plain_row armed w command entry2 reply2 w3 all none2 b)
   where
     over : Plain armed w command entry reply w2 → Plain armed w command entry2 reply2 w3 → IsOneStep armed w2 w3 reply reply2
     over (inl (inl x)) (inl (inl y)) = record {
@@ -314,12 +351,12 @@ step_one armed back w command entry entry2 reply reply2 w2 w3 all one none none2
     }
     over (inl (inl x)) (inl (inr y)) = absurd (no_some (refuses_one armed w command None (Some reply) a.there all one y.allowed x.cause))
     over (inl (inr x)) (inl (inl y)) = absurd (no_some (refuses_one armed w command None (Some reply2) a.there all one x.allowed y.cause))
-    over (inl (inr x)) (inl (inr y)) = done_one armed back w command reply reply2 w2 w3 all a.there one x y
-    over (inr x) (inr y) = fused_one armed back w command all one entry entry2 reply reply2 w2 w3 none none2 x y
-    over (inr x) (inl (inl y)) = absurd (fused_refused armed back w command all one entry reply reply2 w2 w3 a.there none (free2 x.on) x y)
-    over (inr x) (inl (inr y)) = absurd (fused_done armed back w command all one entry reply reply2 w2 w3 none x y)
-    over (inl (inl x)) (inr y) = absurd (fused_refused armed back w command all one entry2 reply2 reply w3 w2 a.there none2 (free y.on) y x)
-    over (inl (inr x)) (inr y) = absurd (fused_done armed back w command all one entry2 reply2 reply w3 w2 none2 y x)
+    over (inl (inr x)) (inl (inr y)) = done_one armed laws w command reply reply2 w2 w3 all a.there one x y
+    over (inr x) (inr y) = fused_one armed laws w command all one entry entry2 reply reply2 w2 w3 none none2 x y
+    over (inr x) (inl (inl y)) = absurd (fused_refused armed laws w command all one entry reply reply2 w2 w3 a.there none (free2 x.on) x y)
+    over (inr x) (inl (inr y)) = absurd (fused_done armed laws w command all one entry reply reply2 w2 w3 none x y)
+    over (inl (inl x)) (inr y) = absurd (fused_refused armed laws w command all one entry2 reply2 reply w3 w2 a.there none2 (free y.on) y x)
+    over (inl (inr x)) (inr y) = absurd (fused_done armed laws w command all one entry2 reply2 reply w3 w2 none2 y x)
 
 -- and runs
 
@@ -327,24 +364,24 @@ not_true : (b : Bool) → not b ≡ true → b ≡ false
 not_true true e = absurd (true≢false (sym e))
 not_true false e = refl
 
-line_one : (armed : Bool) → (back : BackLaw) (w : WorldState) (read : Option (Option Command)) (answer answer2 : Option Answer) (w2 w3 : WorldState) → AreOpen armed w → IsOne armed read → owns_none answer ≡ true → owns_none answer2 ≡ true → (armed ≡ true → blocks_none answer ≡ true) → (armed ≡ true → blocks_none answer2 ≡ true) → LineStep w read w2 answer → LineStep w read w3 answer2
+line_one : (armed : Bool) → (laws : OneLaws) (w : WorldState) (read : Option (Option Command)) (answer answer2 : Option Answer) (w2 w3 : WorldState) → AreOpen armed w → IsOne armed read → owns_none answer ≡ true → owns_none answer2 ≡ true → (armed ≡ true → blocks_none answer ≡ true) → (armed ≡ true → blocks_none answer2 ≡ true) → LineStep w read w2 answer → LineStep w read w3 answer2
     → (w2 ≡ w3) × (said_by answer ≡ said_by answer2) × AreOpen armed w2
-line_one armed back w None answer answer2 w2 w3 all one owned owned2 free free2 a b = absurd a
-line_one armed back w (Some None) answer answer2 w2 w3 all one owned owned2 free free2 a b = (a.0 ∙ sym b.0, ap said_by a.1 ∙ sym (ap said_by b.1), subst (AreOpen armed) (sym a.0) all)
-line_one armed back w (Some (Some command)) None answer2 w2 w3 all one owned owned2 free free2 a b = absurd a
-line_one armed back w (Some (Some command)) (Some answer) None w2 w3 all one owned owned2 free free2 a b = absurd b
-line_one armed back w (Some (Some command)) (Some answer) (Some answer2) w2 w3 all one owned owned2 free free2 a b =
-    let step = step_one armed back w command answer.entry answer2.entry answer.reply answer2.reply w2 w3 all one (entry_none answer owned) (entry_none answer2 owned2) (λ on. not_true (refuses_block answer.reply) (free on)) (λ on. not_true (refuses_block answer2.reply) (free2 on)) a b in
+line_one armed laws w None answer answer2 w2 w3 all one owned owned2 free free2 a b = absurd a
+line_one armed laws w (Some None) answer answer2 w2 w3 all one owned owned2 free free2 a b = (a.0 ∙ sym b.0, ap said_by a.1 ∙ sym (ap said_by b.1), subst (AreOpen armed) (sym a.0) all)
+line_one armed laws w (Some (Some command)) None answer2 w2 w3 all one owned owned2 free free2 a b = absurd a
+line_one armed laws w (Some (Some command)) (Some answer) None w2 w3 all one owned owned2 free free2 a b = absurd b
+line_one armed laws w (Some (Some command)) (Some answer) (Some answer2) w2 w3 all one owned owned2 free free2 a b =
+    let step = step_one armed laws w command answer.entry answer2.entry answer.reply answer2.reply w2 w3 all one (entry_none answer owned) (entry_none answer2 owned2) (λ on. not_true (refuses_block answer.reply) (free on)) (λ on. not_true (refuses_block answer2.reply) (free2 on)) a b in
     (step.same, ap Some step.says, step.still)
 
-pub runs_one : (armed : Bool) → (back : BackLaw) (lines : List (List ℕ)) (answers answers2 : List (Option Answer)) (first last last2 : WorldState) → AreOpen armed first → AllByRecursion (λ line. IsOne armed (line_of line)) lines → own_free answers ≡ true → own_free answers2 ≡ true → NoneRefused armed answers → NoneRefused armed answers2 → Runs first lines answers last → Runs first lines answers2 last2
+pub runs_one : (armed : Bool) → (laws : OneLaws) (lines : List (List ℕ)) (answers answers2 : List (Option Answer)) (first last last2 : WorldState) → AreOpen armed first → AllByRecursion (λ line. IsOne armed (line_of line)) lines → own_free answers ≡ true → own_free answers2 ≡ true → NoneRefused armed answers → NoneRefused armed answers2 → Runs first lines answers last → Runs first lines answers2 last2
     → (replies_in answers ≡ replies_in answers2) × (last ≡ last2)
-runs_one armed back [] [] [] first last last2 all one owned owned2 free free2 a b = (refl, a ∙ sym b)
-runs_one armed back [] (x ∷ answers) answers2 first last last2 all one owned owned2 free free2 a b = absurd a
-runs_one armed back [] [] (y ∷ answers2) first last last2 all one owned owned2 free free2 a b = absurd b
-runs_one armed back (line ∷ lines) [] answers2 first last last2 all one owned owned2 free free2 a b = absurd a
-runs_one armed back (line ∷ lines) (x ∷ answers) [] first last last2 all one owned owned2 free free2 a b = absurd b
-runs_one armed back (line ∷ lines) (x ∷ answers) (y ∷ answers2) first last last2 all one owned owned2 free free2 (mid, step, rest) (mid2, step2, rest2) =
-    let here = line_one armed back first (line_of line) x y mid mid2 all one.0 (first_true (owns_none x) (own_free answers) owned) (first_true (owns_none y) (own_free answers2) owned2) (λ on. first_true (blocks_none x) (list_all blocks_none answers) (free on)) (λ on. first_true (blocks_none y) (list_all blocks_none answers2) (free2 on)) step step2 in
-    let more = runs_one armed back lines answers answers2 mid last last2 here.2 one.1 (second_true (owns_none x) (own_free answers) owned) (second_true (owns_none y) (own_free answers2) owned2) (λ on. second_true (blocks_none x) (list_all blocks_none answers) (free on)) (λ on. second_true (blocks_none y) (list_all blocks_none answers2) (free2 on)) rest (subst (λ (w : WorldState). Runs w lines answers2 last2) (sym here.0) rest2) in
+runs_one armed laws [] [] [] first last last2 all one owned owned2 free free2 a b = (refl, a ∙ sym b)
+runs_one armed laws [] (x ∷ answers) answers2 first last last2 all one owned owned2 free free2 a b = absurd a
+runs_one armed laws [] [] (y ∷ answers2) first last last2 all one owned owned2 free free2 a b = absurd b
+runs_one armed laws (line ∷ lines) [] answers2 first last last2 all one owned owned2 free free2 a b = absurd a
+runs_one armed laws (line ∷ lines) (x ∷ answers) [] first last last2 all one owned owned2 free free2 a b = absurd b
+runs_one armed laws (line ∷ lines) (x ∷ answers) (y ∷ answers2) first last last2 all one owned owned2 free free2 (mid, step, rest) (mid2, step2, rest2) =
+    let here = line_one armed laws first (line_of line) x y mid mid2 all one.0 (first_true (owns_none x) (own_free answers) owned) (first_true (owns_none y) (own_free answers2) owned2) (λ on. first_true (blocks_none x) (list_all blocks_none answers) (free on)) (λ on. first_true (blocks_none y) (list_all blocks_none answers2) (free2 on)) step step2 in
+    let more = runs_one armed laws lines answers answers2 mid last last2 here.2 one.1 (second_true (owns_none x) (own_free answers) owned) (second_true (owns_none y) (own_free answers2) owned2) (λ on. second_true (blocks_none x) (list_all blocks_none answers) (free on)) (λ on. second_true (blocks_none y) (list_all blocks_none answers2) (free2 on)) rest (subst (λ (w : WorldState). Runs w lines answers2 last2) (sym here.0) rest2) in
     (λ i. here.1 i ∷ more.0 i, more.1)

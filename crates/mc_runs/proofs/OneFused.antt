@@ -1,8 +1,7 @@
 -- A command that is cut short by a fuse: which event fires it is one, and with it what is left.
-use Rattle.std.proofs.Common.{◌≡◌, ℕ, Bool, true, false, true≢false, ◌||◌, List, [], ◌∷◌, ◌++◌, cond, drop, Option, Some, None, Ok, Err, refl, sym, ◌∙◌, ap, subst, inl, inr, nat_eq}
-use Rattle.std.specs.Prelude.{◌⊎◌, IfSome, is_some, slice_get}
+use Rattle.std.proofs.Common.{◌≡◌, ℕ, Bool, true, false, true≢false, ◌||◌, List, [], ◌∷◌, ◌++◌, cond, drop, Option, Some, None, refl, sym, ◌∙◌, ap, subst, inl, inr, nat_eq}
+use Rattle.std.specs.Prelude.{◌⊎◌, slice_get}
 use Rattle.std.proofs.lemmas.Bool.{eqb-true}
-use Rattle.mc_base.specs.Told.{Told}
 use Rattle.mc_keep.specs.Causes.{CommitFails, burnt, fires}
 use Rattle.mc_keep.specs.declared.fuse.Fuse.{Fuse}
 use Rattle.mc_model.specs.Events.{Event, happens}
@@ -13,17 +12,17 @@ use Rattle.mc_core.specs.Exact.{seen_of}
 use Rattle.mc_core.specs.declared.CoreError.{CoreError}
 use Rattle.mc_core.specs.declared.CoreError.TheVariants as core
 use Rattle.mc_script.specs.declared.command.Command.{Command}
-use Rattle.mc_script.specs.declared.command.Command.TheVariants.{Work, Repair, Storm, StopAt, StopAfter}
+use Rattle.mc_script.specs.declared.command.Command.TheVariants.{StopAt, StopAfter}
 use Rattle.mc_script.specs.declared.reply.Reply.{Reply}
 use Rattle.mc_script.specs.declared.reply.Reply.TheVariants as replies
 use Rattle.mc_seats.specs.Asks.{fail_by, focus_by, is_named, may_fail}
-use Rattle.mc_seats.specs.Doing.{Act, At, Calls, Doing, Hears, Repairs, Steps, Storms, Works, doing}
+use Rattle.mc_seats.specs.Doing.{At, Calls, Doing, Hears, Imports, Repairs, Steps, Storms, Works, doing}
 use Rattle.mc_seats.specs.Effects.{IsReply, call_refused, events_by, happens_by, seen_by}
 use Rattle.mc_seats.specs.Step.{CutShort, asked_by, faults_by, refuses_by}
 use Rattle.mc_seats.specs.Worlds.{AtPlace, Place, WorldState, state_at}
 use Rattle.mc_runs.specs.OneText.{AreOpen, IsOpen, has_one_outcome, refuses_block}
 use Rattle.mc_runs.proofs.OneEnds.{told_after}
-use Rattle.mc_runs.proofs.OneEvents.{BackLaw, IsOnePlace, made_by, made_one, no_some, ok_is, open_still, same_place, some_is, told_state}
+use Rattle.mc_runs.proofs.OneEvents.{IsOnePlace, OneLaws, made_by, made_one, no_some, ok_is, open_still, same_place, some_is, told_state}
 use Rattle.mc_runs.proofs.WrittenFacts.{of_place}
 
 -- ---- lists that are cut at an event
@@ -143,6 +142,7 @@ faults_plain w d own s n one h = h
 some_made : (w : WorldState) (s : ReplicaState) (d : Doing) (events : List Event) (reply : Reply) → (events ≡ [] → ⊥) → events_by w s d events reply → made_by d ≡ true
 some_made w s (At r (Calls call)) events reply some h = refl
 some_made w s (At r (Hears message)) events reply some h = refl
+some_made w s (At r (Imports car)) events reply some h = refl
 some_made w s (At r Steps) events reply some h = refl
 some_made w s d events reply some h = absurd (some h)
 
@@ -181,6 +181,7 @@ named_one false r at is = absurd (true≢false (sym is))
 named_focus : (d : Doing) (at : ℕ) → made_by d ≡ true → is_named (fail_by d) at ≡ true → focus_by d ≡ Some at
 named_focus (At r (Calls call)) at made is = ap Some (named_one call.may r at is)
 named_focus (At r (Hears message)) at made is = ap Some (named_one true r at is)
+named_focus (At r (Imports car)) at made is = ap Some (named_one true r at is)
 named_focus (At r Steps) at made is = ap Some (named_one true r at is)
 named_focus d at made is = absurd (true≢false (sym made))
 
@@ -205,28 +206,28 @@ fired_at armed w command at p q own one among none open_p cut =
     record { state = s.0; left = n.0; is_state = s.1; is_left = n.1; fired = fired; made = fired.made; focused = named_focus (doing command) at fired.made among }
 
 -- two that came from one place are one
-pub fired_place : (armed : Bool) (back : BackLaw) (w : WorldState) (command : Command) (p q q2 : Place) (reply reply2 : Reply) (own own2 : Type 0) → AreOpen armed w → has_one_outcome armed command ≡ true → armed ≡ true → made_by (doing command) ≡ true → (own → ⊥) → (own2 → ⊥) → IsOpen armed p → reply ≡ reply2
+pub fired_place : (armed : Bool) (laws : OneLaws) (w : WorldState) (command : Command) (p q q2 : Place) (reply reply2 : Reply) (own own2 : Type 0) → AreOpen armed w → has_one_outcome armed command ≡ true → armed ≡ true → made_by (doing command) ≡ true → (own → ⊥) → (own2 → ⊥) → IsOpen armed p → reply ≡ reply2
     → CutShort w command own p q → CutShort w command own2 p q2 → IsOnePlace armed q q2 reply reply2
-fired_place armed back w command p q q2 reply reply2 own own2 all one on made none none2 open_p says cut cut2 =
+fired_place armed laws w command p q q2 reply reply2 own own2 all one on made none none2 open_p says cut cut2 =
     let s = told_state armed p open_p in
     let n = told_after p q s.0 (faults_by w (doing command) own) s.1 cut.told in
     let n2 = told_after p q2 s.0 (faults_by w (doing command) own2) s.1 cut2.told in
     let a = is_fired w (doing command) own s.0 n.0 (one_of armed command one) none n.2 in
     let b = is_fired w (doing command) own2 s.0 n2.0 (one_of armed command one) none2 n2.2 in
-    let events = (made_one armed w s.0 command all one made a.events b.events a.reply b.reply a.are b.are).0 in
+    let events = (made_one armed laws.founds w s.0 command all one made a.events b.events a.reply b.reply a.are b.are).0 in
     let same : n.0 ≡ n2.0 = fires_one a.events s.0 n.0 n2.0 a.fires (subst (λ (l : List Event). Fires l s.0 n2.0) (sym events) b.fires) in
     record {
-      same = same_place back q q2 n.0 n.1 (n2.1 ∙ ap Some (sym same)) (cut.planted_same ∙ sym cut2.planted_same);
+      same = same_place laws.back q q2 n.0 n.1 (n2.1 ∙ ap Some (sym same)) (cut.planted_same ∙ sym cut2.planted_same);
       says = says;
-      still = open_still back armed q n.0 n.1 (λ off. absurd (true≢false (sym on ∙ off)));
+      still = open_still laws.back armed q n.0 n.1 (λ off. absurd (true≢false (sym on ∙ off)));
     }
 
 -- what is done is not cut short
-pub fired_not_done : (armed : Bool) (w : WorldState) (command : Command) (at : ℕ) (p q q2 : Place) (reply : Reply) → AreOpen armed w → has_one_outcome armed command ≡ true → IsFiredAt armed w command at p q → happens_by w (doing command) p q2 reply → ⊥
-fired_not_done armed w command at p q q2 reply all one fired happens =
+pub fired_not_done : (armed : Bool) (laws : OneLaws) (w : WorldState) (command : Command) (at : ℕ) (p q q2 : Place) (reply : Reply) → AreOpen armed w → has_one_outcome armed command ≡ true → IsFiredAt armed w command at p q → happens_by w (doing command) p q2 reply → ⊥
+fired_not_done armed laws w command at p q q2 reply all one fired happens =
     let done = told_after p q2 fired.state _ fired.is_state happens in
     let fires = fired.fired.fires in
-    let events = (made_one armed w fired.state command all one fired.made done.2.0 fired.fired.events reply fired.fired.reply done.2.1 fired.fired.are).0 in
+    let events = (made_one armed laws.founds w fired.state command all one fired.made done.2.0 fired.fired.events reply fired.fired.reply done.2.1 fired.fired.are).0 in
     never_fires fires.so_far fires.more fires.event fired.state (subst (λ (l : List Event). MayHappen fired.state l) (events ∙ fires.split) done.2.2.may) fires.at
 
 -- what asks the keeper is refused for a block alone
@@ -247,5 +248,6 @@ seen_at w d reply r at p focused stands asked refuses =
 pub refused_seen : (w : WorldState) (d : Doing) (reply : Reply) (at : ℕ) (p : Place) → made_by d ≡ true → focus_by d ≡ Some at → slice_get w.places at ≡ Some p → asked_by w d → refuses_by w d (Some reply) → refuses_block reply ≡ true
 refused_seen w (At r (Calls call)) reply at p made focused stands asked refuses = seen_at w (At r (Calls call)) reply r at p focused stands asked refuses
 refused_seen w (At r (Hears message)) reply at p made focused stands asked refuses = seen_at w (At r (Hears message)) reply r at p focused stands asked refuses
+refused_seen w (At r (Imports car)) reply at p made focused stands asked refuses = seen_at w (At r (Imports car)) reply r at p focused stands asked refuses
 refused_seen w (At r Steps) reply at p made focused stands asked refuses = seen_at w (At r Steps) reply r at p focused stands asked refuses
 refused_seen w d reply at p made focused stands asked refuses = absurd (true≢false (sym made))

@@ -3,6 +3,7 @@ use Rattle.std.proofs.Common.{◌≡◌, ◌≢◌, ℕ, zero, suc, true, false,
 use Rattle.std.specs.Prelude.{slice_get}
 use Rattle.std.proofs.lemmas.List.{length-set}
 use Rattle.mc_base.specs.Told.{Told}
+use Rattle.mc_base.specs.declared.cid.Cid.{Cid}
 use Rattle.mc_keep.specs.declared.fuse.Fuse.{Fuse}
 use Rattle.mc_key.specs.Prefix.{is_under}
 use Rattle.mc_model.specs.declared.block.Block.{Block}
@@ -11,7 +12,7 @@ use Rattle.mc_model.specs.Events.{Event, GoesOn}
 use Rattle.mc_model.specs.Front.{heads}
 use Rattle.mc_model.specs.Kept.{Kept}
 use Rattle.mc_model.specs.SameMembers.{SameMembers}
-use Rattle.mc_model.specs.State.{Running, blocks_of, durable_of}
+use Rattle.mc_model.specs.State.{Running, blocks_of, durable_of, kept_of}
 use Rattle.mc_model.proofs.Prefix.{goes_on_then}
 use Rattle.mc_core.specs.Events.{ReplicaState, Goes, state_of}
 use Rattle.mc_core.proofs.GrowthFacts.{GrowLaw, same_goes, goes_grows, breaks_grows}
@@ -22,23 +23,25 @@ use Rattle.mc_drain.specs.declared.repairing.Repaired.{Repaired}
 use Rattle.mc_drain.specs.declared.working.WorkError.{WorkError}
 use Rattle.mc_drain.specs.declared.working.WorkError.TheVariants.{PeerFault}
 use Rattle.mc_drain.specs.declared.working.Worked.{Worked}
+use Rattle.mc_past.specs.Past.{FoundsAreOne}
 use Rattle.mc_storm.specs.Storms.{StormLeads}
 use Rattle.mc_script.specs.Line.{line_of}
 use Rattle.mc_script.specs.declared.command.Command.{Command}
-use Rattle.mc_script.specs.declared.command.Command.TheVariants.{Get, Has as HasKey, Query, Heads as HeadsOf}
+use Rattle.mc_script.specs.declared.command.Command.TheVariants.{Get, GetAt, Has as HasKey, Query, Heads as HeadsOf}
 use Rattle.mc_script.specs.declared.reply.Reply.{Reply}
 use Rattle.mc_script.specs.declared.reply.Reply.TheVariants.{Value, Has, Rows, Heads}
 use Rattle.mc_seats.specs.declared.entry.LineEntry.{LineEntry}
 use Rattle.mc_seats.specs.Asks.{focus, is_named, may_fail}
 use Rattle.mc_seats.specs.Calling.{Batches, Blocks, Calling, Nothing, Reach}
-use Rattle.mc_seats.specs.Calls.{is_read, reads_by}
-use Rattle.mc_seats.specs.Doing.{At, Calls, Casts, Doing, Hears, Repairs, Steps, Storms, Tends, Works, doing}
-use Rattle.mc_seats.specs.Effects.{CallsAt, DoneAt, EventsOf, done_by, events_by, happens_by}
+use Rattle.mc_seats.specs.Calls.{calls_by, finds_by, is_find}
+use Rattle.mc_seats.specs.Doing.{At, Calls, Casts, Doing, Exports, Hears, Imports, Repairs, Steps, Storms, Tends, Works, below_reply, doing}
+use Rattle.mc_seats.specs.Effects.{CallsAt, DoneAt, done_by, events_by, happens_by}
 use Rattle.mc_runs.specs.Promises.{ContentGrows, DoneElsewhere, GrowsAt, OnlyGrows, elsewhere}
 use Rattle.mc_runs.specs.Runs.{Answer, LineStep, Runs}
 use Rattle.mc_seats.specs.Step.{CutShort, FaultsOf, GivesBack, PeerBreaks, Row, Step, breaks_by, faults_by}
 use Rattle.mc_seats.specs.Works.{RepairsTo, WorksTo, budget_of, finds_of, repair_budget}
 use Rattle.mc_seats.specs.Worlds.{Moved, MovedAt, Place, WorldState, peers_of, state_at}
+use Rattle.mc_runs.proofs.BelowFacts.{below_one}
 use Rattle.mc_runs.proofs.StormFacts.{calls_grow, storm_breaks_grow}
 use Rattle.mc_runs.proofs.TendFacts.{IsTended, if_runs, tended}
 
@@ -146,6 +149,8 @@ module _ (law : GrowLaw) where
   done_grows w (At r (Tends tending)) reply p q tended h = content_is p.content q.content (tended.content_same p q reply h)
   done_grows w (At r Casts) reply p q tended h = content_is p.content q.content (ap (λ (x : Place). x.content) h)
   done_grows w (At r (Hears message)) reply p q tended h = happens_grows w (At r (Hears message)) p q reply h.0.0.silent h.1
+  done_grows w (At r Exports) reply p q tended h = content_is p.content q.content (ap (λ (x : Place). x.content) h)
+  done_grows w (At r (Imports car)) reply p q tended h = happens_grows w (At r (Imports car)) p q reply h.0.0.silent h.1
   done_grows w (At r Steps) reply p q tended h = happens_grows w (At r Steps) p q reply h.0.0.silent h.1
   done_grows w (At r (Works budget)) reply p q tended h = work_grows (peers_of w r) (budget_of budget) (Ok h.value) p q h.works
   done_grows w (At r Repairs) reply p q tended h = repair_grows (peers_of w r) (Ok h.value) p q h.repairs
@@ -218,30 +223,55 @@ AnswersLaw = (xs ys : List Block) → SameMembers xs ys → SameAnswers xs ys
 abbrev pub HeadsLaw : Type 0
 HeadsLaw = (xs ys : List Block) → SameMembers xs ys → heads xs ≡ heads ys
 
-planned_equal : (law : AnswersLaw) (heads_law : HeadsLaw) (w w2 : WorldState) (s t : ReplicaState) (command : Command) (other : ℕ) (events others : List Event) (reply said : Reply) → is_read command ≡ true
-    → SameMembers (blocks_of s.state.durable) (blocks_of t.state.durable) → EventsOf w s command events reply → events_by w2 t (elsewhere other (doing command)) others said → reply ≡ said
-planned_equal law heads_law w w2 s t (Get r key) other events others reply said read same p q = p.2 ∙ ap Value (p.1.1 ∙ (law _ _ same).get key ∙ sym q.1.1) ∙ sym q.2
-planned_equal law heads_law w w2 s t (HasKey r key) other events others reply said read same p q = p.2 ∙ ap Has (p.1.1 ∙ (law _ _ same).has key ∙ sym q.1.1) ∙ sym q.2
-planned_equal law heads_law w w2 s t (Query r prefix skip take) other events others reply said read same p q = p.2 ∙ ap Rows (p.1.1 ∙ (law _ _ same).rows (is_under prefix) skip take ∙ sym q.1.1) ∙ sym q.2
-planned_equal law heads_law w w2 s t (HeadsOf r) other events others reply said read same p q = p.2 ∙ ap Heads (p.1.1 ∙ heads_law _ _ same ∙ sym q.1.1) ∙ sym q.2
-planned_equal law heads_law w w2 s t command other events others reply said read same p q = absurd (true≢false (sym read))
+-- what is answered at two replicas for one thing that is done at either
+abbrev SaidBoth : WorldState → WorldState → ReplicaState → ReplicaState → Doing → ℕ → Reply → Reply → Type 0
+SaidBoth w w2 s t d other reply said = (events others : List Event) → events_by w s d events reply → events_by w2 t (elsewhere other d) others said → reply ≡ said
+
+planned_equal : (law : AnswersLaw) (heads_law : HeadsLaw) (w w2 : WorldState) (s t : ReplicaState) (command : Command) (other : ℕ) (reply said : Reply) → is_find command ≡ true
+    → SameMembers (blocks_of s.state.durable) (blocks_of t.state.durable) → SaidBoth w w2 s t (doing command) other reply said
+planned_equal law heads_law w w2 s t (Get r key) other reply said find same events others p q = p.2 ∙ ap Value (p.1.1 ∙ (law _ _ same).get key ∙ sym q.1.1) ∙ sym q.2
+planned_equal law heads_law w w2 s t (HasKey r key) other reply said find same events others p q = p.2 ∙ ap Has (p.1.1 ∙ (law _ _ same).has key ∙ sym q.1.1) ∙ sym q.2
+planned_equal law heads_law w w2 s t (Query r prefix skip take) other reply said find same events others p q = p.2 ∙ ap Rows (p.1.1 ∙ (law _ _ same).rows (is_under prefix) skip take ∙ sym q.1.1) ∙ sym q.2
+planned_equal law heads_law w w2 s t (HeadsOf r) other reply said find same events others p q = p.2 ∙ ap Heads (p.1.1 ∙ heads_law _ _ same ∙ sym q.1.1) ∙ sym q.2
+planned_equal law heads_law w w2 s t command other reply said find same events others p q = absurd (true≢false (sym find))
+
+planned_below : (founds : FoundsAreOne) (w w2 : WorldState) (s t : ReplicaState) (r other : ℕ) (cid : Cid) (key : List ℕ) (reply said : Reply)
+    → SameMembers (blocks_of s.state.durable) (blocks_of t.state.durable) → SaidBoth w w2 s t (doing (GetAt r cid key)) other reply said
+planned_below founds w w2 s t r other cid key reply said same events others p q =
+    let kept = kept_of s.state.durable in
+    let kept_too = kept_of t.state.durable in
+    p.2 ∙ ap below_reply (below_one founds kept.graph kept_too.graph kept.order kept_too.order cid key p.0 q.0 same p.1.1 q.1.1) ∙ sym q.2
 
 -- one thing that was told is followed by another
 after_told : (P : ReplicaState → ReplicaState → Type 0) (s : ReplicaState) (a b : Option ReplicaState) → a ≡ Some s → Told a b P → (t : ReplicaState) × P s t
 after_told P s a None is told = absurd (subst (λ x. Told x None P) is told)
 after_told P s a (Some t) is told = (t, subst (λ x. Told x (Some t) P) is told)
 
-happened : (w : WorldState) (d : Doing) (p q : Place) (reply : Reply) → reads_by d ≡ true → done_by w d p q reply → happens_by w d p q reply
-happened w (At r (Calls call)) p q reply read done = done.1
-happened w d p q reply read done = absurd (true≢false (sym read))
+happened : (w : WorldState) (d : Doing) (p q : Place) (reply : Reply) → calls_by d ≡ true → done_by w d p q reply → happens_by w d p q reply
+happened w (At r (Calls call)) p q reply calls done = done.1
+happened w d p q reply calls done = absurd (true≢false (sym calls))
 
-reads_still : (d : Doing) (other : ℕ) → reads_by d ≡ true → reads_by (elsewhere other d) ≡ true
-reads_still (At r (Calls call)) other read = read
-reads_still d other read = absurd (true≢false (sym read))
+calls_still : (d : Doing) (other : ℕ) → calls_by d ≡ true → calls_by (elsewhere other d) ≡ true
+calls_still (At r (Calls call)) other calls = calls
+calls_still d other calls = absurd (true≢false (sym calls))
 
-pub equal_answers : (law : AnswersLaw) (heads_law : HeadsLaw) (w w2 : WorldState) (p p2 q q2 : Place) (s t : ReplicaState) (command : Command) (other : ℕ) (reply said : Reply) → is_read command ≡ true
+finds_calls : (d : Doing) → finds_by d ≡ true → calls_by d ≡ true
+finds_calls (At r (Calls call)) find = refl
+finds_calls d find = absurd (true≢false (sym find))
+
+equal_said : (w w2 : WorldState) (p p2 q q2 : Place) (s t : ReplicaState) (d : Doing) (other : ℕ) (reply said : Reply) → calls_by d ≡ true → state_at p ≡ Some s → state_at q ≡ Some t
+    → SaidBoth w w2 s t d other reply said → done_by w d p p2 reply → done_by w2 (elsewhere other d) q q2 said → reply ≡ said
+equal_said w w2 p p2 q q2 s t d other reply said calls at_p at_q both done done2 =
+    let first = after_told (λ s new. (events : List Event) × events_by w s d events reply × Goes events s new) s (state_at p) (state_at p2) at_p (happened w d p p2 reply calls done) in
+    let second = after_told (λ s new. (events : List Event) × events_by w2 s (elsewhere other d) events said × Goes events s new) t (state_at q) (state_at q2) at_q (happened w2 (elsewhere other d) q q2 said (calls_still d other calls) done2) in
+    both first.1.0 second.1.0 first.1.1 second.1.1
+
+pub equal_answers : (law : AnswersLaw) (heads_law : HeadsLaw) (w w2 : WorldState) (p p2 q q2 : Place) (s t : ReplicaState) (command : Command) (other : ℕ) (reply said : Reply) → is_find command ≡ true
     → state_at p ≡ Some s → state_at q ≡ Some t → SameMembers (blocks_of s.state.durable) (blocks_of t.state.durable) → DoneAt w command p p2 reply → DoneElsewhere w2 other command q q2 said → reply ≡ said
-equal_answers law heads_law w w2 p p2 q q2 s t command other reply said read at_p at_q same done done2 =
-    let first = after_told (λ s new. (events : List Event) × EventsOf w s command events reply × Goes events s new) s (state_at p) (state_at p2) at_p (happened w (doing command) p p2 reply read done) in
-    let second = after_told (λ s new. (events : List Event) × events_by w2 s (elsewhere other (doing command)) events said × Goes events s new) t (state_at q) (state_at q2) at_q (happened w2 (elsewhere other (doing command)) q q2 said (reads_still (doing command) other read) done2) in
-    planned_equal law heads_law w w2 s t command other first.1.0 second.1.0 reply said read same first.1.1 second.1.1
+equal_answers law heads_law w w2 p p2 q q2 s t command other reply said find at_p at_q same done done2 =
+    equal_said w w2 p p2 q q2 s t (doing command) other reply said (finds_calls (doing command) find) at_p at_q (planned_equal law heads_law w w2 s t command other reply said find same) done done2
+
+pub equal_below : (founds : FoundsAreOne) (w w2 : WorldState) (p p2 q q2 : Place) (s t : ReplicaState) (r other : ℕ) (cid : Cid) (key : List ℕ) (reply said : Reply)
+    → state_at p ≡ Some s → state_at q ≡ Some t → SameMembers (blocks_of s.state.durable) (blocks_of t.state.durable) → DoneAt w (GetAt r cid key) p p2 reply → DoneElsewhere w2 other (GetAt r cid key) q q2 said → reply ≡ said
+equal_below founds w w2 p p2 q q2 s t r other cid key reply said at_p at_q same done done2 =
+    equal_said w w2 p p2 q q2 s t (doing (GetAt r cid key)) other reply said refl at_p at_q (planned_below founds w w2 s t r other cid key reply said same) done done2

@@ -1,5 +1,5 @@
 -- What is answered where a command is done, and where it is refused.
-use Rattle.std.proofs.Common.{◌≡◌, ℕ, Bool, true, false, List, length, Option, Some, None, refl, sym, ◌∙◌, ap, nat_lt}
+use Rattle.std.proofs.Common.{◌≡◌, ℕ, Bool, true, false, List, length, Option, Some, None, Result, Ok, Err, refl, sym, ◌∙◌, ap, inl, inr, nat_lt}
 use Rattle.std.specs.Prelude.{slice_get}
 use Rattle.std.specs.Option.{option_or}
 use Rattle.mc_model.specs.State.{Running}
@@ -9,13 +9,15 @@ use Rattle.mc_drain.specs.declared.repairing.Repaired.{Repaired}
 use Rattle.mc_drain.specs.declared.repairing.Repaired.TheVariants as repaired
 use Rattle.mc_drain.specs.declared.working.Worked.{Worked}
 use Rattle.mc_drain.specs.declared.working.Worked.TheVariants as worked
+use Rattle.mc_files.specs.declared.taking.Imported.{Imported}
 use Rattle.mc_script.specs.declared.command.Command.{Command}
 use Rattle.mc_script.specs.declared.reply.Reply.{Reply}
 use Rattle.mc_script.specs.declared.reply.Reply.TheVariants.{Idle, Processed, Missing, Bad}
-use Rattle.mc_seats.specs.Asks.{among_by, focus_by, has_message, is_there, message_at}
+use Rattle.mc_seats.specs.declared.bag.Bag.{Bag}
+use Rattle.mc_seats.specs.Asks.{among_by, focus_by, has_car, has_message, is_there, message_at}
 use Rattle.mc_seats.specs.Calling.{Batches, Blocks, Calling, Nothing, Reach}
-use Rattle.mc_seats.specs.Doing.{Act, At, Calls, Casts, Compares, Doing, Hears, Links, Repairs, Sends, Steps, Storms, Tends, Works, doing}
-use Rattle.mc_seats.specs.Effects.{CallsAt, HearsSome, IsIdle, IsReply, done_by, open_reply, refused_by, stop_reply}
+use Rattle.mc_seats.specs.Doing.{Act, At, Calls, Casts, Compares, Doing, Exports, Hears, Imports, Links, Loads, Repairs, Sends, Steps, Storms, Tends, Works, doing}
+use Rattle.mc_seats.specs.Effects.{CallsAt, HearsSome, IsIdle, IsReply, done_by, import_reply, open_reply, refused_by, stop_reply}
 use Rattle.mc_seats.specs.Step.{IsDone, Refuses, answers_fault, either_reply, is_fault, refuses_by, says_by, sets_by}
 use Rattle.mc_seats.specs.Tending.{Either, Rests, Rule, Runs, rule_reply}
 use Rattle.mc_seats.specs.Works.{repaired_reply, worked_reply}
@@ -40,6 +42,10 @@ works_plainly : (value : Worked) → is_plain (worked_reply value) ≡ true
 works_plainly (worked.Done processed missing bad) = refl
 works_plainly (worked.Again processed) = refl
 
+imports_plainly : (said : Result Imported ℕ) → is_plain (import_reply said) ≡ true
+imports_plainly (Ok imported) = refl
+imports_plainly (Err number) = refl
+
 repairs_plainly : (value : Repaired) → is_plain (repaired_reply value) ≡ true
 repairs_plainly repaired.Clean = refl
 repairs_plainly (repaired.Open gaps) = refl
@@ -57,11 +63,17 @@ plainly w (At r (Calls call)) reply w2 plain is moved says around = reach_plainl
 plainly w (At r (Tends tending)) reply w2 plain is moved says around = is.plain moved.old moved.new reply moved.holds
 plainly w (At r Casts) reply w2 plain is moved says around = ap is_plain around.numbered
 plainly w (At r (Hears message)) reply w2 plain is moved says around = hears_plainly (message_at w.around.bag message) moved.old.run moved.new.run reply moved.holds.0.2
+plainly w (At r Exports) reply w2 plain is moved says (inl filed) = ap is_plain filed.numbered
+plainly w (At r Exports) reply w2 plain is moved says (inr many) = ap is_plain many.says
+plainly w (At r (Imports car)) reply w2 plain is moved says around =
+    let some = moved.holds.0.1 in
+    ap is_plain some.says ∙ imports_plainly some.said
 plainly w (At r Steps) reply w2 plain is moved says around = idles_plainly moved.old.run reply moved.holds.0.1
 plainly w (At r (Works budget)) reply w2 plain is moved says around = ap is_plain moved.holds.says ∙ works_plainly moved.holds.value
 plainly w (At r Repairs) reply w2 plain is moved says around = ap is_plain moved.holds.says ∙ repairs_plainly moved.holds.value
 plainly w (At r (Storms writers writes)) reply w2 plain is moved says around = ap is_plain moved.holds.says
 plainly w (Sends bytes) reply w2 plain is moved says around = ap is_plain around.numbered
+plainly w (Loads bytes) reply w2 plain is moved says around = ap is_plain around.numbered
 plainly w (Links r other up) reply w2 plain is moved says around = ap is_plain around.0
 plainly w (Compares r other) reply w2 plain is moved says around = ap is_plain says.1
 
@@ -109,8 +121,10 @@ refused_no_fault : (w : WorldState) (d : Doing) (reply : Reply) (p : Place) → 
 refused_no_fault w (At r (Tends tending)) reply p h = due_no_fault (rule_reply tending.rule p.run) reply (rule_no_fault tending.rule p.run) h
 refused_no_fault w d reply p h = error_no_fault h.0 reply h.3
 
-within : (count : ℕ) (bag : List (List ℕ)) (r : ℕ) (act : Act) → among_by count bag (At r act) ≡ true → nat_lt r count ≡ true
+-- the replica of a command is there
+pub within : (count : ℕ) (bag : Bag) (r : ℕ) (act : Act) → among_by count bag (At r act) ≡ true → nat_lt r count ≡ true
 within count bag r (Hears message) there = first (nat_lt r count) (has_message bag message) there
+within count bag r (Imports car) there = first (nat_lt r count) (has_car bag car) there
 within count bag r act there = there
 
 no_fault_by : (w : WorldState) (d : Doing) (reply : Reply) → among_by (length w.places) w.around.bag d ≡ true → refuses_by w d (Some reply) → is_fault reply ≡ false

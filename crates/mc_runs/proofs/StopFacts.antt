@@ -17,15 +17,15 @@ use Rattle.mc_script.specs.declared.reply.Reply.{Reply}
 use Rattle.mc_script.specs.declared.reply.Reply.TheVariants.{Stopped}
 use Rattle.mc_seats.specs.declared.error.ActError.{ActError}
 use Rattle.mc_seats.specs.declared.entry.LineEntry.{LineEntry}
-use Rattle.mc_seats.specs.Asks.{among_by, has_message, is_named, is_there}
-use Rattle.mc_seats.specs.Doing.{Act, At, Compares, Doing, Hears, Tends, doing}
+use Rattle.mc_seats.specs.Asks.{among_by, is_named, is_there}
+use Rattle.mc_seats.specs.Doing.{Act, At, Compares, Doing, Tends, doing}
 use Rattle.mc_seats.specs.Effects.{IsReply, asks_by, batch_in, call_front, front_by, refused_by, seen_by, stop_reply}
 use Rattle.mc_runs.specs.Promises.{asks_running, has_stopped, running_by, some_stopped}
 use Rattle.mc_seats.specs.Step.{Refuses, Row, Step, asked_by, either_reply, is_fault, refuses_by}
 use Rattle.mc_seats.specs.Tending.{Either, Rests, Rule, Runs, is_runs, rule_reply}
 use Rattle.mc_seats.specs.Words.{has_some}
 use Rattle.mc_seats.specs.Worlds.{Place, WorldState, is_down}
-use Rattle.mc_runs.proofs.ReplyFacts.{done_plainly}
+use Rattle.mc_runs.proofs.ReplyFacts.{done_plainly, within}
 use Rattle.mc_runs.proofs.TendFacts.{is_plain}
 use Rattle.mc_seats.proofs.SeatFacts.{first, rest}
 use Rattle.mc_runs.proofs.WrittenFacts.{at_there, of_place, stands_within}
@@ -194,11 +194,6 @@ module _ (w : WorldState) (r other : ℕ) (there : is_there w (SameOf r other) �
   due_same e = some_is ∙ due_both at_first.0.run at_second.0.run (e ∙ either_is)
 
 -- in a world
-
--- the replica of a command is there
-within : (count : ℕ) (bag : List (List ℕ)) (r : ℕ) (act : Act) → among_by count bag (At r act) ≡ true → nat_lt r count ≡ true
-within count bag r (Hears message) there = first (nat_lt r count) (has_message bag message) there
-within count bag r act there = there
 
 refuses_stopped : (w : WorldState) (d : Doing) → FrontRuns w d → among_by (length w.places) w.around.bag d ≡ true → refuses_by w d (Some Stopped) → some_stopped w (running_by d) ≡ true
 refuses_stopped w (At r act) runs there h =

@@ -1,11 +1,11 @@
 -- What holds of each command by its own row: what is said for a call, and what is left of a place where no call is made.
-use Rattle.std.proofs.Common.{◌≡◌, ◌∙◌, Bool, true, false, Option, None, Some, refl, ap}
+use Rattle.std.proofs.Common.{◌≡◌, ◌∙◌, ℕ, Bool, List, true, false, Option, None, Some, refl, ap}
 use Rattle.std.specs.Prelude.{⊤, is_some}
 use Rattle.mc_script.specs.declared.command.Command.{Command}
-use Rattle.mc_script.specs.declared.command.Command.TheVariants.{Put, Plant, State, Stop, Open, StopAt, StopAfter}
+use Rattle.mc_script.specs.declared.command.Command.TheVariants.{GetAt, Put, Plant, State, Stop, Open, StopAt, StopAfter}
 use Rattle.mc_script.specs.declared.reply.Reply.{Reply}
 use Rattle.mc_script.specs.declared.reply.Reply.TheVariants.{Done, Stopped, FaultKeeper, FaultPeer}
-use Rattle.mc_seats.specs.Doing.{At, Calls, Doing, Tends, doing}
+use Rattle.mc_seats.specs.Doing.{At, Calls, Doing, Tends, below_reply, doing}
 use Rattle.mc_seats.specs.Tending.{HasNumbers, Tending}
 use Rattle.mc_model.specs.State.{Running}
 use Rattle.mc_seats.specs.Worlds.{IfRuns, Place}
@@ -27,8 +27,13 @@ abbrev pub SaysPlainly : Doing → Type 0
 SaysPlainly (At r (Calls call)) = (value : call.Answer) → is_plain (call.says value) ≡ true
 SaysPlainly d = ⊤ → is_plain Done ≡ true
 
+below_plainly : (found : Option (Option (List ℕ))) → is_plain (below_reply found) ≡ true
+below_plainly None = refl
+below_plainly (Some value) = refl
+
 pub says_plainly : (command : Command) → SaysPlainly (doing command)
 says_plainly (Put r key bytes) = λ value. refl
+says_plainly (GetAt r cid key) = below_plainly
 says_plainly command = λ value. refl
 
 -- the content is the same, a fuse that was armed is still armed, and the reply is plain

@@ -22,7 +22,7 @@ use Rattle.mc_storm.specs.Storms.{CallActs, storm_key, storm_value}
 use Rattle.mc_script.specs.Line.{line_of}
 use Rattle.mc_script.specs.declared.command.Command.{Command}
 use Rattle.mc_script.specs.declared.reply.Reply.{Reply}
-pub use Rattle.mc_seats.specs.Calls.{is_read}
+pub use Rattle.mc_seats.specs.Calls.{is_find}
 use Rattle.mc_seats.specs.Asks.{is_named, may_fail}
 use Rattle.mc_seats.specs.Doing.{At, Compares, Doing, Tends, doing}
 use Rattle.mc_seats.specs.Effects.{batch_in, done_by}

@@ -1,24 +1,28 @@
 // What is promised of every run, by the definitions.
 ghost use Rattle.std.specs.Prelude.{◌≡◌, ◌≢◌, ◌↔◌, ◌<◌, ◌-◌, ◌^◌, ℕ, Bool, List, [], Option, Some, true, false};
 ghost use Rattle.std.specs.Prelude.{slice_get};
+ghost use Rattle.mc_base.specs.declared.cid.Cid.{Cid};
 ghost use Rattle.mc_model.specs.Made.{made_cid};
 ghost use Rattle.mc_model.specs.SameMembers.{SameMembers};
-ghost use Rattle.mc_model.specs.State.{blocks_of};
+ghost use Rattle.mc_model.specs.Graph.{HasNoCycle};
+ghost use Rattle.mc_model.specs.Kept.{IsKept, Kept};
+ghost use Rattle.mc_model.specs.State.{blocks_of, vertices};
 ghost use Rattle.mc_core.specs.Events.{ReplicaState};
 ghost use Rattle.mc_core.specs.Puts.{next_links, delta_of_put};
 ghost use Rattle.mc_script.specs.declared.command.Command.{Command as Asked};
 ghost use Rattle.mc_script.specs.declared.command.Command.TheVariants.{Put, Del, Commit, Repair, Storm, Work};
+ghost use Rattle.mc_script.specs.declared.command.Command.TheVariants.{Export, GetAt, Import};
 ghost use Rattle.mc_script.specs.declared.reply.Reply.{Reply as Said};
 ghost use Rattle.mc_script.specs.declared.reply.Reply.TheVariants.{Priority, Deleted, Stopped, Stormed, Clean};
-ghost use Rattle.mc_script.specs.declared.reply.Reply.TheVariants.{FaultKeeper, FaultPeer};
+ghost use Rattle.mc_script.specs.declared.reply.Reply.TheVariants.{Car, FaultKeeper, FaultPeer, Imported, Worked};
 ghost use Rattle.mc_seats.specs.declared.entry.LineEntry.{LineEntry as Entry};
 ghost use Rattle.mc_seats.specs.declared.links.Link.{Link as LinkState};
-ghost use Rattle.mc_seats.specs.Asks.{focus, is_named, may_fail};
+ghost use Rattle.mc_seats.specs.Asks.{car_at, focus, is_named, may_fail};
 ghost use Rattle.mc_seats.specs.Effects.{DoneAt};
-ghost use Rattle.mc_runs.specs.Exports.{ExportsArrive};
+ghost use Rattle.mc_runs.specs.Exports.{ExportsArrive, HasArrived, HasNoOffers, IsBare, keeps_at};
 ghost use Rattle.mc_runs.specs.Promises.{AfterLine, AroundLine, FuseFired, HasCommitted, HasDeleted, HasDeletedSince, HasMore, HasProcessed};
 ghost use Rattle.mc_runs.specs.Promises.{HasSettled, HasStormed, IsLineAt, OnlyGrows, SinceLine};
-ghost use Rattle.mc_runs.specs.Promises.{DoneElsewhere, asks_running, fired_at, is_read, same_pair};
+ghost use Rattle.mc_runs.specs.Promises.{DoneElsewhere, asks_running, fired_at, is_find, same_pair};
 ghost use Rattle.mc_runs.specs.Promises.{some_stopped, tells_at};
 ghost use Rattle.std.specs.List.{AllByRecursion};
 ghost use Rattle.mc_script.specs.Line.{line_of};
@@ -28,8 +32,11 @@ ghost use Rattle.mc_runs.specs.Runs.{Answer, IsWithin, Runs, own_free, owns_in};
 ghost use Rattle.mc_seats.specs.Step.{Step, with_link};
 ghost use Rattle.mc_seats.specs.Worlds.{Place, WorldState, is_linked, state_at};
 
+use mc_car::cars_are_read;
 use mc_core::{clean_replicas_are_reached, written_blocks_stand};
+use mc_files::exports_are_one;
 use mc_model::{kept_is_durable, order_and_store_grow, same_blocks_same_answers};
+use mc_past::founds_are_one;
 
 /// No line takes a block out of the processed ones of a replica, or changes its position; nor out of the stored ones,
 /// or changes its bytes: whatever faults came, at whatever replica. So a block that was acknowledged stays in every
@@ -113,15 +120,21 @@ pub fn acknowledged_blocks_stand()
     acknowledged_deletes_are_processed();
 }
 
-/// Replicas with equal processed blocks, in whatever order, give equal answers to every command that only reads: two of
-/// one world or of two worlds, whatever else these hold.
+/// Replicas with equal processed blocks, in whatever order, give equal answers to every command whose answer is found in
+/// these blocks, which are `get`, `has`, `query` and `heads`; and to `getat`: two of one world or of two worlds, whatever
+/// else these hold. A feed depends on the order of processing, and is not among them.
 pub fn equal_blocks_answer_equally()
-    ensures { (w w2 : WorldState) (p p2 q q2 : Place) (s t : ReplicaState) (command : Asked) (other : ℕ)
-        (reply said : Said) → is_read command ≡ true → state_at p ≡ Some s → state_at q ≡ Some t →
+    ensures found { (w w2 : WorldState) (p p2 q q2 : Place) (s t : ReplicaState) (command : Asked) (other : ℕ)
+        (reply said : Said) → is_find command ≡ true → state_at p ≡ Some s → state_at q ≡ Some t →
         SameMembers (blocks_of s.state.durable) (blocks_of t.state.durable) →
         DoneAt w command p p2 reply → DoneElsewhere w2 other command q q2 said → reply ≡ said }
+    ensures below { (w w2 : WorldState) (p p2 q q2 : Place) (s t : ReplicaState) (r other : ℕ) (cid : Cid)
+        (key : List ℕ) (reply said : Said) → state_at p ≡ Some s → state_at q ≡ Some t →
+        SameMembers (blocks_of s.state.durable) (blocks_of t.state.durable) → DoneAt w (GetAt r cid key) p p2 reply →
+        DoneElsewhere w2 other (GetAt r cid key) q q2 said → reply ≡ said }
 {
     same_blocks_same_answers();
+    founds_are_one();
 }
 
 /// A replica that a command doesn't work on, and whose keeper can't fail in it, is as it was, over every keeper: its
@@ -202,6 +215,8 @@ pub fn runs_are_one()
         (replies_in answers ≡ replies_in answers2) × (last ≡ last2) }
 {
     kept_is_durable();
+    exports_are_one();
+    founds_are_one();
 }
 
 /// What a work comes to does not depend on its workers, nor on their turns: two works of one replica of one world, whose
@@ -232,3 +247,20 @@ pub fn works_are_one()
 pub fn exports_arrive()
     ensures { ExportsArrive }
 {}
+
+/// A file that a replica exported, taken in by a replica that held and wanted nothing, and worked off there, brings what
+/// the exporter had processed: both have the same set of processed blocks then. Between the two lines the file may have
+/// come into another world. What the exporter keeps is sound, as every keeper's content is, no stored block of it leads
+/// back to itself, and all contents of the importer's world are told, where no peer has a good offer for a gap of the
+/// exporter.
+pub fn exported_files_arrive()
+    ensures { (kept : Kept) (w w2 v v2 v3 : WorldState)
+        (r number size q car stored queued workers processed missing bad : ℕ) (budget : Option ℕ)
+        (entry entry2 entry3 : Entry) → keeps_at w r ≡ Some kept → IsKept kept → HasNoCycle (vertices kept.graph) →
+        Step w (Export r) entry (Car number size) w2 → car_at v.around.bag car ≡ car_at w2.around.bag number →
+        IsBare v q → Step v (Import q car) entry2 (Imported stored queued) v2 → AreTold v2 → HasNoOffers kept v2 q →
+        Step v2 (Work q workers budget) entry3 (Worked processed missing bad) v3 → HasArrived kept v3 q }
+{
+    kept_is_durable();
+    cars_are_read();
+}

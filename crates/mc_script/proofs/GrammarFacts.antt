@@ -11,13 +11,13 @@ use Rattle.std.proofs.lemmas.Slice.Eq.{bytes_eq-Decides}
 use Rattle.std.proofs.lemmas.Str.{IsUtf8-append, IsUtf8-from_ascii, IsUtf8-from_is_utf8, is_utf8-from_IsUtf8}
 use Rattle.mc_base.specs.declared.cid.Cid.{Cid}
 use Rattle.mc_cidtext.specs.CidText.{IsOneText, IsReadAgain}
-use Rattle.mc_script.specs.Arguments.{budget_words, hex_words, key_words, link_words, message_words, offer_words, pair_words, range_words, replica_words, storm_words, up_to_words, value_words, work_words}
+use Rattle.mc_script.specs.Arguments.{budget_words, hex_words, key_words, link_words, message_words, offer_words, pair_words, range_words, replica_words, span_words, storm_words, up_to_words, value_words, view_words, work_words}
 use Rattle.mc_script.specs.Limits.{budget_max, commit_max, thread_max, write_max}
 use Rattle.mc_script.specs.Grammar.{HasWord, Identifier, IsComment, IsLineOf, IsSilent, IsWritable, Key, Number, OtherThan, Part, Prefix, Replica, Say, Says, UpTo, Value, Way, budget_parts, command_text, form, is_whole_word, word_of}
-use Rattle.mc_script.specs.Line.{batch_by_name, command_by_name, command_of_words, crowd_by_name, has_no_reply, line_of, line_of_text, message_by_name, on_hex, on_key, on_link, on_message, on_offer, on_pair, on_range, on_replica, on_storm, on_up_to, on_value, on_work, run_by_name}
+use Rattle.mc_script.specs.Line.{batch_by_name, command_by_name, command_of_words, crowd_by_name, has_no_reply, history_by_name, line_of, line_of_text, message_by_name, on_hex, on_key, on_link, on_message, on_offer, on_pair, on_range, on_replica, on_span, on_storm, on_up_to, on_value, on_view, on_work, run_by_name}
 use Rattle.mc_script.specs.Words.{◌>>=◌, bytes_of_hex, identifier_of, is_word, number_of, other_of, replica_of, up_to_of, way_of, words_of}
 use Rattle.mc_script.specs.declared.command.Command.{Command}
-use Rattle.mc_script.specs.declared.command.Command.TheVariants.{Put, Del, Begin, BatchPut, BatchDel, Commit, Get, Has, Query, Heads, Cast, Wire, Hear, Plant, Link, Step, Work, Repair, Storm, State, Same, Stop, Open, StopAt, StopAfter}
+use Rattle.mc_script.specs.declared.command.Command.TheVariants.{Put, Del, Begin, BatchPut, BatchDel, Commit, Get, Has, Query, Heads, Cast, Wire, Hear, Plant, Link, Step, Work, Repair, Storm, State, Same, Stop, Open, StopAt, StopAfter, Export, CarIn, Import, Feed, GetAt}
 use Rattle.mc_script.proofs.PartFacts.{number_found, number_read, plain_ascii, replica_found, replica_read, says_whole, value_found, value_read, word_is_utf8, word_says}
 use Rattle.mc_script.proofs.WordFacts.{bind_some, identifier_found, identifier_read, other_found, other_read, up_to_found, up_to_read, way_found, way_read}
 
@@ -188,6 +188,31 @@ offer_words_found one (replica ∷ cid ∷ hex ∷ []) said all h =
     subst (λ (said : ℕ × Cid × List ℕ). Say (replica ∷ cid ∷ hex ∷ []) (Replica said.0 ∷ Identifier said.1 ∷ Value said.2 ∷ [])) same (replica_found replica first.0 first.1, (identifier_found one cid second.0 whole.0 second.1, (value_found hex third.0 third.1, tt)))
 offer_words_found one (replica ∷ cid ∷ hex ∷ next ∷ rest) said all h = cc h
 
+span_words_found : (words : List (List ℕ)) (said : ℕ × ℕ × ℕ) → span_words words ≡ Some said → Say words (Replica said.0 ∷ Number said.1 ∷ Number said.2 ∷ [])
+span_words_found [] said h = cc h
+span_words_found (replica ∷ []) said h = cc h
+span_words_found (replica ∷ from ∷ []) said h = cc h
+span_words_found (replica ∷ from ∷ count ∷ []) said h =
+    let first = bind_some (replica_of replica) _ said h in
+    let next = bind_some (number_of from) _ said first.2 in
+    let third = bind_some (number_of count) _ said next.2 in
+    let same : (first.0, next.0, third.0) ≡ said = cc in
+    subst (λ (said : ℕ × ℕ × ℕ). Say (replica ∷ from ∷ count ∷ []) (Replica said.0 ∷ Number said.1 ∷ Number said.2 ∷ [])) same (replica_found replica first.0 first.1, (number_found from next.0 next.1, (number_found count third.0 third.1, tt)))
+span_words_found (replica ∷ from ∷ count ∷ next ∷ rest) said h = cc h
+
+view_words_found : IsOneText → (words : List (List ℕ)) (said : ℕ × Cid × List ℕ) → list_all is_whole_word words ≡ true → view_words words ≡ Some said → Say words (Replica said.0 ∷ Identifier said.1 ∷ Key said.2 ∷ [])
+view_words_found one [] said all h = cc h
+view_words_found one (replica ∷ []) said all h = cc h
+view_words_found one (replica ∷ cid ∷ []) said all h = cc h
+view_words_found one (replica ∷ cid ∷ key ∷ []) said all h =
+    let first = bind_some (replica_of replica) _ said h in
+    let second = bind_some (identifier_of cid) _ said first.2 in
+    let whole = and_parts (is_whole_word cid) (is_whole_word key && true) (and_parts (is_whole_word replica) (is_whole_word cid && (is_whole_word key && true)) all).1 in
+    let key_whole = and_parts (is_whole_word key) true whole.1 in
+    let same : (first.0, second.0, key) ≡ said = cc in
+    subst (λ (said : ℕ × Cid × List ℕ). Say (replica ∷ cid ∷ key ∷ []) (Replica said.0 ∷ Identifier said.1 ∷ Key said.2 ∷ [])) same (replica_found replica first.0 first.1, (identifier_found one cid second.0 whole.0 second.1, ((refl, key_whole.0), tt)))
+view_words_found one (replica ∷ cid ∷ key ∷ next ∷ rest) said all h = cc h
+
 link_words_found : (words : List (List ℕ)) (said : ℕ × ℕ × Bool) → link_words words ≡ Some said → Say words (Replica said.0 ∷ OtherThan said.0 said.1 ∷ Way said.2 ∷ [])
 link_words_found [] said h = cc h
 link_words_found (replica ∷ []) said h = cc h
@@ -269,6 +294,24 @@ module _ (name : List ℕ) (words : List (List ℕ)) (command : Command) (all : 
     ]
   ]
 
+  history_found : IsOneText → history_by_name name words ≡ Some command → IsNamed name words command
+  history_found one h = elim (went (codes "export") (on_replica Export words) _ h) [
+    | inl at ↦ on_replica_found Export (codes "export") (λ r. refl) at.0 at.1
+    | inr h ↦ elim (went (codes "carin") (on_hex CarIn words) _ h) [
+      | inl at ↦ said_found CarIn hex_words (codes "carin") (λ (bytes : List ℕ). Value bytes ∷ []) (λ bytes. refl) (hex_words_found words) at.0 at.1
+      | inr h ↦ elim (went (codes "import") (on_message Import words) _ h) [
+        | inl at ↦ said_found (λ (said : ℕ × ℕ). Import said.0 said.1) message_words (codes "import") (λ (said : ℕ × ℕ). Replica said.0 ∷ Number said.1 ∷ []) (λ said. refl) (message_words_found words) at.0 at.1
+        | inr h ↦ elim (went (codes "feed") (on_span Feed words) _ h) [
+          | inl at ↦ said_found (λ (said : ℕ × ℕ × ℕ). Feed said.0 said.1 said.2) span_words (codes "feed") (λ (said : ℕ × ℕ × ℕ). Replica said.0 ∷ Number said.1 ∷ Number said.2 ∷ []) (λ said. refl) (span_words_found words) at.0 at.1
+          | inr h ↦ elim (went (codes "getat") (on_view GetAt words) _ h) [
+            | inl at ↦ said_found (λ (said : ℕ × Cid × List ℕ). GetAt said.0 said.1 said.2) view_words (codes "getat") (λ (said : ℕ × Cid × List ℕ). Replica said.0 ∷ Identifier said.1 ∷ Key said.2 ∷ []) (λ said. refl) (λ said. view_words_found one words said all) at.0 at.1
+            | inr h ↦ run_found h
+          ]
+        ]
+      ]
+    ]
+  ]
+
   message_found : IsOneText → message_by_name name words ≡ Some command → IsNamed name words command
   message_found one h = elim (went (codes "cast") (on_replica Cast words) _ h) [
     | inl at ↦ on_replica_found Cast (codes "cast") (λ r. refl) at.0 at.1
@@ -282,7 +325,7 @@ module _ (name : List ℕ) (words : List (List ℕ)) (command : Command) (all : 
             | inl at ↦ said_found (λ (said : ℕ × ℕ × Bool). Link said.0 said.1 said.2) link_words (codes "link") (λ (said : ℕ × ℕ × Bool). Replica said.0 ∷ OtherThan said.0 said.1 ∷ Way said.2 ∷ []) (λ said. refl) (link_words_found words) at.0 at.1
             | inr h ↦ elim (went (codes "step") (on_replica Step words) _ h) [
               | inl at ↦ on_replica_found Step (codes "step") (λ r. refl) at.0 at.1
-              | inr h ↦ run_found h
+              | inr h ↦ history_found one h
             ]
           ]
         ]
@@ -410,6 +453,20 @@ said_offer make r cid bytes (replica ∷ word ∷ []) say = absurd say.1.1
 said_offer make r cid bytes (replica ∷ word ∷ hex ∷ []) say = rw (replica_read replica r say.0, identifier_read word cid say.1.0, value_read hex bytes say.1.1.0) refl
 said_offer make r cid bytes (replica ∷ word ∷ hex ∷ next ∷ rest) say = absurd say.1.1.1
 
+said_span : (make : ℕ → ℕ → ℕ → Command) (r from count : ℕ) (words : List (List ℕ)) → Say words (Replica r ∷ Number from ∷ Number count ∷ []) → on_span make words ≡ Some (make r from count)
+said_span make r from count [] say = absurd say
+said_span make r from count (replica ∷ []) say = absurd say.1
+said_span make r from count (replica ∷ word ∷ []) say = absurd say.1.1
+said_span make r from count (replica ∷ word ∷ second ∷ []) say = rw (replica_read replica r say.0, number_read word from say.1.0, number_read second count say.1.1.0) refl
+said_span make r from count (replica ∷ word ∷ second ∷ next ∷ rest) say = absurd say.1.1.1
+
+said_view : (make : ℕ → Cid → List ℕ → Command) (r : ℕ) (cid : Cid) (key : List ℕ) (words : List (List ℕ)) → Say words (Replica r ∷ Identifier cid ∷ Key key ∷ []) → on_view make words ≡ Some (make r cid key)
+said_view make r cid key [] say = absurd say
+said_view make r cid key (replica ∷ []) say = absurd say.1
+said_view make r cid key (replica ∷ word ∷ []) say = absurd say.1.1
+said_view make r cid key (replica ∷ word ∷ second ∷ []) say = rw (replica_read replica r say.0, identifier_read word cid say.1.0, say.1.1.0.0) refl
+said_view make r cid key (replica ∷ word ∷ second ∷ next ∷ rest) say = absurd say.1.1.1
+
 said_link : (make : ℕ → ℕ → Bool → Command) (r other : ℕ) (up : Bool) (words : List (List ℕ)) → Say words (Replica r ∷ OtherThan r other ∷ Way up ∷ []) → on_link make words ≡ Some (make r other up)
 said_link make r other up [] say = absurd say
 said_link make r other up (replica ∷ []) say = absurd say.1
@@ -434,6 +491,11 @@ command_said (Hear r message) words say = said_message Hear r message words say
 command_said (Plant r cid bytes) words say = said_offer Plant r cid bytes words say
 command_said (Link r other up) words say = said_link Link r other up words say
 command_said (Step r) words say = said_replica Step r words say
+command_said (Export r) words say = said_replica Export r words say
+command_said (CarIn bytes) words say = said_hex CarIn bytes words say
+command_said (Import r car) words say = said_message Import r car words say
+command_said (Feed r from count) words say = said_span Feed r from count words say
+command_said (GetAt r cid key) words say = said_view GetAt r cid key words say
 command_said (Work r workers budget) words say = said_work r workers budget words say
 command_said (Repair r workers) words say = said_up_to thread_max Repair r workers words say
 command_said (Storm r writers writes) words say = said_storm r writers writes words say

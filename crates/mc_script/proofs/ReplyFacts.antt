@@ -1,6 +1,6 @@
 -- The text of a reply tells it.
 use Rattle.std.proofs.Common.{◌≡◌, ℕ, zero, suc, ◌+◌, ◌*◌, ◌/◌, ◌%◌, ◌<◌, ◌≤◌, ◌==◌, Bool, true, false, ◌&&◌, not, List, [], ◌∷◌, ◌++◌, length, Option, Some, None, Result, Ok, Err, inl, inr, codes, refl, sym, ap, ◌∙◌, arith, unwrap_or, append_assoc}
-use Rattle.std.specs.Prelude.{if◌then◌else◌, nat_le, nat_lt}
+use Rattle.std.specs.Prelude.{IfSome, if◌then◌else◌, nat_le, nat_lt}
 use Rattle.std.specs.Char.{is_ascii_digit}
 use Rattle.std.specs.Fmt.{decimal, digit_glyph}
 use Rattle.std.specs.List.{AllByRecursion, AllPass, flat_map, join_with_byte, list_all}
@@ -18,10 +18,10 @@ use Rattle.mc_base.specs.declared.cid.Cid.{Cid}
 use Rattle.mc_cidtext.specs.CidText.{IsReadAgain, cid_text, read_cid_text}
 use Rattle.mc_cidtext.specs.declared.fault.CidTextFault.{CidTextFault}
 use Rattle.mc_script.specs.KeyText.{byte_text, is_plain, key_text}
-use Rattle.mc_script.specs.ReplyText.{IsDigest, IsTyped, IsWide, clear_or_set, count_words, head_text, hex_text, mark_words, number_line, pair_line, reply_text, row_text, yes_or_no}
+use Rattle.mc_script.specs.ReplyText.{IsDigest, IsTyped, IsTypedEvent, IsWide, clear_or_set, count_words, counts_text, event_text, head_text, hex_text, mark_words, number_line, pair_line, reply_text, row_text, value_text, yes_or_no}
 use Rattle.mc_script.specs.Words.{bytes_of_hex, words_of}
 use Rattle.mc_script.specs.declared.reply.Reply.{Reply}
-use Rattle.mc_script.specs.declared.reply.Reply.TheVariants.{Done, Priority, Deleted, Value, Has, Rows, Heads, Message, Queued, Processed, Missing, Bad, Idle, Worked, Again, Clean, OpenGaps, Stormed, State, Same, Stopped, FaultKeeper, FaultPeer, RefusedKey, RefusedValue, RefusedSize, RefusedPriority, RefusedClash, RefusedBatch, RefusedCast, RefusedOpen}
+use Rattle.mc_script.specs.declared.reply.Reply.TheVariants.{Done, Priority, Deleted, Value, Has, Rows, Heads, Message, Queued, Processed, Missing, Bad, Idle, Worked, Again, Clean, OpenGaps, Stormed, State, Same, Stopped, FaultKeeper, FaultPeer, RefusedKey, RefusedValue, RefusedSize, RefusedPriority, RefusedClash, RefusedBatch, RefusedCast, RefusedOpen, Car, Imported, Events, RefusedRoots, RefusedCar, RefusedView}
 use Rattle.mc_script.proofs.CidFacts.{cid_passes}
 use Rattle.mc_script.proofs.GrammarFacts.{joined_is_split}
 use Rattle.mc_script.proofs.PartFacts.{written_hex}
@@ -241,6 +241,44 @@ heads_are_read (head ∷ heads) after again all =
         → ◌≡◌ {A = List (Cid × ℕ) × List ℕ} ((cid_of cid.0, digits_value 10 (cut 10 cid.1).0) ∷ (heads_from (length heads) (cut 10 cid.1).1).0, (heads_from (length heads) (cut 10 cid.1).1).1) (head ∷ heads, after)
     head_step cid is second more = rw (is, second, cid_is_read again head.0 all.0.0, number_is_read head.1 all.0.1, more) refl
 
+-- ---- changes
+
+value_is_graphic : (value : Option (List ℕ)) → IfSome value IsBytes → is_graphic (value_text value) ≡ true
+value_is_graphic None are = refl
+value_is_graphic (Some bytes) are = graphic_hex bytes are
+
+-- the text of no value has no bytes
+none_or_value_is_read : (value : Option (List ℕ)) → IfSome value IsBytes → bytes_of_hex (value_text value) ≡ value
+unfolding decode_pairs
+none_or_value_is_read None are = refl
+none_or_value_is_read (Some bytes) are = written_hex bytes are
+
+abbrev events_from : ℕ → List ℕ → List (ℕ × List ℕ × Option (List ℕ)) × List ℕ
+events_from zero text = ([], text)
+events_from (suc n) text =
+    let position = cut 32 text in
+    let key = cut 32 position.1 in
+    let value = cut 10 key.1 in
+    let rest = events_from n value.1 in
+    ((digits_value 10 position.0, key_of key.0, bytes_of_hex value.0) ∷ rest.0, rest.1)
+
+events_are_read : (events : List (ℕ × List ℕ × Option (List ℕ))) (after : List ℕ) → AllByRecursion IsTypedEvent events → events_from (length events) (flat_map event_text events ++ after) ≡ (events, after)
+events_are_read [] after all = refl
+events_are_read (event ∷ events) after all =
+    let others : List ℕ = flat_map event_text events ++ after in
+    let key = key_is_read event.1 all.0.1 in
+    let flat = append_assoc (event_text event) (flat_map event_text events) after in
+    let first = pair_is_cut (decimal event.0) (key_text event.1 ++ 32 ∷ value_text event.2) others (graphic_decimal event.0 all.0.0) in
+    let behind = ap (cut 32) (append_assoc (key_text event.1) (32 ∷ value_text event.2) (10 ∷ others)) ∙ cut_at 32 (key_text event.1) (value_text event.2 ++ 10 ∷ others) (omega arith) key.1 in
+    let last = cut_at 10 (value_text event.2) others (omega arith) (value_is_graphic event.2 all.0.2) in
+    event_step (cut 32 (flat_map event_text (event ∷ events) ++ after)) (ap (cut 32) flat ∙ first) behind last (events_are_read events after all.1)
+  where
+    event_step : (position : List ℕ × List ℕ) → position ≡ (decimal event.0, (key_text event.1 ++ 32 ∷ value_text event.2) ++ 10 ∷ (flat_map event_text events ++ after))
+        → cut 32 ((key_text event.1 ++ 32 ∷ value_text event.2) ++ 10 ∷ (flat_map event_text events ++ after)) ≡ (key_text event.1, value_text event.2 ++ 10 ∷ (flat_map event_text events ++ after))
+        → cut 10 (value_text event.2 ++ 10 ∷ (flat_map event_text events ++ after)) ≡ (value_text event.2, flat_map event_text events ++ after) → events_from (length events) (flat_map event_text events ++ after) ≡ (events, after)
+        → ◌≡◌ {A = List (ℕ × List ℕ × Option (List ℕ)) × List ℕ} ((digits_value 10 position.0, key_of (cut 32 position.1).0, bytes_of_hex (cut 10 (cut 32 position.1).1).0) ∷ (events_from (length events) (cut 10 (cut 32 position.1).1).1).0, (events_from (length events) (cut 10 (cut 32 position.1).1).1).1) (event ∷ events, after)
+    event_step position is second third more = rw (is, second, third, number_is_read event.0 all.0.0, (key_is_read event.1 all.0.1).0, none_or_value_is_read event.2 all.0.2, more) refl
+
 -- ---- the reply of a text
 
 graphic_no_space : (word : List ℕ) → is_graphic word ≡ true → list_all (λ byte. not (byte == 32)) word ≡ true
@@ -307,7 +345,8 @@ of_second second =
     else (if bytes_eq second (codes "priority") then RefusedPriority
     else (if bytes_eq second (codes "cast") then RefusedCast
     else (if bytes_eq second (codes "open") then RefusedOpen
-    else RefusedBatch)))))
+    else (if bytes_eq second (codes "view") then RefusedView
+    else RefusedBatch))))))
 
 -- the words of a state behind the first two, each count behind its name
 abbrev of_state : List (List ℕ) → Reply
@@ -328,20 +367,25 @@ of_words (word ∷ second ∷ []) rest =
     else (if bytes_eq word (codes "deleted") then (Deleted (digits_value 10 second), rest)
     else (if bytes_eq word (codes "rows") then (Rows (rows_from (digits_value 10 second) rest).0, (rows_from (digits_value 10 second) rest).1)
     else (if bytes_eq word (codes "heads") then (Heads (heads_from (digits_value 10 second) rest).0, (heads_from (digits_value 10 second) rest).1)
+    else (if bytes_eq word (codes "feed") then (Events (events_from (digits_value 10 second) rest).0, (events_from (digits_value 10 second) rest).1)
     else (if bytes_eq word (codes "message") then (Message (digits_value 10 second), rest)
     else (if bytes_eq word (codes "queued") then (Queued (digits_value 10 second), rest)
     else (if bytes_eq word (codes "bad") then (Bad (digits_value 10 second), rest)
     else (if bytes_eq word (codes "again") then (Again (digits_value 10 second), rest)
     else (if bytes_eq word (codes "open") then (OpenGaps (digits_value 10 second), rest)
     else (if bytes_eq word (codes "same") then (Same (bytes_eq second (codes "yes")), rest)
-    else (of_second second, rest))))))))))
+    else (of_second second, rest)))))))))))
 of_words (word ∷ second ∷ third ∷ words) rest =
     if bytes_eq word (codes "worked") then (of_worked second third words, rest)
     else (if bytes_eq word (codes "stormed") then (Stormed (digits_value 10 second) (digits_value 10 third), rest)
+    else (if bytes_eq word (codes "car") then (Car (digits_value 10 second) (digits_value 10 third), rest)
+    else (if bytes_eq word (codes "imported") then (Imported (digits_value 10 second) (digits_value 10 third), rest)
     else (if bytes_eq second (codes "key") then (RefusedKey (digits_value 10 third), rest)
     else (if bytes_eq second (codes "size") then (RefusedSize (digits_value 10 third), rest)
     else (if bytes_eq second (codes "clash") then (RefusedClash (cid_of third), rest)
-    else (of_state (third ∷ words), rest)))))
+    else (if bytes_eq second (codes "roots") then (RefusedRoots (digits_value 10 third), rest)
+    else (if bytes_eq second (codes "car") then (RefusedCar (digits_value 10 third), rest)
+    else (of_state (third ∷ words), rest)))))))))
 
 -- the reply at the front of a text, and what follows it
 abbrev told : List ℕ → Reply × List ℕ
@@ -433,6 +477,28 @@ told_stormed made same rest typed =
     stormed_is_read : of_words (codes "stormed" ∷ decimal made ∷ decimal same ∷ []) rest ≡ (Stormed made same, rest)
     stormed_is_read = rw (number_is_read made typed.0, number_is_read same typed.1) refl
 
+-- a word and two numbers
+told_counts : (word : List ℕ) (first second : ℕ) (rest : List ℕ) → is_graphic word ≡ true → IsWide first → IsWide second → told (counts_text word first second ++ 10 ∷ rest) ≡ of_words (word ∷ decimal first ∷ decimal second ∷ []) rest
+told_counts word first second rest graphic wide also = told_words word (decimal first ∷ decimal second ∷ []) rest graphic (rw (graphic_decimal first wide, graphic_decimal second also) refl)
+
+told_car : (number len : ℕ) (rest : List ℕ) → IsTyped (Car number len) → told (reply_text (Car number len) ++ rest) ≡ (Car number len, rest)
+told_car number len rest typed =
+    ap told (append_assoc (counts_text (codes "car") number len) (10 ∷ []) rest)
+    ∙ told_counts (codes "car") number len rest refl typed.0 typed.1
+    ∙ car_is_read
+  where
+    car_is_read : of_words (codes "car" ∷ decimal number ∷ decimal len ∷ []) rest ≡ (Car number len, rest)
+    car_is_read = rw (number_is_read number typed.0, number_is_read len typed.1) refl
+
+told_imported : (stored queued : ℕ) (rest : List ℕ) → IsTyped (Imported stored queued) → told (reply_text (Imported stored queued) ++ rest) ≡ (Imported stored queued, rest)
+told_imported stored queued rest typed =
+    ap told (append_assoc (counts_text (codes "imported") stored queued) (10 ∷ []) rest)
+    ∙ told_counts (codes "imported") stored queued rest refl typed.0 typed.1
+    ∙ imported_is_read
+  where
+    imported_is_read : of_words (codes "imported" ∷ decimal stored ∷ decimal queued ∷ []) rest ≡ (Imported stored queued, rest)
+    imported_is_read = rw (number_is_read stored typed.0, number_is_read queued typed.1) refl
+
 told_reply : (reply : Reply) (rest : List ℕ) → IsReadAgain → IsTyped reply → told (reply_text reply ++ rest) ≡ (reply, rest)
 unfolding decode_pairs
 told_reply Done rest again typed = refl
@@ -473,6 +539,13 @@ told_reply (Stormed made same) rest again typed = told_stormed made same rest ty
 told_reply (State processed stored waiting missing bad mark whole) rest again typed = told_state processed stored waiting missing bad mark whole rest typed
 told_reply (Same true) rest again typed = refl
 told_reply (Same false) rest again typed = refl
+told_reply (Car number len) rest again typed = told_car number len rest typed
+told_reply (Imported stored queued) rest again typed = told_imported stored queued rest typed
+told_reply (Events events) rest again typed =
+    ap told (append_assoc (number_line (codes "feed") (length events)) (flat_map event_text events) rest)
+    ∙ told_of_one (codes "feed") (decimal (length events)) (flat_map event_text events ++ rest) refl refl (graphic_decimal (length events) typed.0)
+    ∙ ap (λ (n : ℕ). (Events (events_from n (flat_map event_text events ++ rest)).0, (events_from n (flat_map event_text events ++ rest)).1)) (number_is_read (length events) typed.0)
+    ∙ ap (λ (p : List (ℕ × List ℕ × Option (List ℕ)) × List ℕ). (Events p.0, p.1)) (events_are_read events rest typed.1)
 told_reply Stopped rest again typed = refl
 told_reply FaultKeeper rest again typed = refl
 told_reply FaultPeer rest again typed = refl
@@ -487,6 +560,11 @@ told_reply (RefusedClash cid) rest again typed =
 told_reply RefusedBatch rest again typed = refl
 told_reply RefusedCast rest again typed = refl
 told_reply RefusedOpen rest again typed = refl
+told_reply (RefusedRoots number) rest again typed =
+    told_refused (codes "roots") (decimal number) rest refl refl (graphic_decimal number typed) ∙ ap (λ (n : ℕ). (RefusedRoots n, rest)) (number_is_read number typed)
+told_reply (RefusedCar number) rest again typed =
+    told_refused (codes "car") (decimal number) rest refl refl (graphic_decimal number typed) ∙ ap (λ (n : ℕ). (RefusedCar n, rest)) (number_is_read number typed)
+told_reply RefusedView rest again typed = refl
 
 pub told_apart : (reply other : Reply) (after behind : List ℕ) → IsReadAgain → IsTyped reply → IsTyped other → reply_text reply ++ after ≡ reply_text other ++ behind → (reply ≡ other) × (after ≡ behind)
 told_apart reply other after behind again typed also same =

@@ -56,6 +56,23 @@ offer_words (replica ∷ cid ∷ hex ∷ []) = do
   Some (r, cid, bytes)
 offer_words words = None
 
+-- `R FROM COUNT`
+abbrev pub span_words : List (List ℕ) → Option (ℕ × ℕ × ℕ)
+span_words (replica ∷ from ∷ count ∷ []) = do
+  r ← replica_of replica
+  from ← number_of from
+  count ← number_of count
+  Some (r, from, count)
+span_words words = None
+
+-- `R CID KEY`
+abbrev pub view_words : List (List ℕ) → Option (ℕ × Cid × List ℕ)
+view_words (replica ∷ cid ∷ key ∷ []) = do
+  r ← replica_of replica
+  cid ← identifier_of cid
+  Some (r, cid, key)
+view_words words = None
+
 -- `R R up` or `R R down`, of two replicas that differ
 abbrev pub link_words : List (List ℕ) → Option (ℕ × ℕ × Bool)
 link_words (replica ∷ second ∷ way ∷ []) = do

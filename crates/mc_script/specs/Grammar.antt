@@ -13,7 +13,7 @@ use Rattle.mc_script.specs.declared.command.Command.{Command}
 use Rattle.mc_script.specs.declared.command.Command.TheVariants.{Put, Del, Begin, BatchPut, BatchDel, Commit, Get, Has}
 use Rattle.mc_script.specs.declared.command.Command.TheVariants.{Query, Heads, Cast, Wire, Hear, Plant, Link, Step}
 use Rattle.mc_script.specs.declared.command.Command.TheVariants.{Work, Repair, Storm, State, Same, Stop, Open, StopAt}
-use Rattle.mc_script.specs.declared.command.Command.TheVariants.{StopAfter}
+use Rattle.mc_script.specs.declared.command.Command.TheVariants.{StopAfter, Export, CarIn, Import, Feed, GetAt}
 
 -- what a word behind a command's name says
 pub data Part : Type 0 where
@@ -50,6 +50,11 @@ form (Hear r message) = (codes "hear", Replica r ∷ Number message ∷ [])
 form (Plant r cid bytes) = (codes "plant", Replica r ∷ Identifier cid ∷ Value bytes ∷ [])
 form (Link r other up) = (codes "link", Replica r ∷ OtherThan r other ∷ Way up ∷ [])
 form (Step r) = (codes "step", Replica r ∷ [])
+form (Export r) = (codes "export", Replica r ∷ [])
+form (CarIn bytes) = (codes "carin", Value bytes ∷ [])
+form (Import r car) = (codes "import", Replica r ∷ Number car ∷ [])
+form (Feed r from count) = (codes "feed", Replica r ∷ Number from ∷ Number count ∷ [])
+form (GetAt r cid key) = (codes "getat", Replica r ∷ Identifier cid ∷ Key key ∷ [])
 form (Work r workers budget) = (codes "work", Replica r ∷ UpTo thread_max workers ∷ budget_parts budget)
 form (Repair r workers) = (codes "repair", Replica r ∷ UpTo thread_max workers ∷ [])
 form (Storm r writers writes) = (codes "storm", Replica r ∷ UpTo thread_max writers ∷ UpTo write_max writes ∷ [])

@@ -2,7 +2,7 @@
 ghost use Rattle.std.specs.Prelude.{◌≡◌, ◌≢◌, IfOk, IfErr, IfSome, IsErrOf, Some, None};
 ghost use Rattle.mc_script.specs.Arguments.{replica_words, key_words, value_words, range_words, hex_words};
 ghost use Rattle.mc_script.specs.Arguments.{message_words, offer_words, link_words, pair_words, up_to_words};
-ghost use Rattle.mc_script.specs.Arguments.{budget_words, work_words, storm_words};
+ghost use Rattle.mc_script.specs.Arguments.{budget_words, work_words, storm_words, span_words, view_words};
 ghost use Rattle.mc_script.specs.Limits.{IsUpTo, budget_max, thread_max, write_max};
 ghost use Rattle.mc_script.specs.Words.{texts_of};
 
@@ -111,6 +111,34 @@ pub fn read_offer_words(alloc: Global, words: &[&str]) -> Result<(u64, Cid, Byte
     let cid = read_cid(alloc, cid)?;
     let bytes = read_hex(alloc, hex)?;
     Ok((r, cid, bytes))
+}
+
+// `R FROM COUNT`
+pub fn read_span_words(words: &[&str]) -> Result<(u64, u64, u64), LineError>
+    ensures ok { IfOk result (λ said. span_words (texts_of words.now) ≡ Some said) }
+    ensures err { IfErr result (λ e. (e ≡ LineError.Bad) × (span_words (texts_of words.now) ≡ None)) }
+{
+    let [replica, from, count] = words else {
+        return Err(LineError::Bad);
+    };
+    let r = read_replica(replica)?;
+    let from = read_number(from)?;
+    let count = read_number(count)?;
+    Ok((r, from, count))
+}
+
+// `R CID KEY`
+pub fn read_view_words(alloc: Global, words: &[&str]) -> Result<(u64, Cid, Text), LineError>
+    ensures ok { IfOk result (λ said. view_words (texts_of words.now) ≡ Some said) }
+    ensures bad { IsErrOf result LineError.Bad → view_words (texts_of words.now) ≡ None }
+{
+    let [replica, cid, key] = words else {
+        return Err(LineError::Bad);
+    };
+    let r = read_replica(replica)?;
+    let cid = read_cid(alloc, cid)?;
+    let key = Text::from_text(alloc, key)?;
+    Ok((r, cid, key))
 }
 
 // `R R up` or `R R down`

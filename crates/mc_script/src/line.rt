@@ -4,14 +4,14 @@ ghost use Rattle.std.specs.List.{list_all};
 ghost use Rattle.mc_script.specs.Words.{words_of, texts_of, is_word};
 ghost use Rattle.mc_script.specs.Limits.{IsInLimits};
 ghost use Rattle.mc_script.specs.Line.{batch_by_name, command_by_name, command_of_words, has_no_reply, crowd_by_name};
-ghost use Rattle.mc_script.specs.Line.{line_of, line_of_text, message_by_name, run_by_name};
+ghost use Rattle.mc_script.specs.Line.{history_by_name, line_of, line_of_text, message_by_name, run_by_name};
 ghost use Rattle.mc_script.specs.declared.line.LineError.TheVariants.{Memory};
 
 use crate::Command;
 use crate::arguments::{
     THREAD_MAX, read_hex_words, read_key_words, read_link_words, read_message_words,
-    read_offer_words, read_pair_words, read_range_words, read_replica_words, read_storm_words,
-    read_up_to_words, read_value_words, read_work_words,
+    read_offer_words, read_pair_words, read_range_words, read_replica_words, read_span_words,
+    read_storm_words, read_up_to_words, read_value_words, read_view_words, read_work_words,
 };
 use smallvec::SmallVec;
 use std::alloc::{AllocError, Global};
@@ -210,6 +210,37 @@ fn read_of_messages(alloc: Global, name: &str, words: &[&str]) -> Result<Command
         "step" => {
             let r = read_replica_words(words)?;
             Ok(Command::Step { r })
+        }
+        _ => read_of_histories(alloc, name, words),
+    }
+}
+
+// The commands of CAR files, and of the values that were before.
+fn read_of_histories(alloc: Global, name: &str, words: &[&str]) -> Result<Command, LineError>
+    ensures ok { IfOk result (λ command. history_by_name name.now (texts_of words.now) ≡ Some command) }
+    ensures limits { IfOk result IsInLimits }
+    ensures bad { IsErrOf result LineError.Bad → history_by_name name.now (texts_of words.now) ≡ None }
+{
+    match name {
+        "export" => {
+            let r = read_replica_words(words)?;
+            Ok(Command::Export { r })
+        }
+        "carin" => {
+            let bytes = read_hex_words(alloc, words)?;
+            Ok(Command::CarIn { bytes })
+        }
+        "import" => {
+            let (r, car) = read_message_words(words)?;
+            Ok(Command::Import { r, car })
+        }
+        "feed" => {
+            let (r, from, count) = read_span_words(words)?;
+            Ok(Command::Feed { r, from, count })
+        }
+        "getat" => {
+            let (r, cid, key) = read_view_words(alloc, words)?;
+            Ok(Command::GetAt { r, cid, key })
         }
         _ => read_of_runs(name, words),
     }

@@ -1,8 +1,10 @@
 // The lines of a reply. A refusal leaves the bytes that are written to as they were.
 ghost use Rattle.std.specs.Prelude.{◌≡◌, ◌++◌, IfOk, OnOk, OnErr, string_bytes};
+ghost use Rattle.std.specs.Fmt.{decimal};
 ghost use Rattle.std.specs.List.{flat_map};
-ghost use Rattle.mc_script.specs.ReplyText.{clear_or_set, count_words, hex_text, joined, line, mark_words, number_line};
-ghost use Rattle.mc_script.specs.ReplyText.{pair_line, state_text, stormed_text, worked_text, yes_or_no};
+ghost use Rattle.mc_script.specs.ReplyText.{clear_or_set, count_words, counts_text, hex_text, joined, line, mark_words};
+ghost use Rattle.mc_script.specs.ReplyText.{number_line, pair_line, state_text, stormed_text, three_words, worked_text};
+ghost use Rattle.mc_script.specs.ReplyText.{yes_or_no};
 ghost use Rattle.mc_script.specs.Words.{text_of};
 
 use itoa::Buffer;
@@ -71,6 +73,36 @@ pub fn write_stormed(alloc: Global, made: u64, same: u64, out: &mut Bytes) -> Re
     ensures err { OnErr result (out.new ≡ out.old) }
 {
     let text = format!(in alloc; "stormed {made} {same}\n")?;
+    out.extend_from_slice(text.as_bytes())
+}
+
+// A word and two numbers.
+pub fn write_counts(
+    alloc: Global,
+    word: &str,
+    first: u64,
+    second: u64,
+    out: &mut Bytes,
+) -> Result<(), AllocError>
+    ensures ok { OnOk result (out.new ≡ out.old ++ line (counts_text word.now first second)) }
+    ensures err { OnErr result (out.new ≡ out.old) }
+{
+    let text = format!(in alloc; "{word} {first} {second}\n")?;
+    out.extend_from_slice(text.as_bytes())
+}
+
+// A position and two texts.
+pub fn write_event_line(
+    alloc: Global,
+    position: u64,
+    key: &str,
+    value: &str,
+    out: &mut Bytes,
+) -> Result<(), AllocError>
+    ensures ok { OnOk result (out.new ≡ out.old ++ line (three_words (decimal position) key.now value.now)) }
+    ensures err { OnErr result (out.new ≡ out.old) }
+{
+    let text = format!(in alloc; "{position} {key} {value}\n")?;
     out.extend_from_slice(text.as_bytes())
 }
 

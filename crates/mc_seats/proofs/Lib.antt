@@ -1,3 +1,5 @@
+pub mod ImportFacts
+pub mod AskFacts
 pub mod CallFacts
 pub mod GoesFacts
 pub mod HearFacts

@@ -18,6 +18,7 @@ use Rattle.mc_seats.specs.declared.world.World.{World}
 use Rattle.mc_seats.specs.Desked.{AreDesksOf, desks_each, is_desked, is_full_list}
 use Rattle.mc_seats.specs.Keepers.{armed_at, armed_in, counted_in, desks_in, is_calm, is_calm_desk, is_calm_keeper, keeper_of, own_in}
 use Rattle.mc_seats.specs.Openings.{AreFresh, AreLeft, AreOpened, AreRefused, HaveOwnDesks, IsBack, IsOpened, are_calm, owns_of, parts_of, starts_of}
+use Rattle.mc_seats.specs.Worlds.{no_bag}
 use Rattle.mc_seats.specs.Words.{place, state}
 use Rattle.mc_seats.specs.Starts.{AreStarts, IsFirst}
 use Rattle.mc_seats.proofs.StayFacts.{of_none}
@@ -241,7 +242,7 @@ counts_of_desked count desks is = let same : nat_eq count (length desks) ≡ tru
 
 -- what is said of a world that was made of parts
 module _ {K D : Type 0} {g : keeper.Ghosts K D} {h : counted.Ghosts K} {i : counted.Ghosts D} (k : Members K D) (desk_faults : D → ℕ) (all parts : List (Part K D)) (same : parts ≡ all) where
-  pub world_first : {E : Type 0} (result : Result (World K D g h i) E) → IfOk result (λ world. AreOpened k desk_faults parts world.seats.items world.desks.items) → IfOk result (λ world. (world.bag ≡ []) × (world.down.items ≡ [])) → IfOk result (λ world. IsFirst (starts_of k.told all) (state k desk_faults world))
+  pub world_first : {E : Type 0} (result : Result (World K D g h i) E) → IfOk result (λ world. AreOpened k desk_faults parts world.seats.items world.desks.items) → IfOk result (λ world. (world.bag ≡ no_bag) × (world.down.items ≡ [])) → IfOk result (λ world. IsFirst (starts_of k.told all) (state k desk_faults world))
   world_first (Ok world) made bare = (subst (λ (l : List (Part K D)). AreStarts (starts_of k.told l) (map (place k) world.seats.items)) same (opened_starts k desk_faults parts world.seats.items world.desks.items made), λ i. record { bag = bare.0 i; down = bare.1 i })
   world_first (Err refused) made bare = tt
 

@@ -37,11 +37,11 @@ use Rattle.mc_seats.specs.declared.seat.Seat.{Seat}
 use Rattle.mc_seats.specs.Asks.{arms, arms_by}
 use Rattle.mc_seats.specs.Calling.{Batches, Blocks, Calling, IsForm, Nothing, Reach, batch_of, is_calm_reach}
 use Rattle.mc_seats.specs.Calls.{BatchBy, CallLeaves, CallMakes, FormBy, batch_by, calls_by, form_by, is_call, only_runs, runs_by}
-use Rattle.mc_seats.specs.Doing.{At, Calls, Casts, Doing, Hears, Repairs, Storms, Tends, Works, doing}
+use Rattle.mc_seats.specs.Doing.{At, Calls, Casts, Doing, Exports, Hears, Imports, Repairs, Storms, Tends, Works, doing}
 use Rattle.mc_seats.specs.Effects.{AsksAt, MayRefuse, CallRefusal, CallRefused, CallsAt, DoneAt, Exact, Happens, Leaves, EventsOf, RefusedAt, answer_of, asks_by, call_front, call_refused, done_by, exact_by, front_at, happens_by, refused_by, seen_by}
 use Rattle.mc_seats.specs.Step.{FaultsOf, ShortAt, answers_fault, is_fault}
 use Rattle.mc_seats.specs.Words.{EarlyRow, KeeperGoes, PlaceRow, SeatActsIn, can_fail, place}
-use Rattle.mc_seats.specs.Worlds.{Place, WorldState, state_at}
+use Rattle.mc_seats.specs.Worlds.{Place, WorldState, no_bag, state_at}
 use Rattle.mc_seats.proofs.GoesFacts.{keeper_goes, keeper_still, no_fault}
 use Rattle.mc_seats.proofs.WorkedFacts.{faults_from, is_long, long_by}
 
@@ -54,6 +54,8 @@ abbrev pub acts_by : Doing → Bool
 acts_by (At r (Calls call)) = true
 acts_by (At r Casts) = true
 acts_by (At r (Hears message)) = true
+acts_by (At r Exports) = true
+acts_by (At r (Imports car)) = true
 acts_by d = false
 
 abbrev pub is_acting : Command → Bool
@@ -277,7 +279,7 @@ up_by true due seen = absurd (let f : (let o : Option CoreError = None in o) ≡
 up_by false due seen = refl
 
 no_world : WorldState
-no_world = record { places = []; around = record { bag = []; down = [] } }
+no_world = record { places = []; around = record { bag = no_bag; down = [] } }
 
 abbrev pub up : {K D : Type 0} {g : keeper.Ghosts K D} {h : counted.Ghosts K} {i : counted.Ghosts D} → Replica K D g h i → List Planted → Seat K D g h i
 up replica planted = record { held = Up replica; planted = planted }

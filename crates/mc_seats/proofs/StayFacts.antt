@@ -1,5 +1,5 @@
 -- Desks that stay at their places, and the plans that they have.
-use Rattle.std.proofs.Common.{◌≡◌, ◌≤◌, ◌+◌, ℕ, zero, suc, Bool, true, false, true≢false, List, [], ◌∷◌, ◌++◌, length, drop, Option, Some, None, Result, Ok, refl, sym, ap, subst, ◌∙◌, arith}
+use Rattle.std.proofs.Common.{◌≡◌, ◌+◌, ℕ, zero, suc, Bool, true, true≢false, List, [], ◌∷◌, ◌++◌, length, drop, Option, Some, None, Ok, refl, sym, ap, subst, ◌∙◌, arith}
 use Rattle.std.specs.Prelude.{⊤, is_some}
 use Rattle.std.specs.List.{AllZip}
 use Rattle.std.proofs.Math.Seq.{drop-nil}
@@ -7,7 +7,6 @@ use Rattle.mc_fetch.specs.Peers.{SamePlan}
 use Rattle.mc_keep.specs.Calls.{Members}
 use Rattle.mc_keep.specs.Frame.{ReadsAt}
 use Rattle.mc_keep.specs.Plan.{DeskAsPlanned, DeskSchedule, ReadsGo, Schedule, first_plan, with_desk}
-use Rattle.mc_keep.specs.declared.error.KeepError.{KeepError}
 use Rattle.mc_keep.specs.declared.fuse.Fuse.{Fuse}
 use Rattle.mc_model.specs.Kept.{Kept}
 use Rattle.mc_seats.specs.Desked.{AreDesksOf, HavePlans, HavePlansOf, reads_of}

@@ -1,9 +1,10 @@
--- What a command names: replicas and messages.
+-- What a command names: replicas, messages and files.
 use Rattle.std.specs.Prelude.{ℕ, ◌-◌, nat_lt, Bool, true, not, ◌&&◌, cond, List, [], ◌∷◌, ◌==◌, length, Option}
 use Rattle.std.specs.Prelude.{Some, None, slice_get, unwrap_or}
 use Rattle.std.specs.List.{list_any}
 use Rattle.mc_script.specs.declared.command.Command.{Command}
-use Rattle.mc_seats.specs.Doing.{Act, At, Calls, Compares, Doing, Hears, Links, Sends, Tends, doing}
+use Rattle.mc_seats.specs.declared.bag.Bag.{Bag}
+use Rattle.mc_seats.specs.Doing.{Act, At, Calls, Compares, Doing, Hears, Imports, Links, Loads, Sends, Tends, doing}
 use Rattle.mc_seats.specs.Worlds.{WorldState}
 
 -- whether a list of replicas has this number
@@ -33,22 +34,37 @@ fail_by d = []
 abbrev pub may_fail : Command → List ℕ
 may_fail command = fail_by (doing command)
 
--- whether the bag has a message with this number, counted from 1
-abbrev pub has_message : List (List ℕ) → ℕ → Bool
-has_message bag message = nat_lt 0 message && not (nat_lt (length bag) message)
+-- whether there is a text with this number, counted from 1
+abbrev pub has_text : List (List ℕ) → ℕ → Bool
+has_text texts number = nat_lt 0 number && not (nat_lt (length texts) number)
 
-abbrev pub message_at : List (List ℕ) → ℕ → List ℕ
-message_at bag message = unwrap_or (slice_get bag (message - 1)) []
+abbrev pub text_at : List (List ℕ) → ℕ → List ℕ
+text_at texts number = unwrap_or (slice_get texts (number - 1)) []
 
--- whether all that a command names is there, of so many replicas and of these messages
-abbrev pub among_by : ℕ → List (List ℕ) → Doing → Bool
+-- a message by its number, and a file
+abbrev pub has_message : Bag → ℕ → Bool
+has_message bag message = has_text bag.messages message
+
+abbrev pub message_at : Bag → ℕ → List ℕ
+message_at bag message = text_at bag.messages message
+
+abbrev pub has_car : Bag → ℕ → Bool
+has_car bag car = has_text bag.cars car
+
+abbrev pub car_at : Bag → ℕ → List ℕ
+car_at bag car = text_at bag.cars car
+
+-- whether all that a command names is there, of so many replicas and of these messages and files
+abbrev pub among_by : ℕ → Bag → Doing → Bool
 among_by count bag (At r (Hears message)) = nat_lt r count && has_message bag message
+among_by count bag (At r (Imports car)) = nat_lt r count && has_car bag car
 among_by count bag (At r act) = nat_lt r count
 among_by count bag (Sends bytes) = true
+among_by count bag (Loads bytes) = true
 among_by count bag (Links r other up) = nat_lt r count && nat_lt other count
 among_by count bag (Compares r other) = nat_lt r count && nat_lt other count
 
-abbrev pub is_among : ℕ → List (List ℕ) → Command → Bool
+abbrev pub is_among : ℕ → Bag → Command → Bool
 is_among count bag command = among_by count bag (doing command)
 
 abbrev pub is_there : WorldState → Command → Bool

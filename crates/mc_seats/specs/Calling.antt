@@ -94,6 +94,21 @@ reads {T} find Fits says = record {
   may = true;
 }
 
+-- one that only reads, and whose answer P ties to the processed blocks, in their order
+abbrev pub looks : {T : Type 0} → (List Block → T → Type 0) → (T → Reply) → Calling
+looks {T} P says = record {
+  front = λ batch. None;
+  Due = λ s. Is (read_refusal s);
+  outcome = Makes (λ s.
+      Answers (OnlyReads (λ kept found. P (processed kept) found) s) (λ found reply. reply ≡ says found));
+  Short = Stays;
+  reach = Nothing;
+  Answer = T;
+  Fits = λ found. ⊤;
+  says = says;
+  may = true;
+}
+
 -- one of the batch, which makes this of it and is answered by `ok`
 abbrev pub batches : (Option OpenBatch → Option CoreError) → (ReplicaState → Option CoreError)
     → (ReplicaState → List Event → Reply → Type 0) → (Option OpenBatch → Option OpenBatch → Type 0) → Bool → Calling

@@ -10,7 +10,7 @@ use Rattle.mc_core.specs.Exact.{DecidesAlone, IfRefused}
 use Rattle.mc_core.specs.Words.{TellsSame}
 use Rattle.mc_script.specs.declared.command.Command.{Command}
 use Rattle.mc_script.specs.declared.reply.Reply.{Reply}
-use Rattle.mc_seats.specs.Calling.{IsForm, SameBatch, batch_of, is_calm_reach, is_nothing}
+use Rattle.mc_seats.specs.Calling.{Finds, IsForm, Makes, Outcome, SameBatch, batch_of, is_calm_reach, is_nothing}
 use Rattle.mc_seats.specs.Doing.{At, Calls, Doing, doing}
 
 -- the commands that are one call of a replica which may have events
@@ -28,6 +28,18 @@ reads_by d = false
 
 abbrev pub is_read : Command → Bool
 is_read command = reads_by (doing command)
+
+-- and those whose answer is found in the processed blocks, whatever their order
+abbrev pub is_found : Outcome → Bool
+is_found (Finds find says) = true
+is_found (Makes M) = false
+
+abbrev pub finds_by : Doing → Bool
+finds_by (At r (Calls call)) = is_found call.outcome
+finds_by d = false
+
+abbrev pub is_find : Command → Bool
+is_find command = finds_by (doing command)
 
 -- what such a call makes of the batch, over every keeper
 abbrev pub batch_by : Doing → Option OpenBatch → Option OpenBatch → Type 0

@@ -1,5 +1,5 @@
 -- What each command is to a world: one row for each.
-use Rattle.std.specs.Prelude.{◌≡◌, ⊤, ℕ, Bool, true, false, List, Option, Some, None, is_some}
+use Rattle.std.specs.Prelude.{◌≡◌, ⊤, ℕ, Bool, true, false, List, map, Option, Some, None, is_some}
 use Rattle.mc_key.specs.Prefix.{is_under}
 use Rattle.mc_model.specs.Answers as answers
 use Rattle.mc_model.specs.Answers.{has_value}
@@ -13,33 +13,51 @@ use Rattle.mc_core.specs.Deletes.{DeleteRefusal, DeleteEvents, DeleteShort}
 use Rattle.mc_core.specs.Exact.{put_front}
 use Rattle.mc_core.specs.Puts.{put_refusal, PutEvents}
 use Rattle.mc_core.specs.Refusals.{Is, key_refusal, no_batch_refusal, open_batch_refusal}
+use Rattle.mc_feed.specs.declared.event.Event.{Event}
+use Rattle.mc_past.specs.Past.{IsFoundBelow, changes_between}
 use Rattle.mc_script.specs.declared.command.Command.{Command}
+use Rattle.mc_script.specs.declared.reply.Reply.{Reply}
 use Rattle.mc_script.specs.declared.command.Command.TheVariants.{Put, Del, Begin, BatchPut, BatchDel, Commit}
 use Rattle.mc_script.specs.declared.command.Command.TheVariants.{Get, Has as HasKey, Query, Heads as HeadsOf}
 use Rattle.mc_script.specs.declared.command.Command.TheVariants.{Cast, Wire, Hear, Plant, Link, Step, Work, Repair}
 use Rattle.mc_script.specs.declared.command.Command.TheVariants.{Storm, State, Same, Stop, Open, StopAt, StopAfter}
+use Rattle.mc_script.specs.declared.command.Command.TheVariants.{Export, CarIn, Import, Feed, GetAt}
 use Rattle.mc_script.specs.declared.reply.Reply.TheVariants.{Done, Priority, Deleted, Value, Has, Rows, Heads}
-use Rattle.mc_seats.specs.Calling.{AddsPut, Answers, AreRows, Calling, SameBatch, batch_priority, batches, reads, writes}
+use Rattle.mc_script.specs.declared.reply.Reply.TheVariants.{Events, RefusedView}
+use Rattle.mc_seats.specs.Calling.{AddsPut, Answers, AreRows, Calling, SameBatch, batch_priority, batches, looks}
+use Rattle.mc_seats.specs.Calling.{reads, writes}
 use Rattle.mc_seats.specs.Tending.{Tending, counts, fuses, opens, plants, stops}
 
--- what is done at one replica: a call of it, what the world does at its place, a message that is made or heard, a job,
--- a work over some workers and a budget, a repair, or a storm of some writers
+-- what is done at one replica: a call of it, what the world does at its place, a message that is made or heard, a file
+-- that is made or taken in, a job, a work over some workers and a budget, a repair, or a storm of some writers
 pub data Act : Type 1 where
   Calls : Calling → Act
   Tends : Tending → Act
   Casts : Act
   Hears : ℕ → Act
+  Exports : Act
+  Imports : ℕ → Act
   Steps : Act
   Works : Option ℕ → Act
   Repairs : Act
   Storms : ℕ → ℕ → Act
 
--- what is done in a world: at one replica, a message sent, a link set, or two replicas compared
+-- what is done in a world: at one replica, a message sent, a file given, a link set, or two replicas compared
 pub data Doing : Type 1 where
   At : ℕ → Act → Doing
   Sends : List ℕ → Doing
+  Loads : List ℕ → Doing
   Links : ℕ → ℕ → Bool → Doing
   Compares : ℕ → ℕ → Doing
+
+-- a change of a value as it is answered
+abbrev pub change_of : Event → ℕ × List ℕ × Option (List ℕ)
+change_of event = (event.position, event.key, event.value)
+
+-- what is answered for a value below a block, and where the block isn't processed
+abbrev pub below_reply : Option (Option (List ℕ)) → Reply
+below_reply None = RefusedView
+below_reply (Some value) = Value value
 
 abbrev pub doing : Command → Doing
 doing (Put r key bytes) = At r (Calls (writes (λ batch. put_front key bytes) (λ s. Is (put_refusal s key bytes))
@@ -71,6 +89,12 @@ doing (HeadsOf r) = At r (Calls (reads heads (λ rows. ⊤) (λ rows. Heads rows
 doing (Cast r) = At r Casts
 doing (Wire bytes) = Sends bytes
 doing (Hear r message) = At r (Hears message)
+doing (Export r) = At r Exports
+doing (CarIn bytes) = Loads bytes
+doing (Import r car) = At r (Imports car)
+doing (Feed r from count) = At r (Calls (looks (λ blocks found. found ≡ changes_between from count blocks)
+    (λ found. Events (map change_of found))))
+doing (GetAt r cid key) = At r (Calls (looks (IsFoundBelow cid key) below_reply))
 doing (Plant r cid bytes) = At r (Tends (plants cid bytes))
 doing (Link r other up) = Links r other up
 doing (Step r) = At r Steps

@@ -1,5 +1,5 @@
 -- What a command does at one replica: when it is refused, which events it makes, and what is exact over every keeper.
-use Rattle.std.specs.Prelude.{◌≡◌, ◌≢◌, ◌⊎◌, ℕ, true, List, [], Option, Some, None, Result, Ok, Err, IfSome}
+use Rattle.std.specs.Prelude.{◌≡◌, ◌≢◌, ◌⊎◌, ℕ, true, List, [], Option, Some, None, Result, Ok, Err, IfErr, IfSome}
 use Rattle.mc_base.specs.Told.{Told}
 use Rattle.mc_base.specs.declared.cid.Cid.{Cid}
 use Rattle.mc_key.specs.KeyRule.{fault_number}
@@ -15,21 +15,24 @@ use Rattle.mc_core.specs.Exact.{DecidesAlone, seen_of, stop_front}
 use Rattle.mc_core.specs.Hears.{HearEvents, IsQueued, NamesSome, cast_refusal, hear_refusal}
 use Rattle.mc_core.specs.Jobs.{NextShort}
 use Rattle.mc_core.specs.Reads.{read_refusal}
+use Rattle.mc_files.specs.Files.{ImportEvents, ImportSays, ImportShort}
+use Rattle.mc_files.specs.declared.taking.Imported.{Imported}
 use Rattle.mc_core.specs.Refusals.{ByKind, Is, kind_of}
 use Rattle.mc_storm.specs.Storms.{StormLeads, StormPauses}
 use Rattle.mc_storm.specs.declared.outcome.Stormed.{Stormed}
 use Rattle.mc_script.specs.declared.command.Command.{Command}
 use Rattle.mc_script.specs.declared.reply.Reply.{Reply}
-use Rattle.mc_script.specs.declared.reply.Reply.TheVariants.{Queued}
+use Rattle.mc_script.specs.declared.reply.Reply.TheVariants.{Imported as ImportedOf, Queued, RefusedCar}
 use Rattle.mc_script.specs.declared.reply.Reply.TheVariants.{Idle, Processed, Missing, Bad, Stopped, FaultKeeper}
 use Rattle.mc_script.specs.declared.reply.Reply.TheVariants.{RefusedKey, RefusedValue, RefusedSize, RefusedPriority}
 use Rattle.mc_script.specs.declared.reply.Reply.TheVariants.{RefusedClash, RefusedBatch, RefusedCast}
 use Rattle.mc_seats.specs.declared.error.ActError.{ActError}
 use Rattle.mc_seats.specs.declared.error.ActError.TheVariants.{Memory}
-use Rattle.mc_seats.specs.Asks.{message_at}
+use Rattle.mc_seats.specs.Asks.{car_at, message_at}
 use Rattle.mc_seats.specs.Calling.{Batches, Blocks, Calling, Nothing, Reach, outcome_of}
 use Rattle.mc_seats.specs.Calls.{runs_by}
-use Rattle.mc_seats.specs.Doing.{At, Calls, Casts, Doing, Hears, Repairs, Steps, Storms, Tends, Works, doing}
+use Rattle.mc_seats.specs.Doing.{At, Calls, Casts, Doing, Exports, Hears, Imports, Repairs, Steps, Storms, Tends}
+use Rattle.mc_seats.specs.Doing.{Works, doing}
 use Rattle.mc_seats.specs.Fetching.{StepEvents}
 use Rattle.mc_seats.specs.Storming.{stormed_reply}
 use Rattle.mc_seats.specs.Tending.{rule_reply}
@@ -75,21 +78,30 @@ abbrev pub CallRefusal : WorldState → ReplicaState → Command → Option Core
 CallRefusal w s command = due_by w s (doing command)
 
 -- what a want of memory leaves: the replica as it was; of a delete, some first blocks may be made; the block of a step
--- may have come to the back of those that wait; and of a storm, some first calls of each writer may be made
+-- may have come to the back of those that wait; of an import, the blocks of a file may be stored, and no root heard;
+-- and of a storm, some first calls of each writer may be made
 abbrev pub leaves_by : Doing → ReplicaState → ReplicaState → Type 0
 leaves_by (At r (Calls call)) s left = call.Short s left
 leaves_by (At r Steps) s left = Stays s left ⊎ NextShort s left
+leaves_by (At r (Imports car)) s left = (text : List ℕ) × ImportShort s text left
 leaves_by (At r (Storms writers writes)) s left = Stays s left ⊎ StormPauses writers writes s left
 leaves_by d s left = Stays s left
 
 abbrev pub Leaves : Command → ReplicaState → ReplicaState → Type 0
 Leaves command s left = leaves_by (doing command) s left
 
+-- what is answered for an import
+abbrev pub import_reply : Result Imported ℕ → Reply
+import_reply (Ok imported) = ImportedOf imported.stored imported.queued
+import_reply (Err number) = RefusedCar number
+
 -- the events of a command that is not refused, and its reply
 abbrev pub events_by : WorldState → ReplicaState → Doing → List Event → Reply → Type 0
 events_by w s (At r (Calls call)) = outcome_of call.outcome s
 events_by w s (At r (Hears message)) =
     Answers (HearEvents s (message_at w.around.bag message)) (λ heard reply. reply ≡ Queued heard.queued)
+events_by w s (At r (Imports car)) =
+    Answers (ImportEvents s (car_at w.around.bag car)) (λ said reply. reply ≡ import_reply said)
 events_by w s (At r Steps) = StepEvents (peers_of w r) s
 events_by w s d = λ events reply. events ≡ []
 
@@ -134,6 +146,18 @@ abbrev pub HearsSome : List ℕ → Option Running → Option Running → Reply 
 HearsSome text (Some old) (Some new) reply = HearsNamed text old.queue new.queue reply
 HearsSome text old new reply = ⊥
 
+-- What an import leaves of a replica that runs on: a file that is refused changes nothing, and of another some of its
+-- roots are heard, and those that came to waiting are counted.
+abbrev pub ImportsRun : List ℕ → Result Imported ℕ → Option Running → Option Running → Type 0
+ImportsRun text said (Some old) (Some new) = ImportSays text (Ok said) old.queue new.queue
+ImportsRun text said old new = ⊥
+
+pub record ImportsSome (text : List ℕ) (p q : Place) (reply : Reply) : Type 0 where
+  pub said : Result Imported ℕ
+  pub says : reply ≡ import_reply said
+  pub runs : ImportsRun text said p.run q.run
+  pub refused : IfErr said (λ number. q ≡ p)
+
 -- a step answers `idle` exactly where no block waits, and else `processed`, `missing` or `bad`
 abbrev pub IsIdle : Option Running → Reply → Type 0
 IsIdle run Idle = (queue_in run).waiting ≡ []
@@ -153,6 +177,8 @@ abbrev pub exact_by : WorldState → Doing → Place → Place → Reply → Typ
 exact_by w (At r (Calls call)) p q reply = CallsAt call.reach call p q reply
 exact_by w (At r (Hears message)) p q reply =
     RunsOn SameBatch p q × TellsSame p q × HearsSome (message_at w.around.bag message) p.run q.run reply
+exact_by w (At r (Imports car)) p q reply =
+    RunsOn SameBatch p q × ImportsSome (car_at w.around.bag car) p q reply
 exact_by w (At r Steps) p q reply = RunsOn SameBatch p q × IsIdle p.run reply
 exact_by w d p q reply = ⊥
 
@@ -172,6 +198,7 @@ Happens w command p q reply = happens_by w (doing command) p q reply
 abbrev pub done_by : WorldState → Doing → Place → Place → Reply → Type 0
 done_by w (At r (Tends tending)) p q reply = tending.Does p q reply
 done_by w (At r Casts) p q reply = q ≡ p
+done_by w (At r Exports) p q reply = q ≡ p
 done_by w (At r (Works budget)) p q reply = WorkDone (peers_of w r) (budget_of budget) p q reply
 done_by w (At r Repairs) p q reply = RepairDone (peers_of w r) p q reply
 done_by w (At r (Storms writers writes)) p q reply = StormDone writers writes p q reply

@@ -1,5 +1,5 @@
 -- What is held at a seat, and what its calls answer.
-use Rattle.std.specs.Prelude.{◌≡◌, ◌⊎◌, ℕ, true, false, List, Option, Some, None, Result, Ok, Err, unwrap_or}
+use Rattle.std.specs.Prelude.{◌≡◌, ◌⊎◌, true, false, Option, Some, None, Result, Ok, Err, unwrap_or}
 use Rattle.mc_base.specs.declared.counted.Counted as counted
 use Rattle.mc_keep.specs.Calls.{Members, Reads}
 use Rattle.mc_keep.specs.declared.keeper.Keeper as keeper
@@ -30,10 +30,10 @@ SaysState content (Some run) reply = HasNumbers content run reply
 abbrev pub stop_answer : Option Running → Reply
 stop_answer run = unwrap_or (stop_reply run) Done
 
--- the answer to a cast that makes no message
-abbrev pub cast_answer : Result Reply ActError → Result (Result (List ℕ) Reply) ActError
-cast_answer (Ok reply) = Ok (Err reply)
-cast_answer (Err error) = Err error
+-- the answer in place of what was asked for
+abbrev pub early_answer : {T : Type 0} → Result Reply ActError → Result (Result T Reply) ActError
+early_answer (Ok reply) = Ok (Err reply)
+early_answer (Err error) = Err error
 
 module _ {K D : Type 0} {g : keeper.Ghosts K D} {h : counted.Ghosts K} {i : counted.Ghosts D} (k : Members K D) where
   -- a replica was opened over a keeper, which was only read

@@ -19,3 +19,4 @@ pub mod Words
 pub mod StepParts
 pub mod Starts
 pub mod Openings
+pub mod Pasts

@@ -1,5 +1,5 @@
 -- What a command may do to a world, and what is answered: one relation for all commands.
-use Rattle.std.specs.Prelude.{◌≡◌, ◌≢◌, ◌⊎◌, ◌↔◌, ⊤, ℕ, ◌+◌, Bool, true, false, List, [], ◌∷◌, ◌++◌, filter, not}
+use Rattle.std.specs.Prelude.{◌≡◌, ◌≢◌, ◌<◌, ◌⊎◌, ◌↔◌, ⊤, ℕ, ◌+◌, Bool, true, false, List, [], ◌∷◌, ◌++◌, filter, not}
 use Rattle.std.specs.Prelude.{if◌then◌else◌, length, Option, Some, None, Result, Ok, Err, IfSome, slice_get}
 use Rattle.std.specs.List.{list_any}
 use Rattle.std.specs.Option.{option_and_then, option_or}
@@ -16,15 +16,18 @@ use Rattle.mc_core.specs.Jobs.{first_waiting, tried_first}
 use Rattle.mc_drain.specs.Repairs.{RepairLeads}
 use Rattle.mc_drain.specs.Works.{WorkLeads}
 use Rattle.mc_drain.specs.declared.working.WorkError.TheVariants as broke
+use Rattle.mc_files.specs.Files.{IsExport}
 use Rattle.mc_storm.specs.Storms.{StormLeads}
 use Rattle.mc_storm.specs.declared.outcome.StormError.TheVariants as storm
 use Rattle.mc_script.specs.declared.command.Command.{Command}
 use Rattle.mc_script.specs.declared.reply.Reply.{Reply}
-use Rattle.mc_script.specs.declared.reply.Reply.TheVariants.{Done, Message, Same, FaultKeeper, FaultPeer}
+use Rattle.mc_script.specs.declared.reply.Reply.TheVariants.{Car, Done, Message, Same, RefusedRoots}
+use Rattle.mc_script.specs.declared.reply.Reply.TheVariants.{FaultKeeper, FaultPeer}
 use Rattle.mc_seats.specs.declared.entry.LineEntry.{LineEntry}
 use Rattle.mc_seats.specs.declared.links.Link.{Link}
 use Rattle.mc_seats.specs.Asks.{focus, is_named, is_there, may_fail}
-use Rattle.mc_seats.specs.Doing.{At, Casts, Compares, Doing, Links, Repairs, Sends, Steps, Storms, Works, doing}
+use Rattle.mc_seats.specs.Doing.{At, Casts, Compares, Doing, Exports, Links, Loads, Repairs, Sends, Steps}
+use Rattle.mc_seats.specs.Doing.{Storms, Works, doing}
 use Rattle.mc_seats.specs.Effects.{DoneAt, RunOn, SameBatch, asks_by, events_by, leaves_by, refused_by, stop_reply}
 use Rattle.mc_seats.specs.Works.{RepairsTo, WorksTo, budget_of, finds_of, repair_budget}
 use Rattle.mc_seats.specs.Worlds.{Around, AtPlace, IfRuns, Moved, MovedAt, Place, WorldState, is_marked, joins}
@@ -75,14 +78,37 @@ with_link down r other false =
 pub record IsSent (P : List ℕ → Type 0) (old : Around) (reply : Reply) (new : Around) : Type 0 where
   pub text : List ℕ
   pub is_text : P text
-  pub numbered : reply ≡ Message (length old.bag + 1)
-  pub sent : new ≡ record old { bag = old.bag ++ text ∷ [] }
+  pub numbered : reply ≡ Message (length old.bag.messages + 1)
+  pub sent : new ≡ record old { bag = record old.bag { messages = old.bag.messages ++ text ∷ [] } }
+
+-- one file more, its number and its length
+pub record IsFiled (P : List ℕ → Type 0) (old : Around) (reply : Reply) (new : Around) : Type 0 where
+  pub text : List ℕ
+  pub is_text : P text
+  pub numbered : reply ≡ Car (length old.bag.cars + 1) (length text)
+  pub filed : new ≡ record old { bag = record old.bag { cars = old.bag.cars ++ text ∷ [] } }
+
+-- or none, since the heads are more than a file may have as its roots
+pub record HasManyRoots (P : ℕ → Type 0) (old : Around) (reply : Reply) (new : Around) : Type 0 where
+  pub number : ℕ
+  pub is_number : P number
+  pub many : 255 < number
+  pub says : reply ≡ RefusedRoots number
+  pub same : new ≡ old
+
+-- what a replica exports, where its content is told
+abbrev pub ExportsAt : WorldState → ℕ → Result (List ℕ) ℕ → Type 0
+ExportsAt w r said = AtPlace w r (λ p. IfSome (state_at p) (λ s. IsExport (kept_of s.state.durable) said))
 
 -- what is around after a command that was not refused, and what it answers by that
 abbrev pub sets_by : WorldState → Doing → Reply → Around → Type 0
 sets_by w (At r Casts) reply around =
     IsSent (λ text. AtPlace w r (λ p. IfSome (state_at p) (λ s. text ≡ written_cast (kept_of s.state.durable)))) w.around
     reply around
+sets_by w (At r Exports) reply around =
+    IsFiled (λ text. ExportsAt w r (Ok text)) w.around reply around
+    ⊎ HasManyRoots (λ number. ExportsAt w r (Err number)) w.around reply around
+sets_by w (Loads bytes) reply around = IsFiled (λ text. text ≡ bytes) w.around reply around
 sets_by w (Sends bytes) reply around = IsSent (λ text. text ≡ bytes) w.around reply around
 sets_by w (Links r other up) reply around =
     (reply ≡ Done) × (around ≡ record w.around { down = with_link w.around.down r other up })

@@ -1,14 +1,16 @@
 -- The words of what is done at a replica and in a world, at a bound `K: Keeper`.
-use Rattle.std.specs.Prelude.{◌≡◌, ◌⊎◌, ⊤, ℕ, Bool, true, false, cond, List, [], ◌∷◌, None, Some, Result, Ok, Err, IfOk}
-use Rattle.std.specs.Prelude.{IfErr, IfSome, IsErrOf}
+use Rattle.std.specs.Prelude.{◌≡◌, ◌<◌, ◌⊎◌, ⊤, ℕ, Bool, true, false, cond, List, [], ◌∷◌, None, Some, Result, Ok}
+use Rattle.std.specs.Prelude.{Err, IfOk, IfErr, IfSome, IsErrOf}
 use Rattle.mc_base.specs.Causes.{Rose}
 use Rattle.mc_base.specs.declared.counted.Counted as counted
 use Rattle.mc_keep.specs.Calls.{Members}
 use Rattle.mc_keep.specs.declared.keeper.Keeper as keeper
 use Rattle.mc_core.specs.Hears.{written_cast}
+use Rattle.mc_files.specs.Files.{IsExport}
+use Rattle.mc_model.specs.Kept.{Kept}
 use Rattle.mc_model.specs.State.{kept_of}
 use Rattle.mc_script.specs.declared.command.Command.{Command}
-use Rattle.mc_script.specs.declared.command.Command.TheVariants.{Cast, Hear}
+use Rattle.mc_script.specs.declared.command.Command.TheVariants.{Cast, Export, Hear, Import}
 use Rattle.mc_script.specs.declared.reply.Reply.{Reply}
 use Rattle.mc_script.specs.declared.reply.Reply.TheVariants.{FaultKeeper}
 use Rattle.mc_seats.specs.declared.error.ActError.{ActError}
@@ -16,7 +18,7 @@ use Rattle.mc_seats.specs.declared.error.ActError.TheVariants.{BadLine, Memory}
 use Rattle.mc_seats.specs.declared.entry.LineEntry.{LineEntry}
 use Rattle.mc_seats.specs.declared.seat.Seat.{Seat}
 use Rattle.mc_seats.specs.declared.world.World.{World}
-use Rattle.mc_seats.specs.Asks.{arms, is_there, may_fail, message_at}
+use Rattle.mc_seats.specs.Asks.{arms, car_at, is_there, may_fail, message_at}
 use Rattle.mc_seats.specs.Keepers.{IsPaid, Tally, WorldGoes, armed_at, armed_in, counted_in, desk_count, is_calm}
 use Rattle.mc_seats.specs.Keepers.{is_calm_keeper, keeper_of}
 use Rattle.mc_seats.specs.Effects.{AsksAt, DoneAt, RefusedAt}
@@ -24,11 +26,11 @@ use Rattle.mc_seats.specs.Record.{NamesNone, NamesRisen, Recorded, RoseIn}
 use Rattle.mc_seats.specs.Step.{CutShort, LeavesStep, Row, ShortAt, Step, answers_fault, is_fault}
 use Rattle.mc_seats.specs.Worlds.{Place, WorldState, is_down, place_of, state_at, world_state}
 
--- whether a cast is answered by a fault
-abbrev pub casts_fault : Result (Result (List ℕ) Reply) ActError → Bool
-casts_fault (Ok (Ok text)) = false
-casts_fault (Ok (Err reply)) = is_fault reply
-casts_fault (Err error) = false
+-- whether a fault is answered in place of what was asked for
+abbrev pub asked_fault : {T : Type 0} → Result (Result T Reply) ActError → Bool
+asked_fault (Ok (Ok value)) = false
+asked_fault (Ok (Err reply)) = is_fault reply
+asked_fault (Err error) = false
 
 -- whether a keeper may fail in a command
 abbrev pub has_some : List ℕ → Bool
@@ -50,11 +52,20 @@ EarlyRow w command named own p q reply =
     (RefusedAt w p command (Some reply) × (q ≡ p))
     ⊎ ((can_fail command ≡ true) × named × AsksAt w command p × (reply ≡ FaultKeeper) × CutShort w command own p q)
 
--- a replica that runs says its heads
-pub record SaysHeads (text : List ℕ) (p q : Place) : Type 0 where
+-- A replica that runs says this of what it keeps: P ties them where that is told, and over every keeper it fits.
+pub record Says {T : Type 0} (Fits : T → Type 0) (P : Kept → T → Type 0) (value : T) (p q : Place) : Type 0 where
   pub up : is_down p.run ≡ false
   pub same : q ≡ p
-  pub says : IfSome (state_at p) (λ s. text ≡ written_cast (kept_of s.state.durable))
+  pub fits : Fits value
+  pub says : IfSome (state_at p) (λ s. P (kept_of s.state.durable) value)
+
+-- a message of the heads
+abbrev pub IsCastOf : Kept → List ℕ → Type 0
+IsCastOf kept text = text ≡ written_cast kept
+
+-- a number of heads in place of a file is above those that a file may have
+abbrev pub FitsExport : Result (List ℕ) ℕ → Type 0
+FitsExport said = IfErr said (λ number. 255 < number)
 
 module _ {K D : Type 0} (k : Members K D) where
   -- what every call leaves of a keeper: each fault that is answered is paid, and what is calm stays calm
@@ -93,13 +104,27 @@ module _ {K D : Type 0} {g : keeper.Ghosts K D} {h : counted.Ghosts K} {i : coun
   HearActs text result old new = (r message : ℕ) →
       SeatActsIn (λ w. message_at w.around.bag message ≡ text) (Hear r message) result old new
 
-  -- A message of the heads is made, or this is answered in its place.
-  pub record CastActs (result : Result (Result (List ℕ) Reply) ActError) (old new : Seat K D g h i) : Type 0 where
-    pub sent : IfOk result (λ said. IfOk said (λ text. SaysHeads text (place old) (place new)))
-    pub early : (w : WorldState) (r : ℕ) → IfOk result (λ said. IfErr said (SeatEarly w (Cast r) old new))
-    pub short : IsErrOf result Memory → (r : ℕ) → ShortAt (Cast r) (place old) (place new)
+  -- a file is taken in, in a world that has it under any number
+  abbrev pub ImportActs : List ℕ → Result Reply ActError → Seat K D g h i → Seat K D g h i → Type 0
+  ImportActs text result old new =
+      (r car : ℕ) → SeatActsIn (λ w. car_at w.around.bag car ≡ text) (Import r car) result old new
+
+  -- A replica says what is asked for by this command, or this is answered in its place.
+  pub record AsksActs {T : Type 0} (Fits : T → Type 0) (P : Kept → T → Type 0) (asks : ℕ → Command)
+      (result : Result (Result T Reply) ActError) (old new : Seat K D g h i) : Type 0 where
+    pub sent : IfOk result (λ said. IfOk said (λ value. Says Fits P value (place old) (place new)))
+    pub early : (w : WorldState) (r : ℕ) → IfOk result (λ said. IfErr said (SeatEarly w (asks r) old new))
+    pub short : IsErrOf result Memory → (r : ℕ) → ShortAt (asks r) (place old) (place new)
     pub not_bad : IsErrOf result BadLine → ⊥
-    pub goes : KeeperGoes k (cond (casts_fault result) 1 0) 0 (keeper_of old) (keeper_of new)
+    pub goes : KeeperGoes k (cond (asked_fault result) 1 0) 0 (keeper_of old) (keeper_of new)
+
+  -- a message of the heads
+  abbrev pub CastActs : Result (Result (List ℕ) Reply) ActError → Seat K D g h i → Seat K D g h i → Type 0
+  CastActs = AsksActs (λ text. ⊤) IsCastOf Cast
+
+  -- a file of what is processed, or the number of heads where these are too many
+  abbrev pub ExportActs : Result (Result (Result (List ℕ) ℕ) Reply) ActError → Seat K D g h i → Seat K D g h i → Type 0
+  ExportActs = AsksActs FitsExport IsExport Export
 
   module _ (desk_faults : D → ℕ) where
     abbrev pub state : World K D g h i → WorldState

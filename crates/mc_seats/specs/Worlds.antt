@@ -11,6 +11,7 @@ use Rattle.mc_fetch.specs.declared.plants.Planted.{Planted}
 use Rattle.mc_core.specs.Counted.{run_of}
 use Rattle.mc_core.specs.Events.{ReplicaState, state_of}
 use Rattle.mc_core.specs.Replica.{running_of}
+use Rattle.mc_seats.specs.declared.bag.Bag.{Bag}
 use Rattle.mc_seats.specs.declared.links.Link.{Link}
 use Rattle.mc_seats.specs.declared.seat.Held.{Held}
 use Rattle.mc_seats.specs.declared.seat.Held.TheVariants.{Up, Down}
@@ -43,9 +44,13 @@ abbrev pub IfRuns : Option Running → (Running → Type 0) → Type 0
 IfRuns None P = ⊥
 IfRuns (Some run) P = P run
 
--- what is around the replicas: all messages ever sent, and the links that are down
+-- no message and no file
+abbrev pub no_bag : Bag
+no_bag = record { messages = []; cars = [] }
+
+-- what is around the replicas: all messages ever sent and all files, and the links that are down
 pub record Around : Type 0 where
-  pub bag : List (List ℕ)
+  pub bag : Bag
   pub down : List Link
 
 -- the replicas in order of name, and what is around them

@@ -3,13 +3,14 @@ ghost use Rattle.std.specs.Prelude.{◌≡◌, None, true, Ok, IfSome};
 ghost use Rattle.mc_core.specs.Counted.{run_of};
 ghost use Rattle.mc_core.specs.Replica.{running_of};
 ghost use Rattle.mc_model.specs.State.{HasSoundMark};
+ghost use Rattle.mc_past.specs.Pasts.{PastFits};
 ghost use Rattle.mc_script.specs.declared.command.Command.TheVariants.{Plant, State as StateOf};
 ghost use Rattle.mc_script.specs.declared.command.Command.TheVariants.{Stop as StopOf, Open as OpenOf};
 ghost use Rattle.mc_seats.specs.Calls.{is_call};
-ghost use Rattle.mc_seats.specs.Holds.{Opening, SaysState, cast_answer, run_in, stop_answer};
+ghost use Rattle.mc_seats.specs.Holds.{Opening, SaysState, early_answer, run_in, stop_answer};
 ghost use Rattle.mc_seats.specs.Keepers.{keeper_in};
 ghost use Rattle.mc_seats.specs.Effects.{answer_of};
-ghost use Rattle.mc_seats.specs.Words.{CastActs, HearActs, SeatActs};
+ghost use Rattle.mc_seats.specs.Words.{CastActs, HearActs, SeatActs, place};
 ghost use Rattle.mc_seats.specs.Worlds.{is_up};
 
 use crate::ActError;
@@ -19,6 +20,7 @@ use mc_base::{Bytes, Cid};
 use mc_core::{CoreError, OpenError, Replica};
 use mc_fetch::Planted;
 use mc_keep::Keeper;
+use mc_past::Past;
 use mc_script::{Command, Reply};
 use std::alloc::Global;
 
@@ -57,17 +59,20 @@ fn numbers_of<K: Keeper>(replica: &Replica<K>) -> Reply
     }
 }
 
-/// A call of the replica in a seat.
+/// A call of the replica in a seat, of whose past `past` is kept.
 pub fn call_at<K: Keeper>(
     seat: &mut Seat<K>,
+    past: &mut Past,
     alloc: Global,
     command: &Command,
 ) -> Result<Reply, ActError>
     requires call { is_call command.now ≡ true }
+    requires fits { PastFits (place K.Keeper seat.old).content past.old }
     ensures acts { SeatActs K.Keeper command.now result seat.old seat.new }
+    ensures fits { PastFits (place K.Keeper seat.old).content past.new }
 {
     match &mut seat.held {
-        Held::Up(replica) => match call(replica, alloc, command) {
+        Held::Up(replica) => match call(replica, past, alloc, command) {
             Ok(reply) => Ok(reply),
             Err(error) => answer(error),
         },
@@ -85,15 +90,15 @@ pub fn cast_at<K: Keeper>(
     match &mut seat.held {
         Held::Up(replica) => match replica.cast(alloc) {
             Ok(bytes) => Ok(Ok(bytes)),
-            Err(error) => cast_answer(error),
+            Err(error) => early_answer(error),
         },
         Held::Down(_) => Ok(Err(Reply::Stopped)),
     }
 }
 
-// The reply in place of a message.
-fn cast_answer(error: CoreError) -> Result<Result<Bytes, Reply>, ActError>
-    ensures { result ≡ cast_answer (answer_of error) }
+// The reply in place of what was asked for.
+pub(crate) fn early_answer<T>(error: CoreError) -> Result<Result<T, Reply>, ActError>
+    ensures { result ≡ early_answer (answer_of error) }
 {
     match answer(error) {
         Ok(reply) => Ok(Err(reply)),

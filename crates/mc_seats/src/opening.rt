@@ -13,12 +13,13 @@ ghost use Rattle.mc_seats.specs.Openings.{
 };
 ghost use Rattle.mc_seats.specs.Words.{state};
 ghost use Rattle.mc_seats.specs.Starts.{IsFirst};
+ghost use Rattle.mc_seats.specs.Worlds.{no_bag};
 
 use crate::parting::{NoPart, Opened, open_part};
 use crate::seat::{Held, Seat, wake};
 use crate::seats::{put_first, take_first};
 use crate::sums::push_counts;
-use crate::{NoWorld, Part, World};
+use crate::{Bag, NoWorld, Part, World};
 use mc_base::List;
 use mc_core::OpenCause;
 use mc_keep::Keeper;
@@ -111,7 +112,7 @@ fn open_all<K: Keeper>(
     requires counts { (rooms.counts.items ≡ []) × (vec_len parts ≤ vec_capacity rooms.counts) }
     ensures opened { IfOk result (λ world.
         AreOpened K.Keeper K.Desk.faults parts.items world.seats.items world.desks.items) }
-    ensures around { IfOk result (λ world. (world.bag ≡ []) × (world.down.items ≡ [])) }
+    ensures around { IfOk result (λ world. (world.bag ≡ no_bag) × (world.down.items ≡ [])) }
     ensures entries { IfOk result (λ world. world.entries ≡ []) }
     ensures refused { IfErr result (λ refused. AreRefused K.Keeper refused.cause parts.items refused.parts) }
 {
@@ -144,7 +145,10 @@ fn open_all<K: Keeper>(
         seats,
         desks,
         desk_counts: counts,
-        bag: List::new(alloc),
+        bag: Bag {
+            messages: List::new(alloc),
+            cars: List::new(alloc),
+        },
         down: Vec::new(alloc),
         room: parts,
         entries: List::new(alloc),

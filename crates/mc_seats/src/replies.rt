@@ -5,8 +5,10 @@ ghost use Rattle.mc_query.specs.Places.{pair_of};
 ghost use Rattle.mc_core.specs.Exact.{front_of, stop_front};
 ghost use Rattle.mc_core.specs.Refusals.{is_fault};
 ghost use Rattle.mc_core.specs.Words.{Acts, Continues};
+ghost use Rattle.mc_past.specs.Pasts.{PastFits};
 ghost use Rattle.mc_seats.specs.declared.error.ActError.{ActError};
 ghost use Rattle.mc_seats.specs.Calls.{is_call, is_read, CallLeaves, CallMakes, RefusesAlone};
+ghost use Rattle.mc_seats.specs.Doing.{below_reply, change_of};
 ghost use Rattle.mc_seats.specs.Effects.{CallRefusal, Leaves, EventsOf, answer_of, batch_priority, call_front};
 ghost use Rattle.mc_seats.specs.Step.{answers_fault};
 ghost use Rattle.mc_seats.specs.Words.{can_fail};
@@ -15,18 +17,22 @@ ghost use Rattle.mc_seats.specs.Worlds.{WorldState};
 use crate::ActError;
 use mc_base::{Bytes, Cid, List, Text};
 use mc_core::{CoreError, Replica, Written};
+use mc_feed::Event;
 use mc_keep::{HeadRow, Keeper};
+use mc_past::{Past, changes, value_below};
 use mc_query::Pair;
 use mc_script::{Command, Reply};
 use std::alloc::{AllocError, Global};
 
-// Calls the replica for a command, and gives the reply to what it did.
+// Calls the replica for a command, and gives the reply to what it did. What was read of its past is kept in `past`.
 pub(crate) fn call<K: Keeper>(
     replica: &mut Replica<K>,
+    past: &mut Past,
     alloc: Global,
     command: &Command,
 ) -> Result<Reply, CoreError>
     requires single { is_call command.now ≡ true }
+    requires fits { PastFits (K.told replica.old.keeper) past.old }
     ensures call { (w : WorldState) → Acts K.Keeper (λ s. CallRefusal w s command.now) (λ s. EventsOf w s command.now)
         (Leaves command.now) result replica.old replica.new }
     ensures keeps { Continues K.Keeper (is_fault result) replica.old replica.new }
@@ -37,6 +43,7 @@ pub(crate) fn call<K: Keeper>(
     ensures may { can_fail command.now ≡ false → is_fault result ≡ false }
     ensures leaves { CallLeaves K.Keeper command.now result replica.old replica.new }
     ensures makes { IfOk result (CallMakes K.Keeper command.now replica.old replica.new) }
+    ensures fits { PastFits (K.told replica.old.keeper) past.new }
 {
     match command {
         Command::Put { key, bytes, .. } => Ok(Reply::Priority {
@@ -60,17 +67,19 @@ pub(crate) fn call<K: Keeper>(
         Command::Commit { .. } => Ok(Reply::Priority {
             priority: batch_priority(replica.batch_commit(alloc)?),
         }),
-        _ => read(replica, alloc, command),
+        _ => read(replica, past, alloc, command),
     }
 }
 
 // The same for a command that only reads.
 fn read<K: Keeper>(
     replica: &mut Replica<K>,
+    past: &mut Past,
     alloc: Global,
     command: &Command,
 ) -> Result<Reply, CoreError>
     requires read { is_read command.now ≡ true }
+    requires fits { PastFits (K.told replica.old.keeper) past.old }
     ensures call { (w : WorldState) → Acts K.Keeper (λ s. CallRefusal w s command.now) (λ s. EventsOf w s command.now)
         (Leaves command.now) result replica.old replica.new }
     ensures keeps { Continues K.Keeper (is_fault result) replica.old replica.new }
@@ -81,6 +90,7 @@ fn read<K: Keeper>(
     ensures may { can_fail command.now ≡ false → is_fault result ≡ false }
     ensures leaves { CallLeaves K.Keeper command.now result replica.old replica.new }
     ensures makes { IfOk result (CallMakes K.Keeper command.now replica.old replica.new) }
+    ensures fits { PastFits (K.told replica.old.keeper) past.new }
 {
     match command {
         Command::Get { key, .. } => Ok(Reply::Value {
@@ -100,6 +110,12 @@ fn read<K: Keeper>(
         Command::Heads { .. } => Ok(Reply::Heads {
             heads: heads_of(alloc, replica.heads(alloc)?.as_slice())?,
         }),
+        Command::Feed { from, count, .. } => Ok(Reply::Events {
+            events: changes_of(alloc, changes(replica, past, alloc, *from, *count)?)?,
+        }),
+        Command::GetAt { cid, key, .. } => {
+            Ok(below_reply(value_below(replica, past, alloc, cid, key.as_str())?))
+        }
         _ => unreachable!(),
     }
 }
@@ -155,4 +171,28 @@ fn heads_of(alloc: Global, rows: &[HeadRow]) -> Result<List<(Cid, u64)>, AllocEr
         heads.push((row.cid, row.height))?;
     }
     Ok(heads)
+}
+
+// The changes of a feed, each with its position, its key and its value.
+fn changes_of(
+    alloc: Global,
+    events: List<Event>,
+) -> Result<List<(u64, Text, Option<Bytes>)>, AllocError>
+    ensures { IfOk result (λ changes. changes ≡ map change_of events) }
+{
+    let mut changes = List::with_capacity(alloc, events.len())?;
+    for event in events.into_vec() {
+        changes.push((event.position, event.key, event.value))?;
+    }
+    Ok(changes)
+}
+
+// The reply to a value below a block, or to none, where the block isn't processed.
+fn below_reply(found: Option<Option<Bytes>>) -> Reply
+    ensures { result ≡ below_reply found }
+{
+    match found {
+        Some(value) => Reply::Value { value },
+        None => Reply::RefusedView,
+    }
 }

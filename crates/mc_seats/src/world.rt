@@ -3,9 +3,10 @@ ghost use Rattle.std.specs.Prelude.{◌≡◌, ◌≤◌, [], true, length, vec_
 ghost use Rattle.mc_seats.specs.Desked.{desk_sums, is_desked};
 
 use crate::LineEntry;
+use crate::bag::Bag;
 use crate::links::Link;
 use crate::seat::Seat;
-use mc_base::{Bytes, List};
+use mc_base::List;
 use mc_core::OpenCause;
 use mc_keep::Keeper;
 
@@ -25,9 +26,9 @@ pub struct NoWorld<K: Keeper> {
     pub parts: List<Part<K>>,
 }
 
-/// Some replicas in order of name, each running or stopped; the messages ever sent, numbered from 1; the links between
-/// the replicas; the offers that are planted at them; and the record of the lines that were executed. Each replica has
-/// its sixteen desks at hand.
+/// Some replicas in order of name, each running or stopped; the messages ever sent and the CARv1 files ever made or
+/// given, numbered from 1; the links between the replicas; the offers that are planted at them; and the record of the
+/// lines that were executed. Each replica has its sixteen desks at hand.
 pub struct World<K: Keeper> {
     /// The replicas.
     pub seats: Vec<Seat<K>>,
@@ -35,8 +36,8 @@ pub struct World<K: Keeper> {
     pub desks: Vec<List<K::Desk>>,
     /// How often the desks of each have failed.
     pub desk_counts: Vec<u64>,
-    /// The messages.
-    pub bag: List<Bytes>,
+    /// The messages and the files.
+    pub bag: Bag,
     /// The links that are down.
     pub down: Vec<Link>,
     /// Room for the parts that are handed back.

@@ -157,6 +157,8 @@ enum Play {
     Deleted,
     /// Four keys, queried by parts.
     Queried,
+    /// An append or a publish that may get no memory.
+    Refused,
 }
 
 /// A face with one reader.
@@ -284,6 +286,53 @@ fn sees_four_keys<W: Wait>(
     )
 }
 
+/// Appends such a block, and once more where there was no memory: whether a refusal has left what was appended.
+fn append_again(
+    alloc: Global,
+    pen: &mut FaceWriter<Loose>,
+    key: &str,
+    value: u8,
+) -> Result<bool, AllocError>
+    ensures face { pen.new.face ≡ pen.old.face }
+{
+    let before = pen.length();
+    let first = append(alloc, pen, key, Some(value));
+    if first.is_err() {
+        let same = pen.length() == before;
+        append(alloc, pen, key, Some(value))?;
+        return Ok(same);
+    }
+    Ok(true)
+}
+
+/// Shows what was appended, and once more where there was no memory.
+fn publish_again<W: Wait>(pen: &mut FaceWriter<Loose>, wait: &W) -> Result<Told, AllocError>
+    ensures told { IfOk result (λ told. told_face told ≡ pen.old.face) }
+    ensures face { pen.new.face ≡ pen.old.face }
+{
+    match pen.publish(wait) {
+        Ok(told) => Ok(told),
+        Err(AllocError) => pen.publish(wait),
+    }
+}
+
+fn sees_all_later<W: Wait>(
+    alloc: Global,
+    pen: &mut FaceWriter<Loose>,
+    eye: &mut FaceReader<Loose>,
+    wait: &W,
+) -> Result<bool, AllocError>
+    requires one { eye.old.face ≡ pen.old.face }
+{
+    let first = append_again(alloc, pen, "/a", 1)?;
+    let second = append_again(alloc, pen, "/b", 2)?;
+    let unseen = read(eye.has("/b"))? == (false, 0) && pen.length() == 2;
+    let told = publish_again(pen, wait)?;
+    eye.tell(&told);
+    let seen = got(read(eye.get(alloc, "/b"))?, Some(2), 2);
+    Ok(first && second && unseen && told.length == 2 && seen)
+}
+
 /// Whether a reader sees what this play says, and nothing once the writer is used up.
 fn plays<W: Wait>(play: Play, alloc: Global, wait: &W) -> Result<bool, AllocError> {
     let (mut pen, mut eye) = open_one(alloc, wait)?;
@@ -292,6 +341,7 @@ fn plays<W: Wait>(play: Play, alloc: Global, wait: &W) -> Result<bool, AllocErro
         Play::NothingAppended => sees_no_more(alloc, &mut pen, &mut eye, wait),
         Play::Deleted => sees_a_deletion(alloc, &mut pen, &mut eye, wait),
         Play::Queried => sees_four_keys(alloc, &mut pen, &mut eye, wait),
+        Play::Refused => sees_all_later(alloc, &mut pen, &mut eye, wait),
     };
     pen.end(wait);
     let shut = matches!(eye.has("/a"), Err(GlanceError::Shut));
@@ -304,6 +354,14 @@ fn a_reader_sees_what_is_shown(rt: HostRuntime) -> Result<(), Fail> {
     assert!(rt; plays(Play::NothingAppended, rt.alloc(), &rt)?);
     assert!(rt; plays(Play::Deleted, rt.alloc(), &rt)?);
     assert!(rt; plays(Play::Queried, rt.alloc(), &rt)?);
+    Ok(())
+}
+
+/// Here no request is refused: `bench/refused_memory/calls` runs this again and again, with another one refused in each
+/// run.
+#[test]
+fn what_is_refused_is_shown_later(rt: HostRuntime) -> Result<(), Fail> {
+    assert!(rt; plays(Play::Refused, rt.alloc(), &rt)?);
     Ok(())
 }
 

@@ -1,5 +1,6 @@
 // A face of a node that threads share: what its readers see beside those that write and show.
-ghost use Rattle.std.specs.Prelude.{◌≡◌, true, IfSome};
+ghost use Rattle.std.specs.Prelude.{◌≡◌, true, IfOk, IfSome};
+ghost use Rattle.mc_face.specs.Words.{told_face};
 ghost use Rattle.mc_turn.specs.Seats.{IsSeatOf};
 ghost use Rattle.mc_model.specs.State.{HasSoundMark};
 ghost use Rattle.mc_node.specs.Entries.{is_open};
@@ -10,10 +11,10 @@ use crate::given::{Trial, passes, passes_over};
 use crate::replicas::opened;
 use mc_base::Bytes;
 use mc_core::CoreError;
-use mc_face::{Exactness, FaceReader, Glance, GlanceError};
+use mc_face::{Exactness, FaceReader, Glance, GlanceError, Told};
 use mc_keep::Keeper;
 use mc_keep_mem::FaultPlan;
-use mc_node::{Node, NodeSeat, Stored};
+use mc_node::{Node, NodeSeat, Seen, Stored};
 use mc_shown::{FaceSeat, Faces, SharedFace, open_face};
 use std::alloc::{AllocError, Global};
 use std::marker::Brand;
@@ -34,7 +35,7 @@ pub(crate) type Shared<K> = Node<Stored<K, Brand>>;
 pub(crate) type Place<K> = NodeSeat<Stored<K, Brand>, K>;
 
 // Whether a reader answered with this value, over so many blocks.
-fn reads(
+pub(crate) fn reads(
     answer: Result<Glance<Option<Bytes>>, GlanceError>,
     value: Option<&[u8]>,
     length: u64,
@@ -123,12 +124,80 @@ fn stops<K: Keeper, W: Wait>(
     )
 }
 
+// What a reader answers for a key, with its length; any refusal is want of memory here.
+fn read(
+    answer: Result<Glance<Option<Bytes>>, GlanceError>,
+) -> Result<(Option<Bytes>, u64), CoreError> {
+    match answer {
+        Ok(glance) => Ok((glance.answer, glance.length)),
+        Err(_) => Err(CoreError::Memory),
+    }
+}
+
+fn is_red(found: &Option<Bytes>) -> bool {
+    match found {
+        Some(bytes) => bytes.as_slice() == b"red".as_slice(),
+        None => false,
+    }
+}
+
+// Shows a face, and once more where there was no memory.
+fn show_again<K: Keeper, W: Wait>(
+    alloc: Global,
+    node: &Shared<K>,
+    place: &mut Place<K>,
+    face: &SharedFace<K, Loose>,
+    seat: &mut FaceSeat<K, Loose>,
+    wait: &W,
+) -> Result<Seen<Told>, CoreError>
+    requires place { IsSeatOf node.now.turn place.old.seat }
+    requires open { is_open (knows place.old).seen ≡ true }
+    requires seat { IsSeatOf face.now.turn seat.old.seat }
+    requires of { IsAt seat.old node.now.turn }
+    ensures place { IsSeatOf node.now.turn place.new.seat }
+    ensures open { is_open (knows place.new).seen ≡ true }
+    ensures seat { IsSeatOf face.now.turn seat.new.seat }
+    ensures told { IfOk result (λ seen. told_face seen.answer ≡ face_of seat.old) }
+{
+    match face.show(alloc, seat, node, place, wait) {
+        Err(CoreError::Memory) => face.show(alloc, seat, node, place, wait),
+        shown => shown,
+    }
+}
+
+// A show that gets no memory loses nothing: the next one shows all.
+fn shows_later<K: Keeper, W: Wait>(
+    alloc: Global,
+    node: &Shared<K>,
+    place: &mut Place<K>,
+    face: &SharedFace<K, Loose>,
+    seat: &mut FaceSeat<K, Loose>,
+    eye: &mut FaceReader<Loose>,
+    wait: &W,
+) -> Result<bool, CoreError>
+    requires place { IsSeatOf node.now.turn place.old.seat }
+    requires open { is_open (knows place.old).seen ≡ true }
+    requires seat { IsSeatOf face.now.turn seat.old.seat }
+    requires of { IsAt seat.old node.now.turn }
+    requires one { eye.old.face ≡ face_of seat.old }
+    ensures place { IsSeatOf node.now.turn place.new.seat }
+    ensures open { is_open (knows place.new).seen ≡ true }
+    ensures seat { IsSeatOf face.now.turn seat.new.seat }
+{
+    node.put(alloc, place, "/a", b"red", wait)?;
+    let shown = show_again(alloc, node, place, face, seat, wait)?;
+    eye.tell(&shown.answer);
+    let (found, length) = read(eye.get(alloc, "/a"))?;
+    Ok(is_red(&found) && length == 1 && shown.length == 1)
+}
+
 // What is tried over a node with a face, and what is planned.
 #[derive(Clone, Copy)]
 enum Sharing {
     ShowWrites,
     Stop,
     OpenTwice,
+    Refused,
 }
 
 // Opens a face with one reader, tries this over it, and ends it: then the reader is shut out.
@@ -158,6 +227,9 @@ fn tries<K: Keeper, W: Wait>(
         Some(mut eye) => {
             let passed = match sharing {
                 Sharing::Stop => stops(alloc, node, place, &face, &mut seat, &mut eye, wait),
+                Sharing::Refused => {
+                    shows_later(alloc, node, place, &face, &mut seat, &mut eye, wait)
+                }
                 _ => shows_writes(alloc, node, place, &face, &mut seat, &mut eye, wait),
             };
             (passed, Some(eye))
@@ -245,6 +317,14 @@ fn failing(alloc: Global) -> Result<FaultPlan, AllocError> {
 fn writes_are_shown_to_readers_that_are_told(rt: HostRuntime) -> Result<(), Fail> {
     assert!(rt; passes(Sharing::ShowWrites, rt.alloc(), &rt)?);
     assert!(rt; passes(Sharing::OpenTwice, rt.alloc(), &rt)?);
+    Ok(())
+}
+
+/// Here no request is refused: `bench/refused_memory/calls` runs this again and again, with another one refused in each
+/// run.
+#[test]
+fn a_refused_show_loses_nothing(rt: HostRuntime) -> Result<(), Fail> {
+    assert!(rt; passes(Sharing::Refused, rt.alloc(), &rt)?);
     Ok(())
 }
 

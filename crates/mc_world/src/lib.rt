@@ -9,4 +9,4 @@ mod storming;
 mod worked;
 
 pub use acting::act;
-pub use mc_seats::{ActError, LineEntry, NoWorld, Part, World};
+pub use mc_seats::{ActError, LineEntry, NoWorld, Part, World, new_pasts};

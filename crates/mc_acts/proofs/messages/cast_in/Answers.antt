@@ -1,17 +1,19 @@
 use Rattle.std.proofs.Common.{rules, refl}
 use Rattle.std.specs.Prelude.{vec_len}
 use Rattle.std.proofs.lemmas.Option.{slice_get_read}
-use Rattle.mc_acts.proofs.LiftFacts.{cast_early, cast_err, cast_sent, cast_unsent, within_places}
+use Rattle.mc_script.specs.declared.command.Command.TheVariants.{Cast}
+use Rattle.mc_seats.specs.Doing.{Casts}
+use Rattle.mc_acts.proofs.LiftFacts.{asked_early, asked_err, asked_unsent, cast_sent, one_of, within_places}
 use Rattle.mc_acts.proofs.messages.cast_in.Goals as goal
 
 pub returns-in-Err : goal.returns-in-Err
-returns-in-Err g c = record { acts = cast_err _ _ (record { stands = slice_get_read c.args.world.now.seats.items (vec_len c.args.world.now.seats) _ _ (search rules) c.requires.there c.index_mut.ensures.value; seats = refl; desks = refl; bag = refl; down = refl; entries = refl }) (within_places _ c.args.world.now.seats.items (vec_len c.args.world.now.seats) _ (search rules) c.requires.there) c.in-Err.error c.in-Err.ensures.acts }
+returns-in-Err g c = record { acts = asked_err _ _ Cast (record { stands = slice_get_read c.args.world.now.seats.items (vec_len c.args.world.now.seats) _ _ (search rules) c.requires.there c.index_mut.ensures.value; seats = refl; desks = refl; bag = refl; down = refl; entries = refl }) (one_of _ c.args.r Casts refl) refl (λ s. refl) (within_places _ c.args.world.now.seats.items (vec_len c.args.world.now.seats) _ (search rules) c.requires.there) c.in-Err.error c.in-Err.ensures.acts }
 
 pub returns-in-Ok-Err : goal.returns-in-Ok-Err
-returns-in-Ok-Err g c = record { acts = cast_early _ _ (record { stands = slice_get_read c.args.world.now.seats.items (vec_len c.args.world.now.seats) _ _ (search rules) c.requires.there c.index_mut.ensures.value; seats = refl; desks = refl; bag = refl; down = refl; entries = refl }) (within_places _ c.args.world.now.seats.items (vec_len c.args.world.now.seats) _ (search rules) c.requires.there) c.in-Ok-Err.reply (rw (c.in-Ok-Err.field-0-is) at c.in-Ok-Err.ensures.acts) }
+returns-in-Ok-Err g c = record { acts = asked_early _ _ Cast (record { stands = slice_get_read c.args.world.now.seats.items (vec_len c.args.world.now.seats) _ _ (search rules) c.requires.there c.index_mut.ensures.value; seats = refl; desks = refl; bag = refl; down = refl; entries = refl }) (one_of _ c.args.r Casts refl) refl (λ s. refl) (within_places _ c.args.world.now.seats.items (vec_len c.args.world.now.seats) _ (search rules) c.requires.there) c.in-Ok-Err.reply (rw (c.in-Ok-Err.field-0-is) at c.in-Ok-Err.ensures.acts) }
 
 pub returns-in-Ok : goal.returns-in-Ok
-returns-in-Ok g c = let acts = rw (c.in-Ok-Ok.field-0-is) at c.in-Ok-Ok.ensures.acts in record { acts = cast_sent _ _ c.args.r _ _ _ _ c.in-Ok-Ok.text c.in-Ok.reply (slice_get_read c.args.world.now.seats.items (vec_len c.args.world.now.seats) _ _ (search rules) c.requires.there c.index_mut.ensures.value) refl refl refl refl c.in-Ok.ensures.ok acts.sent acts.goes }
+returns-in-Ok g c = let acts = rw (c.in-Ok-Ok.field-0-is) at c.in-Ok-Ok.ensures.acts in record { acts = cast_sent _ _ c.args.r _ _ _ _ c.in-Ok-Ok.text c.in-Ok.reply (slice_get_read c.args.world.now.seats.items (vec_len c.args.world.now.seats) _ _ (search rules) c.requires.there c.index_mut.ensures.value) refl refl refl refl refl c.in-Ok.ensures.ok acts.sent acts.goes }
 
 pub returns-in-Err-send : goal.returns-in-Err-send
-returns-in-Err-send g c = record { acts = cast_unsent _ _ (record { stands = slice_get_read c.args.world.now.seats.items (vec_len c.args.world.now.seats) _ _ (search rules) c.requires.there c.index_mut.ensures.value; seats = refl; desks = refl; bag = c.in-Err-send.ensures.err; down = refl; entries = refl }) (within_places _ c.args.world.now.seats.items (vec_len c.args.world.now.seats) _ (search rules) c.requires.there) c.in-Ok-Ok.text (rw (c.in-Ok-Ok.field-0-is) at c.in-Ok-Ok.ensures.acts) }
+returns-in-Err-send g c = record { acts = asked_unsent _ _ Cast (record { stands = slice_get_read c.args.world.now.seats.items (vec_len c.args.world.now.seats) _ _ (search rules) c.requires.there c.index_mut.ensures.value; seats = refl; desks = refl; bag = λ t. record c.args.world.now.bag { messages = c.in-Err-send.ensures.err t }; down = refl; entries = refl }) (one_of _ c.args.r Casts refl) refl (λ s. refl) (within_places _ c.args.world.now.seats.items (vec_len c.args.world.now.seats) _ (search rules) c.requires.there) c.in-Ok-Ok.text (rw (c.in-Ok-Ok.field-0-is) at c.in-Ok-Ok.ensures.acts) }

@@ -1,9 +1,9 @@
-use Rattle.std.proofs.Common.{heap_items}
-use Rattle.mc_live.proofs.Tops.{no_first, some_first}
+use Rattle.std.proofs.Common.{List, Some, ap, subst, sym}
+use Rattle.mc_live.specs.Rows.{IsFirst, items_of}
+use Rattle.mc_live.specs.declared.order.Row.{Row}
+use Rattle.mc_live.proofs.HeldFacts.{one_first}
 use Rattle.mc_live.proofs.live.first_of.Goals as goal
 
-pub returns-in-Some : goal.returns-in-Some
-returns-in-Some c = some_first (heap_items c.args.heap.now) c.in-Some.row.now c.as_slice.result.now c.in-Some.ensures.item.3.0 c.in-Some.ensures.lookup c.as_slice.ensures c.in-Some.ensures.greatest
-
-pub returns-in-None : goal.returns-in-None
-returns-in-None c = no_first (heap_items c.args.heap.now) c.in-None.ensures.item.3
+pub returns-in-One : goal.returns-in-One
+returns-in-One c =
+    subst (λ (z : List Row). IsFirst z (Some c.as_slice.result.now)) (sym (ap items_of c.in-One.is)) (one_first c.in-One.row c.as_slice.result.now c.as_slice.ensures)

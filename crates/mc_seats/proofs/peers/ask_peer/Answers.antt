@@ -1,4 +1,4 @@
-use Rattle.std.proofs.Common.{Some, sym}
+use Rattle.std.proofs.Common.{sym}
 use Rattle.mc_seats.proofs.BeginFacts.{members}
 use Rattle.mc_seats.proofs.PeerFacts.{ask_none, asks_unplanted, offered_planted}
 use Rattle.mc_seats.proofs.peers.ask_peer.Goals as goal
