@@ -1,5 +1,6 @@
 -- How a drain of the caller's ends.
-use Rattle.std.proofs.Common.{◌≡◌, ◌≢◌, ◌≤◌, ℕ, Bool, true, false, List, [], Option, Some, None, refl, sym, ap, subst, arith}
+use Rattle.std.proofs.Common.{◌≡◌, ◌≢◌, ◌≤◌, ℕ, Bool, true, false, List, [], Option, Some, None, refl, sym, ap, subst, arith, inl, inr}
+use Rattle.std.proofs.lemmas.Bool.{false≢true}
 use Rattle.std.specs.Prelude.{IfSome}
 use Rattle.mc_base.specs.Told.{Told}
 use Rattle.mc_base.specs.declared.cid.Cid.{Cid}
@@ -18,9 +19,23 @@ use Rattle.mc_core.specs.Events.{ReplicaState, state_of}
 use Rattle.mc_drain.specs.declared.end.DrainEnd.{DrainEnd}
 use Rattle.mc_drain.specs.declared.end.DrainEnd.TheVariants.{Spent}
 use Rattle.mc_drain.specs.Leads.{Always, Leads, count, up_to}
-use Rattle.mc_drain.specs.Words.{AllGood, DrainLeads, Fetched, NothingStuck, is_keeper}
+use Rattle.mc_drain.specs.Words.{AllGood, DrainLeads, Fetched, HasRested, NothingStuck, are_enough, is_keeper}
+use Rattle.mc_drain.proofs.CallFacts.{leads_then, leads_weaker}
 use Rattle.mc_drain.proofs.FuseFacts.{burns_then, longer}
 use Rattle.mc_drain.proofs.StoredFacts.{drains_then}
+
+-- where no number is enough, turns rest at the limit
+pub at_limit : (limit : ℕ) (s : ReplicaState) (q : Queue) → HasRested limit None s q → limit ≤ count s
+at_limit limit s q (inl at) = at
+at_limit limit s q (inr enough) = absurd (false≢true enough)
+
+pub rests_at : (P : Type 0) (limit : ℕ) (enough : Option ℕ) (q : Queue) (a : Option ReplicaState) → IfSome a (λ s. limit ≤ count s) → IfSome a (λ s. P → HasRested limit enough s q)
+rests_at P limit enough q None at = tt
+rests_at P limit enough q (Some s) at = λ p. inl at
+
+pub rests_by : (P : Type 0) (limit : ℕ) (enough : Option ℕ) (q : Queue) (a : Option ReplicaState) → are_enough enough q.waiting ≡ true → IfSome a (λ s. P → HasRested limit enough s q)
+rests_by P limit enough q None are = tt
+rests_by P limit enough q (Some s) are = λ p. inr are
 
 -- after a requeue nothing is stuck
 pub nothing_stuck : (told : Option Kept) (fuse : Option Fuse) (stop : Bool) (run : Running) (q : Queue) → stop ≡ false → run.queue ≡ requeue q → IfSome (state_of told fuse (run_of stop run)) NothingStuck
@@ -35,6 +50,16 @@ waiting_shown (Some kept) fuse stop run up = subst (λ (b : Bool). (queue_in (ru
 
 stuck_fits : (map : Map) (q : Queue) → q.missing ≡ [] → q.bad ≡ [] → PartsFit (offers_of map) q
 stuck_fits map q missing bad = (subst (λ (cids : List Cid). AllNothing (offers_of map) cids) (sym missing) tt, subst (λ (bad : List (Cid × ℕ)). AllDamaged (offers_of map) bad) (sym bad) tt)
+
+-- turns after all waits again
+pub begun_told : (failed : Bool) (limit : ℕ) (offers : Option Map) (a m b : Option ReplicaState) → Told a m (λ s mid. Leads false (count s) Always s mid) → Told m b (λ s new. Leads failed (up_to limit s) (Fetched offers) s new)
+    → Told a b (λ s new. Leads failed (up_to limit s) (Fetched offers) s new)
+begun_told failed limit offers None m b first next = tt
+begun_told failed limit offers (Some s) None b first next = absurd first
+begun_told failed limit offers (Some s) (Some mid) None first next = absurd next
+begun_told failed limit offers (Some s) (Some mid) (Some new) first next =
+    leads_weaker failed (up_to limit mid) (up_to limit s) (Fetched offers) (Fetched offers) s new
+    (leads_then failed (count s) (up_to limit mid) Always (Fetched offers) (Fetched offers) s mid new first next (λ known kept old start f h. (tt, f))) (let few = first.few in omega (arith, few)) (λ known kept f. f)
 
 -- it came to an end before the limit
 pub drain_ended : (end : DrainEnd) (limit : ℕ) (offers : Option Map) (a m b : Option ReplicaState) → end ≢ Spent → Told a m (λ s mid. Leads false (count s) Always s mid) → IfSome m NothingStuck

@@ -1,5 +1,5 @@
 -- The words of a drain's calls.
-use Rattle.std.specs.Prelude.{◌≡◌, ◌≤◌, ⊤, ℕ, Bool, true, false, List, [], ◌∷◌, ◌++◌, Option, Some, None, Result, Ok}
+use Rattle.std.specs.Prelude.{◌≡◌, ◌≤◌, ◌⊎◌, ⊤, ℕ, nat_le, length, Bool, true, false, List, [], ◌∷◌, ◌++◌, Option, Some, None, Result, Ok}
 use Rattle.std.specs.Prelude.{Err}
 use Rattle.mc_base.specs.declared.cid.Cid.{Cid}
 use Rattle.mc_fetch.specs.Fits.{FetchFits, Map, OwnFits}
@@ -128,6 +128,15 @@ pub record SortsFirst (offers : Option Map) (s : ReplicaState) (before after : L
 abbrev pub AllGood : (Map → List Cid → Type 0) → ReplicaState → List Cid → Type 0
 AllGood P s waiting = (map : Map) (kept : List Cid) → P map kept → (old : Durable) (start : List Cid)
     → HasDrained map kept old start s.state → (c : Cid) → has c waiting ≡ true → is_found (offers_of map c) ≡ true
+
+-- whether so many blocks wait as are enough, where a number is
+abbrev pub are_enough : Option ℕ → List Cid → Bool
+are_enough None waiting = false
+are_enough (Some enough) waiting = nat_le enough (length waiting)
+
+-- turns that came to no end have come to the limit, or to blocks that are enough
+abbrev pub HasRested : ℕ → Option ℕ → ReplicaState → Queue → Type 0
+HasRested limit enough s q = (limit ≤ count s) ⊎ (are_enough enough q.waiting ≡ true)
 
 -- nothing is missing or bad
 abbrev pub NoneStuck : Queue → Type 0

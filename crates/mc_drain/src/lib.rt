@@ -15,7 +15,7 @@ mod turns;
 mod walking;
 mod working;
 
-pub use draining::drain;
+pub use draining::{drain, drain_alone};
 pub use end::DrainEnd;
 pub use finishing::{finish_work, leave_off};
 pub use giving::give_up;

@@ -1,9 +1,10 @@
 -- What the workers of a round leave of their fetches.
-use Rattle.std.proofs.Common.{◌≡◌, ◌<◌, ℕ, zero, suc, Bool, true, false, ◌||◌, List, [], ◌∷◌, length, map, All, slice_index_or, Option, refl, sym, ap, ◌∙◌, subst, arith, inl, inr}
+use Rattle.std.proofs.Common.{◌≡◌, ◌<◌, ◌≤◌, ℕ, zero, suc, Bool, true, false, ◌||◌, List, [], ◌∷◌, length, map, All, slice_index_or, Option, refl, sym, ap, ◌∙◌, subst, arith, inl, inr}
 use Rattle.std.specs.List.{AllZip, list_any}
 use Rattle.std.proofs.lemmas.Bool.{false≢true, or_cases}
 use Rattle.mc_base.specs.Causes.{Rose}
 use Rattle.mc_fetch.specs.Calls.{Asks, Members}
+use Rattle.mc_fetch.specs.Fits.{Map}
 use Rattle.mc_fetch.specs.Offers.{Offered, found_by}
 use Rattle.mc_fetch.proofs.AskFacts.{asks_more, asks_none}
 use Rattle.mc_worker.specs.declared.ends.HandEnd.{HandEnd}
@@ -132,6 +133,25 @@ module _ {F : Type 0} (f : Members F) where
   finds_left [] (y ∷ ys) all = absurd all
   finds_left (x ∷ xs) [] all = absurd all
   finds_left (x ∷ xs) (y ∷ ys) all = ap (λ (o : Option Offered). finds_by o (f.leading y)) all.0.asked.offers_same ∙ ap (λ (o : Offered). finds_by (f.offers x) o) all.0.asked.leading_same
+
+  -- each of them finds what the first finds, as before
+  each_same : (o : Option Map) (xs ys : List F) → AllZip (FetchLeft f) xs ys → All (λ x. found_by (f.offers x) ≡ o) xs → All (λ y. found_by (f.offers y) ≡ o) ys
+  each_same o [] [] all same = λ k d less. absurd (omega (arith, less))
+  each_same o [] (y ∷ ys) all same = absurd all
+  each_same o (x ∷ xs) [] all same = absurd all
+  each_same o (x ∷ xs) (y ∷ ys) all same = λ k d less. place (each_same o xs ys all.1 (λ k d less. same (suc k) d (omega (arith, less)))) k d less
+    where
+      place : All (λ z. found_by (f.offers z) ≡ o) ys → (k : ℕ) (d : F) → k < length (y ∷ ys) → found_by (f.offers (slice_index_or (y ∷ ys) k d)) ≡ o
+      place rest zero d less = ap found_by all.0.asked.offers_same ∙ same 0 x (omega arith)
+      place rest (suc k) d less = rest k d (omega (arith, less))
+
+  pub still_same : (xs ys : List F) → AllZip (Asks f false) xs ys → All (λ x. found_by (f.offers x) ≡ found_first f.offers xs) xs → All (λ y. found_by (f.offers y) ≡ found_first f.offers ys) ys
+  still_same xs ys calm same =
+      let left = left_calm xs ys calm in
+      subst (λ (o : Option Map). All (λ y. found_by (f.offers y) ≡ o) ys) (sym (found_left xs ys left)) (each_same (found_first f.offers xs) xs ys left same)
+
+  pub few_left : (xs ys : List F) → AllZip (Asks f false) xs ys → length xs ≤ 16 → length ys ≤ 16
+  few_left xs ys calm few = let same = zip_length (Asks f false) xs ys calm in omega (arith, same, few)
 
 pub all_first : {F : Type 0} (offers : F → Option Offered) (leading : F → Offered) (xs : List F) → found_first offers xs ≡ (first_finds offers leading xs).all
 all_first offers leading [] = refl

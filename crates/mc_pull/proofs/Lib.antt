@@ -7,4 +7,5 @@ pub mod Left
 pub mod PullFacts
 pub mod RiseFacts
 pub mod RoundFacts
+pub mod StartFacts
 pub mod WorkFacts

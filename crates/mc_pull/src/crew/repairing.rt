@@ -11,9 +11,9 @@ ghost use Rattle.mc_pull.specs.Hands.{FetchLeft, SomeRose, first_finds, found_fi
 
 use crate::crew::finishing::{go_on_repairing, is_over};
 use crate::crew::laws::fetches_follow;
-use crate::crew::rounds::round;
+use crate::crew::starting::share;
 use mc_core::Replica;
-use mc_drain::{Repaired, WorkError, begin_repair, leave_off, requeue};
+use mc_drain::{Repaired, WorkError, begin_repair, leave_off};
 use mc_fetch::Fetch;
 use mc_keep::Keeper;
 use mc_worker::Gate;
@@ -67,8 +67,7 @@ where
         Err(error) => return (replica, fetches, Err(error)),
     };
     let limit = before.saturating_add(budget);
-    requeue(&mut replica);
-    let (replica, fetches, failed) = round(alloc, replica, fetches, limit, gate, threads, wait);
+    let (replica, fetches, failed) = share(alloc, replica, fetches, limit, gate, threads, wait);
     let mut replica = replica;
     let mut fetches = fetches;
     if is_over(&replica, failed) {

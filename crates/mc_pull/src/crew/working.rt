@@ -11,9 +11,9 @@ ghost use Rattle.mc_pull.specs.Hands.{FetchLeft, SomeRose, first_finds, found_fi
 
 use crate::crew::finishing::{go_on, is_over};
 use crate::crew::laws::fetches_follow;
-use crate::crew::rounds::round;
+use crate::crew::starting::share;
 use mc_core::Replica;
-use mc_drain::{WorkError, Worked, leave_off, requeue};
+use mc_drain::{WorkError, Worked, leave_off};
 use mc_fetch::Fetch;
 use mc_keep::Keeper;
 use mc_worker::Gate;
@@ -21,10 +21,10 @@ use std::alloc::Global;
 use std::sync::Wait;
 use std::thread::Threads;
 
-/// Works through the wanted blocks of a replica, and gives it back. What is missing or bad waits again, so the workers
-/// try it too: of two fetches and more one worker for each, each in a thread of its own where one can be made; and then
-/// the caller goes on alone, over the first fetch, as `mc_drain::work` does. Workers and caller together process no
-/// more blocks than the budget says. The answer is that of the whole work. Where it is known what is found, `Done`
+/// Works through the wanted blocks of a replica, and gives it back. What is missing or bad waits again. The caller goes on
+/// alone, over the first fetch, as long as fewer blocks wait than there are fetches; then there are workers, of two fetches
+/// and more one for each, each in a thread of its own where one can be made; and then the caller goes on alone, as
+/// `mc_drain::work` does. Workers and caller together process no more blocks than the budget says. The answer is that of the whole work. Where it is known what is found, `Done`
 /// comes exactly where no wanted block has a good offer any more, and the processed blocks are then the closure of what
 /// was wanted; after `Again`, `PeerFault` and `Memory` each block that was wanted is processed or still wanted.
 /// `PeerFault` comes only where the count of a fetch has risen, and every answer but that and `KeeperFault` only where
@@ -70,9 +70,7 @@ where
         Err(_) => return (replica, fetches, Err(WorkError::Stopped)),
     };
     let limit = before.saturating_add(budget);
-    let mut replica = replica;
-    requeue(&mut replica);
-    let (replica, fetches, failed) = round(alloc, replica, fetches, limit, gate, threads, wait);
+    let (replica, fetches, failed) = share(alloc, replica, fetches, limit, gate, threads, wait);
     let mut replica = replica;
     let mut fetches = fetches;
     if is_over(&replica, failed) {

@@ -6,9 +6,9 @@ use Rattle.mc_queue.specs.Views.{shown}
 use Rattle.mc_core.specs.Events.{ReplicaState}
 use Rattle.mc_drain.specs.declared.end.DrainEnd.{DrainEnd}
 use Rattle.mc_drain.specs.Leads.{count, Always, up_to}
-use Rattle.mc_drain.specs.Words.{is_keeper, Fetched}
+use Rattle.mc_drain.specs.Words.{is_keeper, Fetched, HasRested}
 use Rattle.mc_drain.proofs.CallFacts.{some_with}
-use Rattle.mc_drain.proofs.EndFacts.{drain_ended, drain_parted, waiting_shown}
+use Rattle.mc_drain.proofs.EndFacts.{at_limit, drain_ended, drain_parted, waiting_shown}
 use Rattle.mc_drain.proofs.LostFacts.{all_lost, lost_end, lost_then}
 use Rattle.mc_drain.proofs.draining.drain.Goals as goal
 
@@ -21,7 +21,7 @@ returns-in-Some-clause-keeps g c = continues_more c.restart.ensures.keeps c.in-S
 pub returns-in-None-clause-leads : goal.returns-in-None-clause-leads
 returns-in-None-clause-leads g c =
     let same = c.in-None.ensures.asks.offers_same in
-    let spent = some_with (λ (s : ReplicaState). None ≡ None → c.args.limit ≤ count s) (λ (s : ReplicaState). c.args.limit ≤ count s) (λ s h. h refl) _ c.in-None.ensures.spent in
+    let spent = some_with (λ (s : ReplicaState). None ≡ None → HasRested c.args.limit None s (shown c.take_turns.new.replica.queue)) (λ (s : ReplicaState). c.args.limit ≤ count s) (λ s h. at_limit c.args.limit s (shown c.take_turns.new.replica.queue) (h refl)) _ c.in-None.ensures.rested in
     drain_parted c.part.result c.args.limit (found_by (g.F.Fetch.offers c.args.fetch.now)) (shown c.part.new.replica.queue).waiting _ _ _ _ c.restart.ensures.leads c.restart.ensures.fresh c.in-None.ensures.leads spent
     (rw same at c.part.ensures.leads) (rw same at c.part.ensures.good)
     (λ e. waiting_shown _ _ _ _ (c.part.ensures.keeps.stops ∙ ap (λ (x : DrainEnd). is_keeper x || c.take_turns.new.replica.stopped) e ∙ c.in-None.ensures.keeps.stops ∙ c.restart.ensures.keeps.stops ∙ c.requires.runs))

@@ -1,4 +1,4 @@
-use Rattle.std.proofs.Common.{◌+◌, false, refl, ap, subst, arith}
+use Rattle.std.proofs.Common.{◌+◌, ◌∙◌, false, refl, ap, subst, sym, arith}
 use Rattle.mc_core.specs.Words.{ContinuesAt}
 use Rattle.mc_core.proofs.Keeps.{continues_more, rest_more, still_on}
 use Rattle.mc_base.specs.Told.{Told}
@@ -8,7 +8,8 @@ use Rattle.mc_fetch.proofs.AskFacts.{asks_more, asks_none}
 use Rattle.mc_drain.specs.Leads.{Leads, count, up_to}
 use Rattle.mc_core.specs.Replica.{replica_state}
 use Rattle.mc_drain.specs.Words.{Fetched, is_keeper, keeper_failed, peer_failed}
-use Rattle.mc_drain.proofs.TurnFacts.{itself_told, loop_told, room_told, still_runs}
+use Rattle.mc_drain.proofs.EndFacts.{rests_at, rests_by}
+use Rattle.mc_drain.proofs.TurnFacts.{itself_told, loop_told, room_told, spent_told, still_runs}
 use Rattle.mc_queue.specs.Views.{shown}
 use Rattle.mc_drain.proofs.LostFacts.{lost_end, lost_on, lost_start, lost_then}
 use Rattle.mc_drain.proofs.draining.take_turns.Goals as goal
@@ -50,3 +51,12 @@ returns-in-Some-take_turn-clause-sticks g c = lost_then (surely_by (g.F.Fetch.le
 
 pub returns-then-processed-limit-clause-sticks : goal.returns-then-processed-limit-clause-sticks
 returns-then-processed-limit-clause-sticks g c = lost_on (surely_by (g.F.Fetch.leading c.args.fetch.now)) false _ (shown c.args.replica.now.queue) (shown c.loop.replica.queue) c.loop.invariant.sticks
+
+pub returns-then-processed-limit-clause-rested : goal.returns-then-processed-limit-clause-rested
+returns-then-processed-limit-clause-rested g c = rests_at _ c.args.limit c.args.enough (shown c.loop.replica.queue) _ (spent_told c.processed.result c.args.limit _ (omega (arith, c.if-processed-limit.true)) c.processed.ensures)
+
+pub returns-then-are_enough-clause-rested : goal.returns-then-are_enough-clause-rested
+returns-then-are_enough-clause-rested g c = rests_by _ c.args.limit c.args.enough (shown c.loop.replica.queue) _ (sym c.are_enough.ensures ∙ c.if-are_enough.true)
+
+pub returns-then-are_enough-clause-sticks : goal.returns-then-are_enough-clause-sticks
+returns-then-are_enough-clause-sticks g c = lost_on (surely_by (g.F.Fetch.leading c.args.fetch.now)) false _ (shown c.args.replica.now.queue) (shown c.loop.replica.queue) c.loop.invariant.sticks

@@ -8,7 +8,7 @@ use Rattle.mc_drain.proofs.TurnFacts.{report_count}
 use Rattle.mc_drain.proofs.WorkFacts.{not_true, still_works}
 use Rattle.mc_pull.specs.Hands.{first_finds, found_first}
 use Rattle.mc_pull.proofs.Left.{all_first, calm_itself, calm_more, finds_left, found_left, left_itself, left_more, rose_more}
-use Rattle.mc_pull.proofs.WorkFacts.{gone_on_keeps, left_broke, left_keeps, left_peer, left_runs, left_wants, none_peer, over_none, requeued_led, work_gone_on, work_left}
+use Rattle.mc_pull.proofs.WorkFacts.{gone_on_keeps, left_broke, left_keeps, left_peer, left_runs, left_wants, none_peer, over_none, work_gone_on, work_left}
 use Rattle.mc_pull.proofs.crew.working.work.Goals as goal
 
 pub returns-in-Err-clause-leads : goal.returns-in-Err-clause-leads
@@ -22,16 +22,16 @@ returns-in-Err-clause-left g c = left_itself _ c.fetches_follow.ensures.itself _
 
 pub returns-then-is_over-clause-leads : goal.returns-then-is_over-clause-leads
 returns-then-is_over-clause-leads g c =
-    work_left _ c.in-Ok.report.processed c.args.budget c.saturating_add-limit.result (found_first g.F.Fetch.offers c.args.fetches.items) (first_finds g.F.Fetch.offers g.F.Fetch.leading c.args.fetches.items) c.leave_off-why.result _ _ _ (all_first g.F.Fetch.offers g.F.Fetch.leading c.args.fetches.items) c.saturating_add-limit.ensures (report_count _ _ _ _ c.in-Ok.report c.in-Ok.ensures.report) (requeued_led _ c.saturating_add-limit.result _ _ _ _ c.requeue.ensures.leads c.requeue.ensures.stored c.round-replica.ensures.leads) c.leave_off-why.ensures.works
+    work_left _ c.in-Ok.report.processed c.args.budget c.saturating_add-limit.result (found_first g.F.Fetch.offers c.args.fetches.items) (first_finds g.F.Fetch.offers g.F.Fetch.leading c.args.fetches.items) c.leave_off-why.result _ _ _ (all_first g.F.Fetch.offers g.F.Fetch.leading c.args.fetches.items) c.saturating_add-limit.ensures (report_count _ _ _ _ c.in-Ok.report c.in-Ok.ensures.report) c.share-replica.ensures.leads c.leave_off-why.ensures.works
 
 pub returns-then-is_over-clause-keeps : goal.returns-then-is_over-clause-keeps
-returns-then-is_over-clause-keeps g c = left_keeps Worked _ c.leave_off-why.result _ _ _ c.leave_off-why.ensures.why (continues_more c.requeue.ensures.keeps c.round-replica.ensures.keeps) c.leave_off-why.ensures.keeps c.leave_off-why.ensures.still
+returns-then-is_over-clause-keeps g c = left_keeps Worked _ c.leave_off-why.result _ _ _ c.leave_off-why.ensures.why c.share-replica.ensures.keeps c.leave_off-why.ensures.keeps c.leave_off-why.ensures.still
 
 pub returns-then-is_over-clause-rest : goal.returns-then-is_over-clause-rest
-returns-then-is_over-clause-rest g c = run_more (run_more (run_same c.requeue.ensures.rest) c.round-replica.ensures.rest) (run_same c.leave_off-why.ensures.rest)
+returns-then-is_over-clause-rest g c = run_more c.share-replica.ensures.rest (run_same c.leave_off-why.ensures.rest)
 
 pub returns-then-is_over-clause-peer : goal.returns-then-is_over-clause-peer
-returns-then-is_over-clause-peer g c = λ e. c.round-replica.ensures.peer (left_peer Worked _ _ c.leave_off-why.result c.leave_off-why.ensures.why (sym c.is_over.ensures ∙ c.if-is_over.true) e)
+returns-then-is_over-clause-peer g c = λ e. c.share-replica.ensures.peer (left_peer Worked _ _ c.leave_off-why.result c.leave_off-why.ensures.why (sym c.is_over.ensures ∙ c.if-is_over.true) e)
 
 pub returns-then-is_over-clause-stopped : goal.returns-then-is_over-clause-stopped
 returns-then-is_over-clause-stopped g c = (λ e. absurd (left_runs Worked _ c.leave_off-why.result c.leave_off-why.ensures.why e), λ up. absurd (c.in-Ok.ensures.stopped up))
@@ -45,26 +45,26 @@ returns-then-is_over-clause-wants g c = left_wants _ c.leave_off-why.result (sho
 pub returns-clause-leads : goal.returns-clause-leads
 returns-clause-leads g c =
     let both = over_none _ _ (sym c.is_over.ensures ∙ c.if-is_over.false) in
-    work_gone_on _ c.in-Ok.report.processed c.args.budget c.saturating_add-limit.result (found_first g.F.Fetch.offers c.args.fetches.items) _ (first_finds g.F.Fetch.offers g.F.Fetch.leading c.args.fetches.items) _ c.go_on-answer.result _ _ _ both.1 (found_left _ _ _ c.round-replica.ensures.left) (finds_left _ _ _ c.round-replica.ensures.left) c.saturating_add-limit.ensures
-    (report_count _ _ _ _ c.in-Ok.report c.in-Ok.ensures.report) (requeued_led _ c.saturating_add-limit.result _ _ _ _ c.requeue.ensures.leads c.requeue.ensures.stored c.round-replica.ensures.leads) c.go_on-answer.ensures.leads
+    work_gone_on _ c.in-Ok.report.processed c.args.budget c.saturating_add-limit.result (found_first g.F.Fetch.offers c.args.fetches.items) _ (first_finds g.F.Fetch.offers g.F.Fetch.leading c.args.fetches.items) _ c.go_on-answer.result _ _ _ both.1 (found_left _ _ _ c.share-replica.ensures.left) (finds_left _ _ _ c.share-replica.ensures.left) c.saturating_add-limit.ensures
+    (report_count _ _ _ _ c.in-Ok.report c.in-Ok.ensures.report) c.share-replica.ensures.leads c.go_on-answer.ensures.leads
 
 pub returns-clause-keeps : goal.returns-clause-keeps
 returns-clause-keeps g c =
     let both = over_none _ _ (sym c.is_over.ensures ∙ c.if-is_over.false) in
-    gone_on_keeps _ _ _ _ _ both.1 (continues_more c.requeue.ensures.keeps c.round-replica.ensures.keeps) c.go_on-answer.ensures.keeps
+    gone_on_keeps _ _ _ _ _ both.1 c.share-replica.ensures.keeps c.go_on-answer.ensures.keeps
 
 pub returns-clause-rest : goal.returns-clause-rest
-returns-clause-rest g c = run_more (run_more (run_same c.requeue.ensures.rest) c.round-replica.ensures.rest) (run_same c.go_on-answer.ensures.rest)
+returns-clause-rest g c = run_more c.share-replica.ensures.rest (run_same c.go_on-answer.ensures.rest)
 
 pub returns-clause-left : goal.returns-clause-left
 returns-clause-left g c =
     let both = over_none _ _ (sym c.is_over.ensures ∙ c.if-is_over.false) in
-    left_more _ c.fetches_follow.ensures.on _ _ _ (c.round-replica.ensures.calm both.0) c.go_on-answer.ensures.left
+    left_more _ c.fetches_follow.ensures.on _ _ _ (c.share-replica.ensures.calm both.0) c.go_on-answer.ensures.left
 
 pub returns-clause-peer : goal.returns-clause-peer
 returns-clause-peer g c = λ e.
     let both = over_none _ _ (sym c.is_over.ensures ∙ c.if-is_over.false) in
-    rose_more _ _ _ _ (c.round-replica.ensures.calm both.0) (c.go_on-answer.ensures.peer e)
+    rose_more _ _ _ _ (c.share-replica.ensures.calm both.0) (c.go_on-answer.ensures.peer e)
 
 pub returns-clause-stopped : goal.returns-clause-stopped
 returns-clause-stopped g c = (λ e. absurd (c.go_on-answer.ensures.runs e), λ up. absurd (c.in-Ok.ensures.stopped up))
@@ -81,10 +81,7 @@ returns-then-is_over-clause-calm g c = λ none. absurd (left_broke Worked _ c.le
 pub returns-clause-calm : goal.returns-clause-calm
 returns-clause-calm g c = λ none.
     let both = over_none _ _ (sym c.is_over.ensures ∙ c.if-is_over.false) in
-    calm_more _ c.fetches_follow.ensures.on _ _ _ (c.round-replica.ensures.calm both.0) (c.go_on-answer.ensures.calm (none_peer c.go_on-answer.result none))
+    calm_more _ c.fetches_follow.ensures.on _ _ _ (c.share-replica.ensures.calm both.0) (c.go_on-answer.ensures.calm (none_peer c.go_on-answer.result none))
 
-pub round-replica-requires-clause-fresh : goal.round-replica-requires-clause-fresh
-round-replica-requires-clause-fresh g c κs within = (ap (λ (q : Queue). q.missing) c.requeue.ensures.wants, ap (λ (q : Queue). q.bad) c.requeue.ensures.wants)
-
-pub round-replica-requires-clause-runs : goal.round-replica-requires-clause-runs
-round-replica-requires-clause-runs g c κs within = c.requeue.ensures.keeps.stops ∙ not_true _ c.in-Ok.ensures.stopped
+pub share-replica-requires-clause-runs : goal.share-replica-requires-clause-runs
+share-replica-requires-clause-runs g c κs within = not_true _ c.in-Ok.ensures.stopped
