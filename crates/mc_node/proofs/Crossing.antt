@@ -22,4 +22,4 @@ module _ (K Desk : RattleType) (k : keeper.Ghosts K.Denot Desk.Denot) (n : count
   entry_send s t = declared_send (entry.the_type K Desk k n d) (search (note_send, sendable) depth 12, (search sendable depth 12, tt))
 
   pub stored_send : IsSend K → IsSend Desk → IsSend stored_row
-  stored_send s t = declared_send (stored.the_type K brand.the_row Desk k n d naming.ghosts) (search (replica_send, sendable) depth 12, (search (vec_send, entry_send, frees, sendable) depth 12, (search (taker_send, crosses, sendable) depth 24, (search sendable depth 12, tt))))
+  stored_send s t = declared_send (stored.the_type K brand.the_row Desk k n d naming.ghosts) (search (replica_send, crosses, sendable) depth 24, (search (vec_send, entry_send, frees, sendable) depth 12, (search (taker_send, crosses, sendable) depth 24, (search sendable depth 12, tt))))

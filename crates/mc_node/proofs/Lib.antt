@@ -3,6 +3,7 @@ pub mod FaceFacts
 pub mod FeedFacts
 pub mod FrameFacts
 mod StuckFacts
+pub mod BoxFacts
 pub mod WorkFacts
 pub mod TieFacts
 pub mod WorkTies

@@ -28,14 +28,15 @@ mod takes;
 /// there is one. Its list is the log.
 #[derive(Drop)]
 pub struct Stored<K: Keeper, J: Naming> {
-    pub(crate) replica: Replica<K>,
+    // In a box, so that each turn moves a few words, and not some 2.6 KB.
+    pub(crate) replica: Box<Replica<K>>,
     pub(crate) log: Vec<Entry<K>>,
     pub(crate) taker: Option<TakerEnd<J>>,
     of: PhantomData<J>,
     ghost tied: { IsTied (record { walks = J.walks; most = J.most; found = J.found; kept = J.kept })
-        (shown_at K.told K.fuse K.own K.faults K.quiet K.schedule replica)
+        (shown_at K.told K.fuse K.own K.faults K.quiet K.schedule replica.value)
         (items_at K.told K.fuse K.own K.faults K.quiet K.schedule log.items) },
-    ghost right: { IfSome taker (λ end. AreRight J.found replica.inbox.items) } by { Right-prop taker J.found replica.inbox.items },
+    ghost right: { IfSome taker (λ end. AreRight J.found replica.value.inbox.items) } by { Right-prop taker J.found replica.value.inbox.items },
 }
 
 impl<K: Keeper, J: Naming> Story for Stored<K, J> {

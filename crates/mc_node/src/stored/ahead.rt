@@ -37,7 +37,8 @@ impl<K: Keeper, J: Naming> Stored<K, J> {
         ensures fits { All (JobFits J.found J.kept) ahead.new.items }
         ensures alone { result ≡ Ok None → ahead.new.items ≡ [] }
         ensures does { NextsAhead limit result ahead.new.items (items K.Keeper self.old.log.items)
-            (shown K.Keeper self.old.replica) (items K.Keeper self.new.log.items) (shown K.Keeper self.new.replica) }
+            (shown K.Keeper self.old.replica.value) (items K.Keeper self.new.log.items)
+            (shown K.Keeper self.new.replica.value) }
     {
         match self.next_job(alloc, limit, wait) {
             Ok(Some(job)) => {
@@ -58,7 +59,8 @@ impl<K: Keeper, J: Naming> Stored<K, J> {
         ensures extends { Begins self.old.log.items self.new.log.items }
         ensures fits { All (JobFits J.found J.kept) ahead.new.items }
         ensures does { BeginsMore limit result ahead.new.items (items K.Keeper self.old.log.items)
-            (shown K.Keeper self.old.replica) (items K.Keeper self.new.log.items) (shown K.Keeper self.new.replica) }
+            (shown K.Keeper self.old.replica.value) (items K.Keeper self.new.log.items)
+            (shown K.Keeper self.new.replica.value) }
     {
         let count = self.share(ahead);
         for _ in 0..count {
@@ -73,10 +75,10 @@ impl<K: Keeper, J: Naming> Stored<K, J> {
 
     // Whether there was no job, and blocks are in flight elsewhere.
     pub(crate) fn is_busy(&self, asked: &Result<Option<Job>, ShopError>) -> bool
-        ensures busy { result ≡ true → (asked.now ≡ Ok None) × (self.now.replica.stopped ≡ false)
-            × (0 < length (wanted self.now.replica.queue).flight) }
-        ensures idle { result ≡ false → asked.now ≡ Ok None → self.now.replica.stopped ≡ false →
-            length (wanted self.now.replica.queue).flight ≡ 0 }
+        ensures busy { result ≡ true → (asked.now ≡ Ok None) × (self.now.replica.value.stopped ≡ false)
+            × (0 < length (wanted self.now.replica.value.queue).flight) }
+        ensures idle { result ≡ false → asked.now ≡ Ok None → self.now.replica.value.stopped ≡ false →
+            length (wanted self.now.replica.value.queue).flight ≡ 0 }
     {
         match asked {
             Ok(None) => match self.replica.report() {

@@ -16,13 +16,13 @@ impl<K: Keeper, J: Naming> Stored<K, J> {
     // Begins a call of a replica that runs: takes the memory of an entry. Its number of processed blocks, at most
     // `u64::MAX`, where the keeper tells.
     pub(crate) fn begin(&mut self) -> Result<u64, CoreError>
-        ensures replica { self.new.replica ≡ self.old.replica }
+        ensures replica { self.new.replica.value ≡ self.old.replica.value }
         ensures log { self.new.log.items ≡ self.old.log.items }
         ensures room { OnOk result (vec_len self.new.log < vec_capacity self.new.log) }
-        ensures runs { OnOk result (self.new.replica.stopped ≡ false) }
-        ensures length { IfOk result (λ count. IfSome (K.told self.new.replica.keeper) (λ kept.
+        ensures runs { OnOk result (self.new.replica.value.stopped ≡ false) }
+        ensures length { IfOk result (λ count. IfSome (K.told self.new.replica.value.keeper) (λ kept.
             count ≡ capped (length kept.order))) }
-        ensures refused { IfErr result (λ error. BeginsNot self.old.replica.stopped error) }
+        ensures refused { IfErr result (λ error. BeginsNot self.old.replica.value.stopped error) }
         ensures seen { IfErr result DecidesAlone }
     {
         match self.replica.report() {

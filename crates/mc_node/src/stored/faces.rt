@@ -26,8 +26,9 @@ impl<K: Keeper, J: Naming> Stored<K, J> {
         alloc: Global,
         face: &mut FaceWriter<X>,
     ) -> Result<Seen<u64>, CoreError>
-        requires begins { IfSome (K.told self.old.replica.keeper) (λ kept. Starts (processed kept) face.old.list) }
-        requires tells { X.exact ≡ true → is_some (K.told self.old.replica.keeper) ≡ true }
+        requires begins { IfSome (K.told self.old.replica.value.keeper) (λ kept.
+            Starts (processed kept) face.old.list) }
+        requires tells { X.exact ≡ true → is_some (K.told self.old.replica.value.keeper) ≡ true }
         ensures extends { Begins self.old.log.items self.new.log.items }
         ensures does { ReadDoes (λ kept count. face.new.list ≡ processed kept) result
             (items K.Keeper self.old.log.items) (items K.Keeper self.new.log.items) }

@@ -24,7 +24,8 @@ impl<K: Keeper, J: Naming> Stored<K, J> {
         alloc: Global,
         feed: &mut Feed<H>,
     ) -> Result<Option<u64>, CoreError>
-        requires begins { IfSome (K.told self.old.replica.keeper) (λ kept. IsFed H.taken (processed kept) feed.old) }
+        requires begins { IfSome (K.told self.old.replica.value.keeper) (λ kept.
+            IsFed H.taken (processed kept) feed.old) }
         ensures extends { Begins self.old.log.items self.new.log.items }
         ensures does { PassDoes H.taken feed.old feed.new result (items K.Keeper self.old.log.items)
             (items K.Keeper self.new.log.items) }

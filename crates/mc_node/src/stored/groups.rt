@@ -45,16 +45,16 @@ impl<K: Keeper, J: Naming> Stored<K, J> {
     // of a halt, and that of the inbox. The number of processed blocks, at most `u64::MAX`, where the keeper tells.
     pub(crate) fn begin_group(&mut self) -> Result<u64, CoreError>
         ensures log { self.new.log.items ≡ self.old.log.items }
-        ensures shows { shown K.Keeper self.new.replica ≡ shown K.Keeper self.old.replica }
+        ensures shows { shown K.Keeper self.new.replica.value ≡ shown K.Keeper self.old.replica.value }
         ensures relay { self.new.taker ≡ self.old.taker }
-        ensures inbox { self.new.replica.inbox.items ≡ self.old.replica.inbox.items }
-        ensures more { self.old.replica.inbox.room ≤ self.new.replica.inbox.room }
+        ensures inbox { self.new.replica.value.inbox.items ≡ self.old.replica.value.inbox.items }
+        ensures more { self.old.replica.value.inbox.room ≤ self.new.replica.value.inbox.room }
         ensures entries { OnOk result (vec_len self.new.log + 65 ≤ vec_capacity self.new.log) }
-        ensures room { OnOk result (64 ≤ self.new.replica.inbox.room) }
-        ensures runs { OnOk result (self.new.replica.stopped ≡ false) }
-        ensures length { IfOk result (λ count. IfSome (K.told self.new.replica.keeper) (λ kept.
+        ensures room { OnOk result (64 ≤ self.new.replica.value.inbox.room) }
+        ensures runs { OnOk result (self.new.replica.value.stopped ≡ false) }
+        ensures length { IfOk result (λ count. IfSome (K.told self.new.replica.value.keeper) (λ kept.
             count ≡ capped (length kept.order))) }
-        ensures refused { IfErr result (λ error. BeginsNot self.old.replica.stopped error) }
+        ensures refused { IfErr result (λ error. BeginsNot self.old.replica.value.stopped error) }
     {
         let processed = match self.replica.report() {
             Ok(report) => report.processed,
@@ -73,29 +73,29 @@ impl<K: Keeper, J: Naming> Stored<K, J> {
     // Makes room for 64 blocks in the inbox.
     fn reserve_inbox(&mut self) -> Result<(), CoreError>
         ensures log { self.new.log ≡ self.old.log }
-        ensures shows { shown K.Keeper self.new.replica ≡ shown K.Keeper self.old.replica }
-        ensures keeper { self.new.replica.keeper ≡ self.old.replica.keeper }
+        ensures shows { shown K.Keeper self.new.replica.value ≡ shown K.Keeper self.old.replica.value }
+        ensures keeper { self.new.replica.value.keeper ≡ self.old.replica.value.keeper }
         ensures relay { self.new.taker ≡ self.old.taker }
-        ensures inbox { self.new.replica.inbox.items ≡ self.old.replica.inbox.items }
-        ensures more { self.old.replica.inbox.room ≤ self.new.replica.inbox.room }
-        ensures room { OnOk result (64 ≤ self.new.replica.inbox.room) }
-        ensures refused { IfErr result (λ error. BeginsNot self.old.replica.stopped error) }
+        ensures inbox { self.new.replica.value.inbox.items ≡ self.old.replica.value.inbox.items }
+        ensures more { self.old.replica.value.inbox.room ≤ self.new.replica.value.inbox.room }
+        ensures room { OnOk result (64 ≤ self.new.replica.value.inbox.room) }
+        ensures refused { IfErr result (λ error. BeginsNot self.old.replica.value.stopped error) }
     {
         self.replica.inbox_reserve()
     }
 
     // Moves what was pushed into the inbox, until the relay is empty or the inbox full.
     pub(crate) fn fill<W: Wait>(&mut self, wait: &W)
-        requires room { 64 ≤ self.old.replica.inbox.room }
+        requires room { 64 ≤ self.old.replica.value.inbox.room }
         ensures log { self.new.log ≡ self.old.log }
-        ensures shows { shown K.Keeper self.new.replica ≡ shown K.Keeper self.old.replica }
-        ensures keeper { self.new.replica.keeper ≡ self.old.replica.keeper }
-        ensures room { 64 ≤ self.new.replica.inbox.room }
+        ensures shows { shown K.Keeper self.new.replica.value ≡ shown K.Keeper self.old.replica.value }
+        ensures keeper { self.new.replica.value.keeper ≡ self.old.replica.value.keeper }
+        ensures room { 64 ≤ self.new.replica.value.inbox.room }
         ensures relay { is_some self.new.taker ≡ is_some self.old.taker }
-        ensures moves { Moves self.old.taker self.new.taker self.old.replica.inbox.items []
-            self.new.replica.inbox.items }
+        ensures moves { Moves self.old.taker self.new.taker self.old.replica.value.inbox.items []
+            self.new.replica.value.inbox.items }
         ensures emptied { is_some self.old.taker ≡ true →
-            HasEmptied self.old.taker self.new.taker self.new.replica.inbox.items }
+            HasEmptied self.old.taker self.new.taker self.new.replica.value.inbox.items }
     {
         for moved in 0..GROUP {
             if !self.move_one(wait) {
@@ -107,26 +107,26 @@ impl<K: Keeper, J: Naming> Stored<K, J> {
     // Whether there is a relay, and a place for a block in the inbox.
     pub(crate) fn has_place(&self) -> bool
         ensures relay { result ≡ true → is_some self.now.taker ≡ true }
-        ensures left { result ≡ true → length self.now.replica.inbox.items < 64 }
-        ensures place { is_some self.now.taker ≡ true → length self.now.replica.inbox.items < 64 → result ≡ true }
+        ensures left { result ≡ true → length self.now.replica.value.inbox.items < 64 }
+        ensures place { is_some self.now.taker ≡ true → length self.now.replica.value.inbox.items < 64 → result ≡ true }
     {
         self.has_relay() && self.replica.inbox_len() < GROUP
     }
 
     // Moves the block that was pushed first into the inbox. Whether there was one, and room for it.
     fn move_one<W: Wait>(&mut self, wait: &W) -> bool
-        requires room { 64 ≤ self.old.replica.inbox.room }
+        requires room { 64 ≤ self.old.replica.value.inbox.room }
         ensures log { self.new.log ≡ self.old.log }
-        ensures shows { shown K.Keeper self.new.replica ≡ shown K.Keeper self.old.replica }
-        ensures keeper { self.new.replica.keeper ≡ self.old.replica.keeper }
-        ensures room { 64 ≤ self.new.replica.inbox.room }
+        ensures shows { shown K.Keeper self.new.replica.value ≡ shown K.Keeper self.old.replica.value }
+        ensures keeper { self.new.replica.value.keeper ≡ self.old.replica.value.keeper }
+        ensures room { 64 ≤ self.new.replica.value.inbox.room }
         ensures relay { is_some self.new.taker ≡ is_some self.old.taker }
-        ensures moves { Moves self.old.taker self.new.taker self.old.replica.inbox.items []
-            self.new.replica.inbox.items }
+        ensures moves { Moves self.old.taker self.new.taker self.old.replica.value.inbox.items []
+            self.new.replica.value.inbox.items }
         ensures emptied { result ≡ false → is_some self.old.taker ≡ true →
-            HasEmptied self.old.taker self.new.taker self.new.replica.inbox.items }
+            HasEmptied self.old.taker self.new.taker self.new.replica.value.inbox.items }
         ensures longer { result ≡ true →
-            length self.old.replica.inbox.items < length self.new.replica.inbox.items }
+            length self.old.replica.value.inbox.items < length self.new.replica.value.inbox.items }
     {
         if self.replica.inbox_len() >= GROUP {
             return false;
@@ -141,7 +141,7 @@ impl<K: Keeper, J: Naming> Stored<K, J> {
     // The block that was pushed first, where there is one.
     pub(crate) fn pop<W: Wait>(&mut self, wait: &W) -> Option<Verified>
         ensures log { self.new.log ≡ self.old.log }
-        ensures replica { self.new.replica ≡ self.old.replica }
+        ensures replica { self.new.replica.value ≡ self.old.replica.value }
         ensures relay { is_some self.new.taker ≡ is_some self.old.taker }
         ensures right { IfSome result (IsRight J.found) }
         ensures takes { PopsOne result self.old.taker self.new.taker }
@@ -154,15 +154,15 @@ impl<K: Keeper, J: Naming> Stored<K, J> {
 
     // Adds a block to the inbox, in which there is room.
     pub(crate) fn add(&mut self, item: Verified)
-        requires room { 64 ≤ self.old.replica.inbox.room }
-        requires left { length self.old.replica.inbox.items < 64 }
+        requires room { 64 ≤ self.old.replica.value.inbox.room }
+        requires left { length self.old.replica.value.inbox.items < 64 }
         requires right { IsRight J.found item }
         ensures log { self.new.log ≡ self.old.log }
-        ensures shows { shown K.Keeper self.new.replica ≡ shown K.Keeper self.old.replica }
-        ensures keeper { self.new.replica.keeper ≡ self.old.replica.keeper }
-        ensures room { 64 ≤ self.new.replica.inbox.room }
+        ensures shows { shown K.Keeper self.new.replica.value ≡ shown K.Keeper self.old.replica.value }
+        ensures keeper { self.new.replica.value.keeper ≡ self.old.replica.value.keeper }
+        ensures room { 64 ≤ self.new.replica.value.inbox.room }
         ensures relay { self.new.taker ≡ self.old.taker }
-        ensures added { self.new.replica.inbox.items ≡ self.old.replica.inbox.items ++ as_stored item ∷ [] }
+        ensures added { self.new.replica.value.inbox.items ≡ self.old.replica.value.inbox.items ++ as_stored item ∷ [] }
     {
         match self.replica.inbox_add(item) {
             Ok(()) => {}
@@ -174,8 +174,8 @@ impl<K: Keeper, J: Naming> Stored<K, J> {
     pub(crate) fn give_inbox_up(&mut self)
         requires sealed { is_sealed_log self.old.log.items ≡ true }
         ensures log { self.new.log.items ≡ self.old.log.items }
-        ensures empty { self.new.replica.stopped ≡ false → is_some self.new.taker ≡ true →
-            self.new.replica.inbox.items ≡ [] }
+        ensures empty { self.new.replica.value.stopped ≡ false → is_some self.new.taker ≡ true →
+            self.new.replica.value.inbox.items ≡ [] }
         ensures relay { self.new.taker ≡ self.old.taker }
     {
         kept_is_durable();
@@ -200,22 +200,24 @@ impl<K: Keeper, J: Naming> Stored<K, J> {
         requires sealed { is_sealed_log self.old.log.items ≡ true }
         requires limit { IsUnder J.most limit }
         requires below { processed < limit }
-        requires count { IfSome (K.told self.old.replica.keeper) (λ kept. processed ≡ capped (length kept.order)) }
-        requires runs { self.old.replica.stopped ≡ false }
+        requires count { IfSome (K.told self.old.replica.value.keeper) (λ kept.
+            processed ≡ capped (length kept.order)) }
+        requires runs { self.old.replica.value.stopped ≡ false }
         requires entries { vec_len self.old.log + 65 ≤ vec_capacity self.old.log }
         requires relay { is_some self.old.taker ≡ true }
         ensures extends { Begins self.old.log.items self.new.log.items }
-        ensures does { TakesGroup limit processed result self.old.replica.inbox.items self.new.replica.inbox.items
-            (items K.Keeper self.old.log.items) (shown K.Keeper self.old.replica) (items K.Keeper self.new.log.items)
-            (shown K.Keeper self.new.replica) }
+        ensures does { TakesGroup limit processed result self.old.replica.value.inbox.items
+            self.new.replica.value.inbox.items (items K.Keeper self.old.log.items)
+            (shown K.Keeper self.old.replica.value) (items K.Keeper self.new.log.items)
+            (shown K.Keeper self.new.replica.value) }
         ensures commits { IfOk result (AddsFetched is_of_fetched self.old.log.items self.new.log.items) }
         ensures few { IfOk result (λ count. count ≤ 64) }
-        ensures left { OnOk result (length self.new.replica.inbox.items < 64) }
-        ensures room { self.new.replica.inbox.room ≡ self.old.replica.inbox.room }
+        ensures left { OnOk result (length self.new.replica.value.inbox.items < 64) }
+        ensures room { self.new.replica.value.inbox.room ≡ self.old.replica.value.inbox.room }
         ensures error { IfErr result IsBroken }
-        ensures runs { OnOk result (self.new.replica.stopped ≡ false) }
+        ensures runs { OnOk result (self.new.replica.value.stopped ≡ false) }
         ensures relay { self.new.taker ≡ self.old.taker }
-        ensures more { IfErr result (λ error. keeper_fails result ≡ false → self.new.replica.stopped ≡ false) }
+        ensures more { IfErr result (λ error. keeper_fails result ≡ false → self.new.replica.value.stopped ≡ false) }
     {
         match self.commit_group(alloc, processed, limit) {
             Ok(grouped) => {
@@ -236,21 +238,23 @@ impl<K: Keeper, J: Naming> Stored<K, J> {
         requires sealed { is_sealed_log self.old.log.items ≡ true }
         requires limit { IsUnder J.most limit }
         requires below { processed < limit }
-        requires count { IfSome (K.told self.old.replica.keeper) (λ kept. processed ≡ capped (length kept.order)) }
-        requires runs { self.old.replica.stopped ≡ false }
+        requires count { IfSome (K.told self.old.replica.value.keeper) (λ kept.
+            processed ≡ capped (length kept.order)) }
+        requires runs { self.old.replica.value.stopped ≡ false }
         requires entries { vec_len self.old.log + 65 ≤ vec_capacity self.old.log }
         requires relay { is_some self.old.taker ≡ true }
         ensures extends { Begins self.old.log.items self.new.log.items }
-        ensures does { CommitsGroup limit processed result self.old.replica.inbox.items self.new.replica.inbox.items
-            (items K.Keeper self.old.log.items) (shown K.Keeper self.old.replica) (items K.Keeper self.new.log.items)
-            (shown K.Keeper self.new.replica) }
+        ensures does { CommitsGroup limit processed result self.old.replica.value.inbox.items
+            self.new.replica.value.inbox.items (items K.Keeper self.old.log.items)
+            (shown K.Keeper self.old.replica.value) (items K.Keeper self.new.log.items)
+            (shown K.Keeper self.new.replica.value) }
         ensures log { OnOk result (self.new.log.items ≡ self.old.log.items) }
         ensures entries { IfOk result (λ grouped. vec_len self.new.log + grouped.processed ≤ vec_capacity self.new.log) }
         ensures few { IfOk result (λ grouped. grouped.processed ≤ 64) }
-        ensures left { OnOk result (length self.new.replica.inbox.items < 64) }
-        ensures room { self.new.replica.inbox.room ≡ self.old.replica.inbox.room }
+        ensures left { OnOk result (length self.new.replica.value.inbox.items < 64) }
+        ensures room { self.new.replica.value.inbox.room ≡ self.old.replica.value.inbox.room }
         ensures error { IfErr result IsBroken }
-        ensures runs { keeper_fails result ≡ false → self.new.replica.stopped ≡ false }
+        ensures runs { keeper_fails result ≡ false → self.new.replica.value.stopped ≡ false }
         ensures relay { self.new.taker ≡ self.old.taker }
     {
         kept_is_durable();

@@ -41,8 +41,9 @@ impl<K: Keeper, J: Naming> Stored<K, J> {
         requires limit { IsUnder J.most limit }
         ensures extends { Begins self.old.log.items self.new.log.items }
         ensures job { IfOk result (NextFits J.found J.kept) }
-        ensures does { NextsAt limit result (items K.Keeper self.old.log.items) (shown_of K.Keeper self.old.replica)
-            (items K.Keeper self.new.log.items) (shown_of K.Keeper self.new.replica) }
+        ensures does { NextsAt limit result (items K.Keeper self.old.log.items)
+            (shown_of K.Keeper self.old.replica.value) (items K.Keeper self.new.log.items)
+            (shown_of K.Keeper self.new.replica.value) }
     {
         match self.first_job(alloc, limit) {
             Ok(Some(job)) => Ok(Some(job)),
@@ -63,8 +64,8 @@ impl<K: Keeper, J: Naming> Stored<K, J> {
         ensures extends { Begins self.old.log.items self.new.log.items }
         ensures job { IfOk result (NextFits J.found J.kept) }
         ensures does { AfterNone limit result (items K.Keeper self.old.log.items)
-            (shown_of K.Keeper self.old.replica) (items K.Keeper self.new.log.items)
-            (shown_of K.Keeper self.new.replica) }
+            (shown_of K.Keeper self.old.replica.value) (items K.Keeper self.new.log.items)
+            (shown_of K.Keeper self.new.replica.value) }
     {
         match self.gather(alloc, limit, wait) {
             Ok(_) => self.first_job(alloc, limit),
@@ -77,8 +78,9 @@ impl<K: Keeper, J: Naming> Stored<K, J> {
         requires sealed { is_sealed_log self.old.log.items ≡ true }
         ensures extends { Begins self.old.log.items self.new.log.items }
         ensures job { IfOk result (NextFits J.found J.kept) }
-        ensures does { NextAt limit result (items K.Keeper self.old.log.items) (shown_of K.Keeper self.old.replica)
-            (items K.Keeper self.new.log.items) (shown_of K.Keeper self.new.replica) }
+        ensures does { NextAt limit result (items K.Keeper self.old.log.items)
+            (shown_of K.Keeper self.old.replica.value) (items K.Keeper self.new.log.items)
+            (shown_of K.Keeper self.new.replica.value) }
     {
         kept_is_durable();
         if self.is_stopped() {
@@ -111,8 +113,8 @@ impl<K: Keeper, J: Naming> Stored<K, J> {
         requires fits { FoundFits J.found job.cid found }
         ensures extends { Begins self.old.log.items self.new.log.items }
         ensures does { HandsAt limit job.cid found result (items K.Keeper self.old.log.items)
-            (shown_of K.Keeper self.old.replica) (items K.Keeper self.new.log.items)
-            (shown_of K.Keeper self.new.replica) }
+            (shown_of K.Keeper self.old.replica.value) (items K.Keeper self.new.log.items)
+            (shown_of K.Keeper self.new.replica.value) }
         ensures commits { IfCommitted result (AddsFetched is_of_fetched self.old.log.items self.new.log.items) }
         ensures queued { IfQueued result (λ word. ⊥) }
         ensures blocks { IfCommitted result (λ count. IsBlock job.cid (found_in found)) }
@@ -144,8 +146,8 @@ impl<K: Keeper, J: Naming> Stored<K, J> {
         requires sealed { is_sealed_log self.old.log.items ≡ true }
         ensures extends { Begins self.old.log.items self.new.log.items }
         ensures does { (found : FoundOf) → HandsAt limit job.cid found (Err result) (items K.Keeper self.old.log.items)
-            (shown_of K.Keeper self.old.replica) (items K.Keeper self.new.log.items)
-            (shown_of K.Keeper self.new.replica) }
+            (shown_of K.Keeper self.old.replica.value) (items K.Keeper self.new.log.items)
+            (shown_of K.Keeper self.new.replica.value) }
     {
         if self.is_stopped() {
             return ShopError::Stopped;
@@ -166,13 +168,13 @@ impl<K: Keeper, J: Naming> Stored<K, J> {
         requires sealed { is_sealed_log self.old.log.items ≡ true }
         ensures log { self.new.log.items ≡ self.old.log.items }
         ensures extends { Begins self.old.log.items self.new.log.items }
-        ensures goes { HappensTo K.Keeper (back_events job.cid) self.old.replica self.new.replica }
-        ensures keeps { Continues K.Keeper false self.old.replica self.new.replica }
-        ensures rest { RestSame self.old.replica self.new.replica }
-        ensures wants { BackWants job.cid self.old.replica.stopped (shown self.old.replica.queue)
-            (shown self.new.replica.queue) }
-        ensures does { BackAt job.cid (items K.Keeper self.old.log.items) (shown_of K.Keeper self.old.replica)
-            (items K.Keeper self.new.log.items) (shown_of K.Keeper self.new.replica) }
+        ensures goes { HappensTo K.Keeper (back_events job.cid) self.old.replica.value self.new.replica.value }
+        ensures keeps { Continues K.Keeper false self.old.replica.value self.new.replica.value }
+        ensures rest { RestSame self.old.replica.value self.new.replica.value }
+        ensures wants { BackWants job.cid self.old.replica.value.stopped (shown self.old.replica.value.queue)
+            (shown self.new.replica.value.queue) }
+        ensures does { BackAt job.cid (items K.Keeper self.old.log.items) (shown_of K.Keeper self.old.replica.value)
+            (items K.Keeper self.new.log.items) (shown_of K.Keeper self.new.replica.value) }
         ensures relay { self.new.taker ≡ self.old.taker }
     {
         kept_is_durable();
@@ -185,7 +187,7 @@ impl<K: Keeper, J: Naming> Stored<K, J> {
 
     // Whether the keeper has failed.
     pub(crate) fn is_stopped(&self) -> bool
-        ensures { result ≡ self.now.replica.stopped }
+        ensures { result ≡ self.now.replica.value.stopped }
     {
         match self.replica.report() {
             Ok(_) => false,

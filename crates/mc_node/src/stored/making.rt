@@ -34,7 +34,7 @@ impl<K: Keeper, J: Naming> Stored<K, J> {
           kept = J.kept;
         })
             (replica_state K.told K.fuse replica) }
-        ensures ok { IfOk result (λ stored. stored.replica ≡ replica) }
+        ensures ok { IfOk result (λ stored. stored.replica.value ≡ replica) }
         ensures root { IfOk result (λ stored. IsRootLog sealed replica stored.log.items) }
         ensures err { IfErr result (λ left. left ≡ replica) }
     {
@@ -44,6 +44,13 @@ impl<K: Keeper, J: Naming> Stored<K, J> {
         };
         let entry = about(Note::Root { sealed }, &replica);
         add(&mut log, entry);
+        let replica = match Box::new(alloc, replica) {
+            Ok(replica) => replica,
+            Err(failed) => {
+                drop(log);
+                return Err(failed.value);
+            }
+        };
         Ok(Stored {
             replica,
             log,
@@ -54,7 +61,7 @@ impl<K: Keeper, J: Naming> Stored<K, J> {
 
     // The replica alone.
     pub(crate) fn into_replica(self) -> Replica<K>
-        ensures same { result ≡ self.replica }
+        ensures same { result ≡ self.replica.value }
         ensures tied { IsTied (record { walks = J.walks; most = J.most; found = J.found; kept = J.kept })
             (shown K.Keeper result) (items K.Keeper self.log.items) }
     {
@@ -66,6 +73,6 @@ impl<K: Keeper, J: Naming> Stored<K, J> {
         } = self;
         drop(log);
         drop(taker);
-        replica
+        Box::into_inner(replica)
     }
 }

@@ -34,13 +34,14 @@ impl<K: Keeper, J: Naming> Stored<K, J> {
         requires sealed { is_sealed_log self.old.log.items ≡ true }
         requires limit { IsUnder J.most limit }
         ensures extends { Begins self.old.log.items self.new.log.items }
-        ensures does { GathersIn limit result self.old.taker self.new.taker self.old.replica.inbox.items
-            self.new.replica.inbox.items (items K.Keeper self.old.log.items) (shown K.Keeper self.old.replica)
-            (items K.Keeper self.new.log.items) (shown K.Keeper self.new.replica) }
+        ensures does { GathersIn limit result self.old.taker self.new.taker self.old.replica.value.inbox.items
+            self.new.replica.value.inbox.items (items K.Keeper self.old.log.items)
+            (shown K.Keeper self.old.replica.value) (items K.Keeper self.new.log.items)
+            (shown K.Keeper self.new.replica.value) }
         ensures commits { IfOk result (AddsFetched is_of_fetched self.old.log.items self.new.log.items) }
-        ensures room { OnOk result (64 ≤ self.new.replica.inbox.room) }
-        ensures left { OnOk result (is_some self.new.taker ≡ true → length self.new.replica.inbox.items < 64) }
-        ensures runs { OnOk result (self.new.replica.stopped ≡ false) }
+        ensures room { OnOk result (64 ≤ self.new.replica.value.inbox.room) }
+        ensures left { OnOk result (is_some self.new.taker ≡ true → length self.new.replica.value.inbox.items < 64) }
+        ensures runs { OnOk result (self.new.replica.value.stopped ≡ false) }
         ensures noted { empties self.old.taker ≤ empties self.new.taker }
         ensures relay { is_some self.new.taker ≡ is_some self.old.taker }
         ensures few { IfOk result (λ count. count ≤ 64) }
@@ -72,22 +73,24 @@ impl<K: Keeper, J: Naming> Stored<K, J> {
         requires sealed { is_sealed_log self.old.log.items ≡ true }
         requires limit { IsUnder J.most limit }
         requires below { processed < limit }
-        requires count { IfSome (K.told self.old.replica.keeper) (λ kept. processed ≡ capped (length kept.order)) }
-        requires runs { self.old.replica.stopped ≡ false }
+        requires count { IfSome (K.told self.old.replica.value.keeper) (λ kept.
+            processed ≡ capped (length kept.order)) }
+        requires runs { self.old.replica.value.stopped ≡ false }
         requires entries { vec_len self.old.log + 65 ≤ vec_capacity self.old.log }
-        requires room { 64 ≤ self.old.replica.inbox.room }
+        requires room { 64 ≤ self.old.replica.value.inbox.room }
         requires relay { is_some self.old.taker ≡ true }
         ensures extends { Begins self.old.log.items self.new.log.items }
-        ensures does { TakesRound limit processed result self.old.taker self.new.taker self.old.replica.inbox.items
-            self.new.replica.inbox.items (items K.Keeper self.old.log.items) (shown K.Keeper self.old.replica)
-            (items K.Keeper self.new.log.items) (shown K.Keeper self.new.replica) }
+        ensures does { TakesRound limit processed result self.old.taker self.new.taker
+            self.old.replica.value.inbox.items self.new.replica.value.inbox.items (items K.Keeper self.old.log.items)
+            (shown K.Keeper self.old.replica.value) (items K.Keeper self.new.log.items)
+            (shown K.Keeper self.new.replica.value) }
         ensures commits { IfOk result (AddsFetched is_of_fetched self.old.log.items self.new.log.items) }
         ensures noted { empties self.old.taker ≤ empties self.new.taker }
         ensures few { IfOk result (λ count. count ≤ 64) }
-        ensures left { OnOk result (length self.new.replica.inbox.items < 64) }
-        ensures room { 64 ≤ self.new.replica.inbox.room }
+        ensures left { OnOk result (length self.new.replica.value.inbox.items < 64) }
+        ensures room { 64 ≤ self.new.replica.value.inbox.room }
         ensures error { IfErr result IsBroken }
-        ensures runs { OnOk result (self.new.replica.stopped ≡ false) }
+        ensures runs { OnOk result (self.new.replica.value.stopped ≡ false) }
         ensures relay { is_some self.new.taker ≡ true }
     {
         self.fill(wait);
@@ -105,14 +108,15 @@ impl<K: Keeper, J: Naming> Stored<K, J> {
         requires sealed { is_sealed_log self.old.log.items ≡ true }
         requires limit { IsUnder J.most limit }
         ensures extends { Begins self.old.log.items self.new.log.items }
-        ensures does { TakesAt limit cid result (items K.Keeper self.old.log.items) (shown K.Keeper self.old.replica)
-            (items K.Keeper self.new.log.items) (shown K.Keeper self.new.replica) }
+        ensures does { TakesAt limit cid result (items K.Keeper self.old.log.items)
+            (shown K.Keeper self.old.replica.value) (items K.Keeper self.new.log.items)
+            (shown K.Keeper self.new.replica.value) }
         ensures commits { IfOk result (AddsFetched is_of_fetched self.old.log.items self.new.log.items) }
-        ensures room { OnOk result (64 ≤ self.new.replica.inbox.room) }
-        ensures left { OnOk result (is_some self.new.taker ≡ true → length self.new.replica.inbox.items < 64) }
-        ensures runs { OnOk result (self.new.replica.stopped ≡ false) }
-        ensures took { OnOk result (HasTaken limit (shown K.Keeper self.old.replica).told self.old.taker self.new.taker
-            self.old.replica.inbox.items self.new.replica.inbox.items) }
+        ensures room { OnOk result (64 ≤ self.new.replica.value.inbox.room) }
+        ensures left { OnOk result (is_some self.new.taker ≡ true → length self.new.replica.value.inbox.items < 64) }
+        ensures runs { OnOk result (self.new.replica.value.stopped ≡ false) }
+        ensures took { OnOk result (HasTaken limit (shown K.Keeper self.old.replica.value).told self.old.taker
+            self.new.taker self.old.replica.value.inbox.items self.new.replica.value.inbox.items) }
         ensures few { IfOk result (λ count. count ≤ 64) }
     {
         match self.gather(alloc, limit, wait) {
@@ -144,11 +148,12 @@ impl<K: Keeper, J: Naming> Stored<K, J> {
         requires right { IsRight J.found item }
         ensures extends { Begins self.old.log.items self.new.log.items }
         ensures does { TakesAt limit item.cid result (items K.Keeper self.old.log.items)
-            (shown K.Keeper self.old.replica) (items K.Keeper self.new.log.items) (shown K.Keeper self.new.replica) }
+            (shown K.Keeper self.old.replica.value) (items K.Keeper self.new.log.items)
+            (shown K.Keeper self.new.replica.value) }
         ensures commits { IfOk result (AddsFetched is_of_fetched self.old.log.items self.new.log.items) }
-        ensures joined { is_some self.old.taker ≡ true → length self.old.replica.inbox.items < 64 → OnOk result
-            (HasTaken limit (shown K.Keeper self.old.replica).told self.old.taker self.new.taker
-            (self.old.replica.inbox.items ++ as_stored item ∷ []) self.new.replica.inbox.items) }
+        ensures joined { is_some self.old.taker ≡ true → length self.old.replica.value.inbox.items < 64 → OnOk result
+            (HasTaken limit (shown K.Keeper self.old.replica.value).told self.old.taker self.new.taker
+            (self.old.replica.value.inbox.items ++ as_stored item ∷ []) self.new.replica.value.inbox.items) }
     {
         if self.has_place() {
             return self.take_joined(alloc, limit, item, wait);
@@ -171,13 +176,15 @@ impl<K: Keeper, J: Naming> Stored<K, J> {
         requires limit { IsUnder J.most limit }
         requires right { IsRight J.found item }
         requires relay { is_some self.old.taker ≡ true }
-        requires left { length self.old.replica.inbox.items < 64 }
+        requires left { length self.old.replica.value.inbox.items < 64 }
         ensures extends { Begins self.old.log.items self.new.log.items }
         ensures does { TakesAt limit item.cid result (items K.Keeper self.old.log.items)
-            (shown K.Keeper self.old.replica) (items K.Keeper self.new.log.items) (shown K.Keeper self.new.replica) }
+            (shown K.Keeper self.old.replica.value) (items K.Keeper self.new.log.items)
+            (shown K.Keeper self.new.replica.value) }
         ensures commits { IfOk result (AddsFetched is_of_fetched self.old.log.items self.new.log.items) }
-        ensures took { OnOk result (HasTaken limit (shown K.Keeper self.old.replica).told self.old.taker self.new.taker
-            (self.old.replica.inbox.items ++ as_stored item ∷ []) self.new.replica.inbox.items) }
+        ensures took { OnOk result (HasTaken limit (shown K.Keeper self.old.replica.value).told self.old.taker
+            self.new.taker (self.old.replica.value.inbox.items ++ as_stored item ∷ [])
+            self.new.replica.value.inbox.items) }
     {
         let cid = item.cid;
         if self.is_stopped() {
@@ -211,8 +218,8 @@ impl<K: Keeper, J: Naming> Stored<K, J> {
         requires sealed { is_sealed_log self.old.log.items ≡ true }
         requires limit { IsUnder J.most limit }
         ensures extends { Begins self.old.log.items self.new.log.items }
-        ensures empty { self.new.replica.stopped ≡ false → is_some self.new.taker ≡ true →
-            self.new.replica.inbox.items ≡ [] }
+        ensures empty { self.new.replica.value.stopped ≡ false → is_some self.new.taker ≡ true →
+            self.new.replica.value.inbox.items ≡ [] }
         ensures emptied { is_some self.old.taker ≡ true → empties self.old.taker < empties self.new.taker }
     {
         let _first = self.gather(alloc, limit, wait);
@@ -252,13 +259,14 @@ impl<K: Keeper, J: Naming> Stored<K, J> {
         requires sealed { is_sealed_log self.old.log.items ≡ true }
         requires limit { IsUnder J.most limit }
         requires right { IsRight J.found item }
-        requires room { 64 ≤ self.old.replica.inbox.room }
-        requires left { is_some self.old.taker ≡ true → length self.old.replica.inbox.items < 64 }
-        requires runs { self.old.replica.stopped ≡ false }
+        requires room { 64 ≤ self.old.replica.value.inbox.room }
+        requires left { is_some self.old.taker ≡ true → length self.old.replica.value.inbox.items < 64 }
+        requires runs { self.old.replica.value.stopped ≡ false }
         requires few { first ≤ 64 }
         ensures extends { Begins self.old.log.items self.new.log.items }
         ensures does { RunsOn limit first item.cid result (items K.Keeper self.old.log.items)
-            (shown K.Keeper self.old.replica) (items K.Keeper self.new.log.items) (shown K.Keeper self.new.replica) }
+            (shown K.Keeper self.old.replica.value) (items K.Keeper self.new.log.items)
+            (shown K.Keeper self.new.replica.value) }
         ensures commits { IfOk result (λ count. (added : ℕ) × (count ≡ first + added)
             × AddsFetched is_of_fetched self.old.log.items self.new.log.items added) }
     {
@@ -284,14 +292,15 @@ impl<K: Keeper, J: Naming> Stored<K, J> {
         requires sealed { is_sealed_log self.old.log.items ≡ true }
         requires limit { IsUnder J.most limit }
         requires right { IsRight J.found item }
-        requires room { 64 ≤ self.old.replica.inbox.room }
-        requires left { length self.old.replica.inbox.items < 64 }
+        requires room { 64 ≤ self.old.replica.value.inbox.room }
+        requires left { length self.old.replica.value.inbox.items < 64 }
         requires relay { is_some self.old.taker ≡ true }
-        requires runs { self.old.replica.stopped ≡ false }
+        requires runs { self.old.replica.value.stopped ≡ false }
         requires few { first ≤ 64 }
         ensures extends { Begins self.old.log.items self.new.log.items }
         ensures does { RunsOn limit first item.cid result (items K.Keeper self.old.log.items)
-            (shown K.Keeper self.old.replica) (items K.Keeper self.new.log.items) (shown K.Keeper self.new.replica) }
+            (shown K.Keeper self.old.replica.value) (items K.Keeper self.new.log.items)
+            (shown K.Keeper self.new.replica.value) }
         ensures commits { IfOk result (λ count. (added : ℕ) × (count ≡ first + added)
             × AddsFetched is_of_fetched self.old.log.items self.new.log.items added) }
     {

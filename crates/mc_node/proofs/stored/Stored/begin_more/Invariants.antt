@@ -8,9 +8,9 @@ use Rattle.mc_node.proofs.stored.Stored.begin_more.Given as goal
 abbrev pub invariant-loop : goal.invariant-loop
 invariant-loop g l = record {
   begins : BeginsAll l.fn.limit l.ahead.items (items_at g.K.Keeper.told g.K.Keeper.fuse g.K.Keeper.own g.K.Counted.faults g.K.Keeper.quiet g.K.Keeper.schedule l.fn.self.log.items)
-      (shown_at g.K.Keeper.told g.K.Keeper.fuse g.K.Keeper.own g.K.Counted.faults g.K.Keeper.quiet g.K.Keeper.schedule l.fn.self.replica)
+      (shown_at g.K.Keeper.told g.K.Keeper.fuse g.K.Keeper.own g.K.Counted.faults g.K.Keeper.quiet g.K.Keeper.schedule l.fn.self.replica.value)
       (items_at g.K.Keeper.told g.K.Keeper.fuse g.K.Keeper.own g.K.Counted.faults g.K.Keeper.quiet g.K.Keeper.schedule l.self.log.items)
-      (shown_at g.K.Keeper.told g.K.Keeper.fuse g.K.Keeper.own g.K.Counted.faults g.K.Keeper.quiet g.K.Keeper.schedule l.self.replica);
+      (shown_at g.K.Keeper.told g.K.Keeper.fuse g.K.Keeper.own g.K.Counted.faults g.K.Keeper.quiet g.K.Keeper.schedule l.self.replica.value);
   extends : Begins l.fn.self.log.items l.self.log.items;
   sealed : is_sealed_log l.self.log.items ≡ true;
   fits : All (JobFits g.J.Naming.found g.J.Naming.kept) l.ahead.items;

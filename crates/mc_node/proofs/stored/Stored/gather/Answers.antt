@@ -18,12 +18,12 @@ returns-in-Err-clause-does g c = in_nothing c.args.limit (Err Memory) _ _ _ _ _ 
 
 pub returns-then-processed-limit-clause-does : goal.returns-then-processed-limit-clause-does
 returns-then-processed-limit-clause-does g c = in_nothing c.args.limit (Err Spent) _ _ _ _ _ _ _ _
-    (subst (AnswersAt c.args.limit (Err Spent)) c.in-Ok.ensures.shows (at_spent c.args.limit c.in-Ok.processed (shown_at g.K.Keeper.told g.K.Keeper.fuse g.K.Keeper.own g.K.Counted.faults g.K.Keeper.quiet g.K.Keeper.schedule c.begin_group.new.self.replica) c.in-Ok.ensures.runs (omega (arith, c.if-processed-limit.true)) c.in-Ok.ensures.length))
+    (subst (AnswersAt c.args.limit (Err Spent)) c.in-Ok.ensures.shows (at_spent c.args.limit c.in-Ok.processed (shown_at g.K.Keeper.told g.K.Keeper.fuse g.K.Keeper.own g.K.Counted.faults g.K.Keeper.quiet g.K.Keeper.schedule c.begin_group.new.self.replica.value) c.in-Ok.ensures.runs (omega (arith, c.if-processed-limit.true)) c.in-Ok.ensures.length))
     c.args.self.now.tied.halted (ap (items_at g.K.Keeper.told g.K.Keeper.fuse g.K.Keeper.own g.K.Counted.faults g.K.Keeper.quiet g.K.Keeper.schedule) c.in-Ok.ensures.log) c.in-Ok.ensures.shows refl tt
 
 pub returns-then-not-has_relay-clause-does : goal.returns-then-not-has_relay-clause-does
 returns-then-not-has_relay-clause-does g c = in_nothing c.args.limit (Ok 0) _ _ _ _ _ _ _ _
-    (subst (AnswersAt c.args.limit (Ok 0)) c.in-Ok.ensures.shows (at_below c.args.limit c.in-Ok.processed 0 (shown_at g.K.Keeper.told g.K.Keeper.fuse g.K.Keeper.own g.K.Counted.faults g.K.Keeper.quiet g.K.Keeper.schedule c.begin_group.new.self.replica) c.in-Ok.ensures.runs (omega (arith, c.if-processed-limit.false)) c.in-Ok.ensures.length))
+    (subst (AnswersAt c.args.limit (Ok 0)) c.in-Ok.ensures.shows (at_below c.args.limit c.in-Ok.processed 0 (shown_at g.K.Keeper.told g.K.Keeper.fuse g.K.Keeper.own g.K.Counted.faults g.K.Keeper.quiet g.K.Keeper.schedule c.begin_group.new.self.replica.value) c.in-Ok.ensures.runs (omega (arith, c.if-processed-limit.false)) c.in-Ok.ensures.length))
     c.args.self.now.tied.halted (ap (items_at g.K.Keeper.told g.K.Keeper.fuse g.K.Keeper.own g.K.Counted.faults g.K.Keeper.quiet g.K.Keeper.schedule) c.in-Ok.ensures.log) c.in-Ok.ensures.shows refl (ap is_some (sym c.in-Ok.ensures.relay) ∙ sym c.has_relay.ensures ∙ c.if-not-has_relay.true)
 
 pub returns-then-not-has_relay-clause-commits : goal.returns-then-not-has_relay-clause-commits

@@ -24,7 +24,7 @@ returns-in-Err-clause-does g c = takes_short c.args.limit c.args.item.cid _ _ _ 
 pub returns-then-processed-limit-clause-does : goal.returns-then-processed-limit-clause-does
 returns-then-processed-limit-clause-does g c = takes_spent c.args.limit c.args.item.cid _ _ _ _ _ _
     (gathers_nothing c.args.limit (Err Spent) _ _ _ _
-    (subst (AnswersAt c.args.limit (Err Spent)) c.in-Ok.ensures.shows (at_spent c.args.limit c.in-Ok.processed (shown_at g.K.Keeper.told g.K.Keeper.fuse g.K.Keeper.own g.K.Counted.faults g.K.Keeper.quiet g.K.Keeper.schedule c.begin_group.new.self.replica) c.in-Ok.ensures.runs (omega (arith, c.if-processed-limit.true)) c.in-Ok.ensures.length))
+    (subst (AnswersAt c.args.limit (Err Spent)) c.in-Ok.ensures.shows (at_spent c.args.limit c.in-Ok.processed (shown_at g.K.Keeper.told g.K.Keeper.fuse g.K.Keeper.own g.K.Counted.faults g.K.Keeper.quiet g.K.Keeper.schedule c.begin_group.new.self.replica.value) c.in-Ok.ensures.runs (omega (arith, c.if-processed-limit.true)) c.in-Ok.ensures.length))
     c.args.self.now.tied.halted (ap (items_at g.K.Keeper.told g.K.Keeper.fuse g.K.Keeper.own g.K.Counted.faults g.K.Keeper.quiet g.K.Keeper.schedule) c.in-Ok.ensures.log) c.in-Ok.ensures.shows refl)
     c.give_back-then-processed-limit.ensures.does
 

@@ -7,7 +7,7 @@ use Rattle.mc_node.proofs.node.feeds.Node+Stored+K+J.feed.Goals as goal
 
 pub feed-result-requires : goal.feed-result-requires
 feed-result-requires g c = record {
-  begins = seat_fed g.K.Keeper.told g.K.Keeper.fuse g.K.Keeper.own g.K.Counted.faults g.K.Keeper.quiet g.K.Keeper.schedule g.H.Hook.taken c.kept_is_durable.ensures.back _ c.take-held.result.value.replica _ _ _ c.args.feed.now
+  begins = seat_fed g.K.Keeper.told g.K.Keeper.fuse g.K.Keeper.own g.K.Counted.faults g.K.Keeper.quiet g.K.Keeper.schedule g.H.Hook.taken c.kept_is_durable.ensures.back _ c.take-held.result.value.replica.value _ _ _ c.args.feed.now
       c.requires.begins.rooted c.requires.begins.begins c.take-held.ensures.taken.seen c.take-held.result.value.tied c.requires.begins.feed;
 }
 
