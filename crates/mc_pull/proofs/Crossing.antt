@@ -6,7 +6,7 @@ use Rattle.mc_base.specs.declared.counted.Counted as counted
 use Rattle.mc_fetch.specs.declared.naming.Naming as naming
 use Rattle.mc_keep.specs.declared.keeper.Keeper as keeper
 use Rattle.std.below.std_alloc.proofs.vec.Vec.TheSendSync.{the_send as vec_send}
-use Rattle.std.proofs.Crossing.{frees}
+use Rattle.std.proofs.Crossing.{crosses, frees}
 use Rattle.std.proofs.option.Option.TheSendSync.{the_send as option_send}
 use Rattle.mc_relay.proofs.posts.TakerEnd.TheSendSync.{the_send as taker_send}
 use Rattle.mc_core.proofs.replica.Replica.TheSendSync.{the_send as replica_send}
@@ -21,4 +21,4 @@ module _ (K J Desk : RattleType) (k : keeper.Ghosts K.Denot Desk.Denot) (n : cou
   entry_send s t = declared_send (entry.the_type K Desk k n d) (search sendable depth 12, (search sendable depth 12, tt))
 
   pub stored_send : IsSend K → IsSend J → IsSend Desk → IsSend stored_row
-  stored_send s u t = declared_send (stored.the_type K J Desk k n d j) (search (replica_send, sendable) depth 12, (search (vec_send, entry_send, frees, sendable) depth 12, (search (option_send, taker_send, sendable) depth 12, (search sendable depth 12, tt))))
+  stored_send s u t = declared_send (stored.the_type K J Desk k n d j) (search (replica_send, crosses, sendable) depth 24, (search (vec_send, entry_send, frees, sendable) depth 12, (search (option_send, taker_send, sendable) depth 12, (search sendable depth 12, tt))))
