@@ -23,11 +23,13 @@ static const char *const TABLES =
     "CREATE TABLE element (key BLOB NOT NULL, cid BLOB NOT NULL, value BLOB NOT NULL, priority BLOB NOT NULL, PRIMARY KEY (key, cid, value));"
     "CREATE TABLE tomb (key BLOB NOT NULL, id BLOB NOT NULL, PRIMARY KEY (key, id));"
     "CREATE TABLE value (key BLOB PRIMARY KEY NOT NULL, priority BLOB NOT NULL, value BLOB NOT NULL);"
-    "INSERT INTO meta (id, layout, dirty) VALUES (1, 1, 0)";
+    "CREATE TABLE winner (key BLOB PRIMARY KEY NOT NULL, cid BLOB NOT NULL);"
+    "CREATE TABLE progress (id INTEGER PRIMARY KEY, upto BLOB NOT NULL);"
+    "INSERT INTO meta (id, layout, dirty) VALUES (1, 2, 0)";
 
 enum statement {
     BEGIN, COMMIT, HEADS, POSITION, BLOCK, HIDDEN, VALUE, LINKED, FROM, ABOVE,
-    PUT_BLOCK, PUT_MARK, PUT_LINK, PUT_ELEMENT, PUT_VALUE, DROP_HEAD, PUT_HEAD, STATEMENTS
+    PUT_BLOCK, PUT_MARK, PUT_LINK, PUT_ELEMENT, PUT_VALUE, PUT_WINNER, DROP_HEAD, PUT_HEAD, STATEMENTS
 };
 
 static const char *const TEXTS[STATEMENTS] = {
@@ -46,6 +48,7 @@ static const char *const TEXTS[STATEMENTS] = {
     "INSERT INTO link (cid) VALUES (?1)",
     "INSERT INTO element (key, cid, value, priority) VALUES (?1, ?2, ?3, ?4)",
     "INSERT INTO value (key, priority, value) VALUES (?1, ?2, ?3) ON CONFLICT (key) DO UPDATE SET priority = excluded.priority, value = excluded.value",
+    "INSERT INTO winner (key, cid) VALUES (?1, ?2) ON CONFLICT (key) DO UPDATE SET cid = excluded.cid",
     "DELETE FROM head WHERE cid = ?1",
     "INSERT INTO head (cid, height) VALUES (?1, ?2)",
 };
@@ -135,6 +138,7 @@ static void put(long first, long count, long height) {
         big_endian(first + i, value + 8);
         run(PUT_ELEMENT, 4, (struct bytes[]){a_key, a_cid, a_value, a_priority}, 0);
         run(PUT_VALUE, 3, (struct bytes[]){a_key, a_priority, a_value}, 0);
+        run(PUT_WINNER, 2, (struct bytes[]){a_key, a_cid}, 0);
     }
     if (height > 1) run(DROP_HEAD, 1, &an_old, 0);
     run(PUT_HEAD, 2, (struct bytes[]){a_cid, a_priority}, 0);

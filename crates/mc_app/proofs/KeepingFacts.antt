@@ -106,6 +106,7 @@ abbrev pub fused_members : {K D : Type 0} → Members K D → Members (Fused K) 
 fused_members k = record {
   faults = faults_in k.faults;
   told = told_in k.told;
+  layout = λ fused. k.layout fused.keeper;
   spare = λ fused. k.spare fused.keeper;
   fuse = λ fused. fused.fuse;
   own = λ fused. k.faults fused.keeper;

@@ -1,6 +1,7 @@
 -- Calls of a replica, one after another.
 use Rattle.std.proofs.Common.{◌≡◌, ◌∙◌, ap, subst, sym, refl, ℕ, Bool, true, false, ◌||◌, Option, None}
 use Rattle.mc_model.specs.Kept.{Kept}
+use Rattle.mc_model.specs.declared.layout.Layout.{Layout}
 use Rattle.mc_keep.specs.Plan.{Schedule}
 use Rattle.mc_base.specs.declared.counted.Counted as counted
 use Rattle.mc_keep.specs.declared.fuse.Fuse.{Fuse}
@@ -32,7 +33,7 @@ module _ {K D : Type 0} {g : keeper.Ghosts K D} {h : counted.Ghosts K} {i : coun
   commit_more before next = record { rest_same = rest_more before.rest_same next.rest_same; continues = continues_more before.continues next.continues }
 
   -- where only reads have come to the keeper
-  pub looks_on : {spare : K → ℕ} {failed : Bool} {old new : Replica K D g h i} → ReadsAt told fuse spare own faults quiet schedule failed old.keeper new.keeper → new.stopped ≡ (failed || old.stopped)
+  pub looks_on : {layout : K → Layout} {spare : K → ℕ} {failed : Bool} {old new : Replica K D g h i} → ReadsAt told layout fuse spare own faults quiet schedule failed old.keeper new.keeper → new.stopped ≡ (failed || old.stopped)
       → ContinuesAt told fuse own faults quiet schedule failed old new
   looks_on reads stops = record {
     keeper_goes = goes_reads reads;
@@ -55,7 +56,7 @@ module _ {K D : Type 0} {g : keeper.Ghosts K D} {h : counted.Ghosts K} {i : coun
 
   -- commits after reads, or after nothing
 
-  pub looks_first : {spare : K → ℕ} {old new : Replica K D g h i} → ReadsAt told fuse spare own faults quiet schedule false old.keeper new.keeper → new.stopped ≡ old.stopped → RestSame old new
+  pub looks_first : {layout : K → Layout} {spare : K → ℕ} {old new : Replica K D g h i} → ReadsAt told layout fuse spare own faults quiet schedule false old.keeper new.keeper → new.stopped ≡ old.stopped → RestSame old new
       → CommitKeepsAt told fuse own faults quiet schedule false old new
   looks_first reads stops rest = record { rest_same = rest; continues = looks_on reads stops }
 

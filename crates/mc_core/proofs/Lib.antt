@@ -2,6 +2,7 @@ pub mod AloneFacts
 pub mod AnswerFacts
 pub mod GroupFacts
 pub mod Keeps
+pub mod LaidFacts
 pub mod OpenFacts
 pub use Rattle.mc_plan.proofs.CallFacts
 pub use Rattle.mc_plan.proofs.EventFacts

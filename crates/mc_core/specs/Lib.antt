@@ -17,6 +17,7 @@ pub use Rattle.mc_inbox.specs.Waiting
 pub mod AnswersTo
 pub mod Exact
 pub mod Groups
+pub mod Openings
 pub mod Replica
 pub mod Reports
 pub mod Steps

@@ -8,6 +8,7 @@ ghost use Rattle.mc_model.specs.Answers.{has_value};
 ghost use Rattle.mc_model.specs.Front.{heads, is_among, same_cid};
 ghost use Rattle.mc_model.specs.Kept.{bytes_at, processed};
 ghost use Rattle.mc_model.specs.Live.{value};
+ghost use Rattle.mc_model.specs.Who.{who};
 ghost use Rattle.mc_keep.specs.Changes.{heads_in_rows};
 ghost use Rattle.mc_keep.specs.Plan.{ReadsAsPlanned};
 ghost use Rattle.mc_query.specs.Answers.{AreAnswers};
@@ -73,6 +74,35 @@ impl<K: Keeper> Replica<K> {
         }
         match mc_query::has(&mut self.keeper, key) {
             Ok(found) => Ok(found),
+            Err(error) => {
+                let error = CoreError::from(error);
+                self.stopped = stops(error);
+                Err(error)
+            }
+        }
+    }
+
+    /// The block that gives a key its value over the processed blocks, or none where it has none: of the blocks with a
+    /// live element of the greatest priority and value, the one with the least identifier. The key is any text. It
+    /// makes one read of the keeper, and takes no memory. Refusals: `Stopped`.
+    pub fn who(&mut self, key: &str) -> Result<Option<Cid>, CoreError>
+        ensures call { Answers K.Keeper (λ kept cid.
+            cid ≡ who (processed kept) key.now) result self.old self.new }
+        ensures keeps { Continues K.Keeper (is_fault result) self.old self.new }
+        ensures front { front_of result ≡ stop_front self.old.stopped None }
+        ensures seen { IfErr result DecidesAlone }
+        ensures rest { RestSame self.old self.new }
+        ensures same { TellsSame K.Keeper self.old self.new }
+        ensures planned { self.old.stopped ≡ false → ReadsAsPlanned
+            (K.schedule self.old.keeper) (K.schedule self.new.keeper) (is_fault result) }
+        ensures no_memory { NoMemory result }
+    {
+        kept_is_durable();
+        if self.stopped {
+            return Err(CoreError::Stopped);
+        }
+        match self.keeper.winner(key) {
+            Ok(cid) => Ok(cid),
             Err(error) => {
                 let error = CoreError::from(error);
                 self.stopped = stops(error);

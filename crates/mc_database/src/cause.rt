@@ -1,4 +1,5 @@
 // Why a file serves no keeper.
+use mc_base::Failed;
 use sqlite::{Error as SqlError, ErrorCode};
 use sqlite_std_file::OpenError;
 use std::io;
@@ -22,9 +23,15 @@ pub enum FileCause {
     /// Its bytes are not those of a database, or are damaged.
     #[error("it is no database, or a damaged one")]
     NoDatabase,
-    /// Its tables are not those of a store, or of another layout.
+    /// Its tables are not those of a store.
     #[error("it is a database of another layout")]
     OtherLayout,
+    /// It is a store of a layout that this program does not know.
+    #[error("it has layout {number}, and this program knows layouts 1 and 2")]
+    UnknownLayout {
+        /// The number of its layout.
+        number: i64,
+    },
     /// A row is not of its table's form.
     #[error("it holds a row that is none of a store")]
     OtherRow,
@@ -37,6 +44,13 @@ pub enum FileCause {
     /// Want of memory.
     #[error("out of memory")]
     Memory,
+}
+
+// Where a database that is opened lacks a row, or has one of another form.
+impl From<Failed> for FileCause {
+    fn from(_failed: Failed) -> FileCause {
+        FileCause::OtherLayout
+    }
 }
 
 // The cause of a refused statement, or of files that are not opened.

@@ -15,6 +15,8 @@ use std::rt::HostRuntime;
 pub enum Work<'a> {
     /// The tables of an empty file are made.
     Tables,
+    /// Those that a file of layout 1 lacks are made, where they are not there.
+    MoreTables,
     /// Changes are written, where so many blocks have been marked before.
     Commit {
         /// How many blocks have been marked.
@@ -158,10 +160,11 @@ impl FileDatabase {
         cause
     }
 
-    /// Closes a file whose tables are not those of a store as if it had not been opened, and says what they are.
-    pub fn refuse(self, rt: &HostRuntime) -> FileCause {
+    /// Closes a file that is refused for this cause as if it had not been opened. Where a call failed before, the
+    /// cause is that one's.
+    pub fn refuse(self, rt: &HostRuntime, cause: FileCause) -> FileCause {
         self.log.take_away(rt);
-        self.noted.cause.unwrap_or(FileCause::OtherLayout)
+        self.noted.cause.unwrap_or(cause)
     }
 }
 

@@ -16,8 +16,8 @@ pub use cause::FileCause;
 pub use changing::counts_after;
 pub use counts::Counts;
 pub use database::{Database, FileDatabase, Work};
-pub use opening::opened;
+pub use opening::{Start, opened};
 pub use reading::{
-    at, block, has, heads, hidden, hides, holder, key_from, linked, live_elements, position,
-    stored, value, values_from,
+    at, block, has, heads, hidden, hides, key_from, linked, live_elements, position, stored, value,
+    values_from, winner,
 };

@@ -58,7 +58,9 @@ pub fn front_changes<K: Keeper>(
     ensures mark { OnOk result (IfSome (K.told keeper.old) (λ kept.
         AreNew kept blocks.now → MarkFits whole kept.mark (processed kept ++ blocks.now) changes.new.mark)) }
     ensures others { (changes.new.store ≡ changes.old.store) × (changes.new.elements ≡ changes.old.elements)
-        × (changes.new.tombs ≡ changes.old.tombs) × (changes.new.values ≡ changes.old.values) }
+        × (changes.new.tombs ≡ changes.old.tombs) × (changes.new.values ≡ changes.old.values)
+        × (changes.new.winners ≡ changes.old.winners) × (changes.new.upto ≡ changes.old.upto)
+        × (changes.new.two ≡ changes.old.two) }
     ensures refused { OnErr result (changes.new ≡ changes.old) }
     ensures reads { Reads K.Keeper (is_fault result) keeper.old keeper.new }
 {

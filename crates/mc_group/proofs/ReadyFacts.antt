@@ -178,6 +178,7 @@ process_of old new whole blocks cids changes mark same p = record {
   only = p.only;
   marks = p.marks;
   rows = subst (λ b. RowsFit b blocks changes) (sym same) p.rows;
+  ordinary = p.ordinary;
   front = subst (λ b. FrontFits b blocks changes) (sym same) p.front;
   mark = ap (λ m. unwrap_or changes.mark m) mark ∙ p.mark ∙ ap (λ m. mark_over whole m (processed old ++ blocks)) (sym mark) ∙ ap (λ b. mark_over whole new.mark (b ++ blocks)) (sym same);
 }

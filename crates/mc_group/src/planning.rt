@@ -3,6 +3,7 @@ ghost use Rattle.std.specs.Prelude.{◌≡◌, ◌≤◌, ◌+◌, ◌++◌, ◌
 ghost use Rattle.std.specs.Result.{is_err};
 ghost use Rattle.mc_base.specs.declared.cid.Cid.{Cid as Identifier};
 ghost use Rattle.mc_model.specs.declared.block.Block.{Block as Whole};
+ghost use Rattle.mc_model.specs.declared.layout.Layout.TheVariants.{Two};
 ghost use Rattle.mc_keep.specs.Calls.{Reads, Reserves};
 ghost use Rattle.mc_keep.specs.Causes.{IfTold};
 ghost use Rattle.mc_keep.specs.Changes.{no_changes, row_count};
@@ -40,6 +41,7 @@ pub fn plan_group<K: Keeper>(
     group: &Group,
     whole: bool,
 ) -> Result<GroupPlan, KeepError>
+    requires two { K.layout keeper.old ≡ Two }
     requires new { IfSome (K.told keeper.old) (λ kept. AreNew kept group.now.blocks.items) }
     ensures process { IfTold (K.told keeper.old) result (λ kept plan.
         Processes kept whole group.now.blocks.items (map (λ (block : Whole). block.cid) group.now.blocks.items)
@@ -94,6 +96,7 @@ fn process_changes<K: Keeper>(
     more: u64,
     changes: &mut Changes,
 ) -> Result<u64, KeepError>
+    requires two { K.layout keeper.old ≡ Two }
     requires none { changes.old ≡ no_changes }
     requires new { IfSome (K.told keeper.old) (λ kept. AreNew kept blocks.now) }
     ensures process { IfTold (K.told keeper.old) result (λ kept count.

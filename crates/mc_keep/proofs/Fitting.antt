@@ -1,5 +1,5 @@
 -- Changes that only store, changes of the mark alone and changes that only process fit.
-use Rattle.std.proofs.Common.{◌≡◌, Bool, true, List, [], ◌++◌, map, Option, unwrap_or, sym, refl, ap, subst, ◌∙◌}
+use Rattle.std.proofs.Common.{◌≡◌, Bool, true, false, List, [], ◌++◌, map, Option, unwrap_or, sym, refl, ap, subst, ◌∙◌}
 use Rattle.std.specs.Prelude.{None}
 use Rattle.std.specs.List.{list_any, list_all}
 use Rattle.std.proofs.lemmas.List.{append-nil}
@@ -11,11 +11,13 @@ use Rattle.mc_model.specs.Ascending.{is_once}
 use Rattle.mc_model.specs.Front.{same_cid, is_among, is_linked, head_at}
 use Rattle.mc_model.specs.Kept.{Kept, IsKept, processed, blocks_in, is_stored, cids_of}
 use Rattle.mc_model.specs.Live.{has_tomb, value_row}
+use Rattle.mc_model.specs.Who.{who}
+use Rattle.mc_model.specs.declared.layout.Layout.{Layout}
 use Rattle.mc_model.specs.Offer.{is_good}
 use Rattle.mc_keep.specs.declared.changes.Changes.{Changes}
 use Rattle.mc_keep.specs.Changes.{changed, newly_processed, no_changes}
 use Rattle.mc_keep.specs.New.{AreNew}
-use Rattle.mc_keep.specs.Tables.{StoreFits, RowsFit, FrontFits, ChangesFit}
+use Rattle.mc_keep.specs.Tables.{StoreFits, RowsFit, FrontFits, ChangesFit, MigrateFits}
 use Rattle.mc_keep.proofs.Processed.{processed_after}
 
 abbrev storing : List Stored → Changes
@@ -38,6 +40,9 @@ no_rows blocks stored mark = record {
   tombs_once = refl;
   values = λ key. ap (λ b. value_row b key) (append-nil blocks);
   values_once = refl;
+  winners = λ key. ap (λ b. who b key) (append-nil blocks);
+  winners_once = refl;
+  winners_with = refl;
 }
 
 no_front : (blocks : List Block) (stored : List Stored) (mark : Option Bool) → FrontFits blocks [] (storing_marking stored mark)
@@ -51,7 +56,7 @@ no_front blocks stored mark = record {
 
 stores_or_marks : (kept : Kept) (stored : List Stored) (mark : Option Bool) → StoreFits kept (storing_marking stored mark) → ChangesFit kept (storing_marking stored mark)
 stores_or_marks kept stored mark fits =
-    record { store = fits; marks = record { stored = refl; new = refl; once = refl }; rows = no_rows (processed kept) stored mark; front = no_front (processed kept) stored mark }
+    record { store = fits; marks = record { stored = refl; new = refl; once = refl }; rows = no_rows (processed kept) stored mark; ordinary = (refl, refl); front = no_front (processed kept) stored mark }
 
 pub store_fits : (kept : Kept) (stored : List Stored) → StoreFits kept (storing stored) → ChangesFit kept (storing stored)
 store_fits kept stored fits = stores_or_marks kept stored None fits
@@ -76,8 +81,8 @@ cid_in block = block.cid
 
 pub process_fits : (kept : Kept) (blocks : List Block) (changes : Changes) → changes.store ≡ [] → changes.marks ≡ map cid_in blocks → AreNew kept blocks
     → list_all (is_stored kept.graph) (map cid_in blocks) ≡ true → blocks_in kept.graph (map cid_in blocks) ≡ blocks
-    → RowsFit (processed kept) blocks changes → FrontFits (processed kept) blocks changes → ChangesFit kept changes
-process_fits kept blocks changes none marks new stored are rows front = record {
+    → RowsFit (processed kept) blocks changes → FrontFits (processed kept) blocks changes → (changes.two ≡ false) × (changes.upto ≡ None) → ChangesFit kept changes
+process_fits kept blocks changes none marks new stored are rows front ordinary = record {
   store = record {
     good = ap (λ store. list_all (λ (s : Stored). is_good s.cid s.bytes) store) none;
     new = ap (λ store. list_any (λ (s : Stored). is_stored kept.graph s.cid) store) none;
@@ -89,6 +94,7 @@ process_fits kept blocks changes none marks new stored are rows front = record {
     once = ap (λ cids. is_once same_cid cids) marks ∙ new.0;
   };
   rows = subst (λ b. RowsFit (processed kept) b changes) (sym newly) rows;
+  ordinary = ordinary;
   front = subst (λ b. FrontFits (processed kept) b changes) (sym newly) front;
 }
   where
@@ -97,3 +103,8 @@ process_fits kept blocks changes none marks new stored are rows front = record {
 
     newly : newly_processed kept changes ≡ blocks
     newly = ap (λ graph. blocks_in graph changes.marks) same ∙ ap (λ cids. blocks_in kept.graph cids) marks ∙ are
+
+-- a migration changes the layout and the winner rows alone
+pub migration_keeps : (layout : Layout) (kept : Kept) (changes : Changes) → MigrateFits layout kept changes → changed kept changes ≡ kept
+migration_keeps layout kept changes fits =
+    ap (changed kept) fits.only ∙ (λ i. record { graph = append-nil kept.graph i; order = append-nil kept.order i; mark = kept.mark })

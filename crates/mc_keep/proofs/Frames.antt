@@ -4,6 +4,7 @@ use Rattle.std.specs.Prelude.{nat_lt}
 use Rattle.std.proofs.Math.Bool.{or-false}
 use Rattle.mc_base.specs.Causes.{Rose}
 use Rattle.mc_model.specs.Kept.{Kept}
+use Rattle.mc_model.specs.declared.layout.Layout.{Layout}
 use Rattle.mc_keep.specs.declared.fuse.Fuse.{Fuse}
 use Rattle.mc_keep.specs.Causes.{CountGoes, burnt, fires, has_fired}
 use Rattle.mc_keep.specs.Frame.{ReadsAt, ReservesAt, CommitsAt, GoesAt}
@@ -162,10 +163,11 @@ fires_none (Some fuse) is = elim (nat_lt 1 fuse.commit) as (λ t. has_fired (Som
   | false ↦ λ e. no_fault (sym e)
 ] is
 
-module _ {S : Type 0} {told : S → Option Kept} {fuse : S → Option Fuse} {spare own faults : S → ℕ} {quiet : S → Bool} {schedule : S → Option Schedule} where
-  pub read_itself : (now : S) → ReadsAt told fuse spare own faults quiet schedule false now now
+module _ {S : Type 0} {told : S → Option Kept} {layout : S → Layout} {fuse : S → Option Fuse} {spare own faults : S → ℕ} {quiet : S → Bool} {schedule : S → Option Schedule} where
+  pub read_itself : (now : S) → ReadsAt told layout fuse spare own faults quiet schedule false now now
   read_itself now = record {
     told_same = refl;
+    layout_same = refl;
     fuse_same = refl;
     spare_more = omega arith;
     own_goes = count_none (own now);
@@ -176,9 +178,10 @@ module _ {S : Type 0} {told : S → Option Kept} {fuse : S → Option Fuse} {spa
   }
 
   -- the second one is the last
-  pub read_more : {failed : Bool} {old mid new : S} → ReadsAt told fuse spare own faults quiet schedule false old mid → ReadsAt told fuse spare own faults quiet schedule failed mid new → ReadsAt told fuse spare own faults quiet schedule failed old new
+  pub read_more : {failed : Bool} {old mid new : S} → ReadsAt told layout fuse spare own faults quiet schedule false old mid → ReadsAt told layout fuse spare own faults quiet schedule failed mid new → ReadsAt told layout fuse spare own faults quiet schedule failed old new
   read_more {failed = failed} {old = old} {mid = mid} {new = new} before next = record {
     told_same = next.told_same ∙ before.told_same;
+    layout_same = next.layout_same ∙ before.layout_same;
     fuse_same = next.fuse_same ∙ before.fuse_same;
     spare_more = omega (arith, before.spare_more, next.spare_more);
     own_goes = count_more before.own_goes next.own_goes;
@@ -189,14 +192,15 @@ module _ {S : Type 0} {told : S → Option Kept} {fuse : S → Option Fuse} {spa
   }
 
   -- where no read failed, and the call's own refusal is no fault of the keeper
-  pub read_well : {f failed : Bool} {old new : S} → ReadsAt told fuse spare own faults quiet schedule f old new → f ≡ failed → ReadsAt told fuse spare own faults quiet schedule failed old new
-  read_well {old = old} {new = new} reads same = subst (λ f. ReadsAt told fuse spare own faults quiet schedule f old new) same reads
+  pub read_well : {f failed : Bool} {old new : S} → ReadsAt told layout fuse spare own faults quiet schedule f old new → f ≡ failed → ReadsAt told layout fuse spare own faults quiet schedule failed old new
+  read_well {old = old} {new = new} reads same = subst (λ f. ReadsAt told layout fuse spare own faults quiet schedule f old new) same reads
 
   -- reads, and then a reserve, which fails for want of memory alone
-  pub read_reserved : {failed : Bool} {old mid new : S} → ReadsAt told fuse spare own faults quiet schedule false old mid → ReservesAt told fuse spare own faults quiet schedule mid new → failed ≡ false → ReadsAt told fuse spare own faults quiet schedule failed old new
+  pub read_reserved : {failed : Bool} {old mid new : S} → ReadsAt told layout fuse spare own faults quiet schedule false old mid → ReservesAt told layout fuse spare own faults quiet schedule mid new → failed ≡ false → ReadsAt told layout fuse spare own faults quiet schedule failed old new
   read_reserved {failed = true} before next well = no_fault (sym well)
   read_reserved {failed = false} {old = old} before next well = record {
     told_same = next.told_same ∙ before.told_same;
+    layout_same = next.layout_same ∙ before.layout_same;
     fuse_same = next.fuse_same ∙ before.fuse_same;
     spare_more = omega (arith, before.spare_more, next.spare_more);
     own_goes = count_more before.own_goes (count_same next.own_same);
@@ -237,7 +241,7 @@ module _ {S : Type 0} {told : S → Option Kept} {fuse : S → Option Fuse} {own
         (next.planned (not_fired_next (fuse old) (fuse mid) (fuse new) before.no_fuse none));
   }
 
-  pub goes_reads : {spare : S → ℕ} {failed : Bool} {old new : S} → ReadsAt told fuse spare own faults quiet schedule failed old new → GoesAt told fuse own faults quiet schedule failed old new
+  pub goes_reads : {layout : S → Layout} {spare : S → ℕ} {failed : Bool} {old new : S} → ReadsAt told layout fuse spare own faults quiet schedule failed old new → GoesAt told fuse own faults quiet schedule failed old new
   goes_reads {failed = failed} {old = old} {new = new} reads = record {
     silent = λ e. reads.told_same ∙ e;
     no_fuse = λ e. reads.fuse_same ∙ e;
@@ -250,7 +254,7 @@ module _ {S : Type 0} {told : S → Option Kept} {fuse : S → Option Fuse} {own
     planned = λ none. calls_of_reads (schedule old) (schedule new) failed reads.planned;
   }
 
-  pub goes_reserve : {spare : S → ℕ} {old new : S} → ReservesAt told fuse spare own faults quiet schedule old new → GoesAt told fuse own faults quiet schedule false old new
+  pub goes_reserve : {layout : S → Layout} {spare : S → ℕ} {old new : S} → ReservesAt told layout fuse spare own faults quiet schedule old new → GoesAt told fuse own faults quiet schedule false old new
   goes_reserve {old = old} next = goes_reads (read_reserved (read_itself old) next refl)
 
   pub goes_commit : {spare : S → ℕ} {rows : ℕ} {failed : Bool} {old new : S} (told_before told_after whole : Option Kept) → CommitsAt told fuse spare own faults quiet rows failed old new → (fires (fuse old) ≡ None → CommitsAsPlanned (schedule old) (schedule new) failed told_before told_after whole) → GoesAt told fuse own faults quiet schedule failed old new

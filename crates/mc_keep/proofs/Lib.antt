@@ -4,3 +4,4 @@ pub mod Processed
 pub mod Fitting
 pub mod Frames
 pub mod Lives
+pub mod LaidTwo

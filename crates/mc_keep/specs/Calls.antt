@@ -2,6 +2,7 @@
 use Rattle.std.specs.Prelude.{ℕ, Bool, false, Option}
 use Rattle.mc_base.specs.declared.counted.Counted as counted
 use Rattle.mc_model.specs.Kept.{Kept}
+use Rattle.mc_model.specs.declared.layout.Layout.{Layout}
 use Rattle.mc_keep.specs.declared.fuse.Fuse.{Fuse}
 use Rattle.mc_keep.specs.declared.keeper.Keeper as keeper
 use Rattle.mc_keep.specs.Frame.{ReadsAt, ReservesAt, CommitsAt, GoesAt}
@@ -12,6 +13,7 @@ abbrev pub Members : Type 0 → Type 0 → Type 0
 Members K D = record {
   faults : K → ℕ;
   told : K → Option Kept;
+  layout : K → Layout;
   spare : K → ℕ;
   fuse : K → Option Fuse;
   own : K → ℕ;
@@ -23,10 +25,10 @@ Members K D = record {
 
 module _ {K D : Type 0} (k : Members K D) where
   abbrev pub Reads : Bool → K → K → Type 0
-  Reads = ReadsAt k.told k.fuse k.spare k.own k.faults k.quiet k.schedule
+  Reads = ReadsAt k.told k.layout k.fuse k.spare k.own k.faults k.quiet k.schedule
 
   abbrev pub Reserves : K → K → Type 0
-  Reserves = ReservesAt k.told k.fuse k.spare k.own k.faults k.quiet k.schedule
+  Reserves = ReservesAt k.told k.layout k.fuse k.spare k.own k.faults k.quiet k.schedule
 
   abbrev pub Commits : ℕ → Bool → K → K → Type 0
   Commits = CommitsAt k.told k.fuse k.spare k.own k.faults k.quiet
@@ -36,4 +38,4 @@ module _ {K D : Type 0} (k : Members K D) where
 
 -- The same of a loop over reads, in a proof file: `HasRead g.K.Keeper g.K.Counted l.fn.keeper l.keeper`.
 abbrev pub HasRead : {K D : Type 0} → keeper.Ghosts K D → counted.Ghosts K → K → K → Type 0
-HasRead k c = ReadsAt k.told k.fuse k.spare k.own c.faults k.quiet k.schedule false
+HasRead k c = ReadsAt k.told k.layout k.fuse k.spare k.own c.faults k.quiet k.schedule false

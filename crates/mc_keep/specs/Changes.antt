@@ -1,5 +1,5 @@
 -- What the changes of a commit come to.
-use Rattle.std.specs.Prelude.{ℕ, ◌+◌, ◌&&◌, Bool, List, [], length, map, fold, Option, None, Some, unwrap_or, ◌++◌}
+use Rattle.std.specs.Prelude.{ℕ, ◌+◌, ◌&&◌, Bool, true, false, ◌∷◌, List, [], length, map, fold, Option, None, Some, unwrap_or, ◌++◌}
 use Rattle.std.specs.Prelude.{if◌then◌else◌}
 use Rattle.std.specs.List.{list_any}
 use Rattle.std.specs.Option.{option_map}
@@ -12,7 +12,10 @@ use Rattle.mc_model.specs.Kept.{Kept, blocks_in}
 use Rattle.mc_keep.specs.declared.rows.TombRow.{TombRow}
 use Rattle.mc_keep.specs.declared.rows.RankedValue.{RankedValue}
 use Rattle.mc_keep.specs.declared.rows.HeadRow.{HeadRow}
+use Rattle.mc_model.specs.declared.layout.Layout.{Layout}
+use Rattle.mc_model.specs.declared.layout.Layout.TheVariants.{One, Two}
 use Rattle.mc_keep.specs.declared.changes.ValueChange.{ValueChange}
+use Rattle.mc_keep.specs.declared.changes.WinnerChange.{WinnerChange}
 use Rattle.mc_keep.specs.declared.changes.Changes.{Changes}
 
 abbrev pub no_changes : Changes
@@ -24,6 +27,9 @@ no_changes =
       elements = [];
       tombs = [];
       values = [];
+      winners = [];
+      upto = None;
+      two = false;
       heads_in = [];
       heads_out = [];
       mark = None;
@@ -33,7 +39,7 @@ no_changes =
 abbrev pub row_count : Changes → ℕ
 row_count changes =
     length changes.store + length changes.marks + length changes.links + length changes.elements + length changes.tombs
-    + length changes.values + length changes.heads_in
+    + length changes.values + length changes.winners + length changes.heads_in
 
 -- what the changes make of a keeper
 abbrev pub changed : Kept → Changes → Kept
@@ -64,6 +70,26 @@ value_after key value change = if bytes_eq change.key key then ranked_value chan
 
 abbrev pub values_after : List ℕ → Option Ranked → List ValueChange → Option Ranked
 values_after key value changes = fold (value_after key) value changes
+
+-- the winner of a key after one change, and after changes in turn
+abbrev pub winner_after : List ℕ → Option Cid → WinnerChange → Option Cid
+winner_after key winner change = if bytes_eq change.key key then change.cid else winner
+
+abbrev pub winners_after : List ℕ → Option Cid → List WinnerChange → Option Cid
+winners_after key winner changes = fold (winner_after key) winner changes
+
+abbrev pub has_winner_of : List WinnerChange → List ℕ → Bool
+has_winner_of changes key = list_any (λ (change : WinnerChange). bytes_eq change.key key) changes
+
+-- the layout after changes
+abbrev pub laid_to : Bool → Option (List ℕ) → Layout → Layout
+laid_to two upto Two = Two
+laid_to true upto (One old) = Two
+laid_to false None (One old) = One old
+laid_to false (Some upto) (One old) = One (Some upto)
+
+abbrev pub laid : Layout → Changes → Layout
+laid layout changes = laid_to changes.two changes.upto layout
 
 abbrev pub head_in_row : HeadRow → Head
 head_in_row row = (row.cid, row.height)

@@ -3,16 +3,18 @@
 use Rattle.std.specs.Prelude.{◌≡◌, ℕ, ◌+◌, ◌≤◌, Bool, true, false, Option, None}
 use Rattle.mc_base.specs.Causes.{Rose}
 use Rattle.mc_model.specs.Kept.{Kept}
+use Rattle.mc_model.specs.declared.layout.Layout.{Layout}
 use Rattle.mc_keep.specs.declared.fuse.Fuse.{Fuse}
 use Rattle.mc_keep.specs.Causes.{CountGoes, StaysQuiet, burnt, fires, has_fired}
 use Rattle.mc_keep.specs.Plan.{Schedule, ReadsGo, CallsGo}
 
--- After reads alone: what is told and the fuse are the same, and room doesn't shrink. `failed` is whether the last read
+-- After reads alone: what is told, the layout and the fuse are the same, and room doesn't shrink. `failed` is whether the last read
 -- failed, `is_fault result` or `is_err result`, and `false` between two reads. Both counts rose exactly where it did;
 -- what is quiet stays so, and has not failed; and no read before the last was planned to fail.
-pub record ReadsAt {S : Type 0} (told : S → Option Kept) (fuse : S → Option Fuse) (spare own faults : S → ℕ)
+pub record ReadsAt {S : Type 0} (told : S → Option Kept) (layout : S → Layout) (fuse : S → Option Fuse) (spare own faults : S → ℕ)
     (quiet : S → Bool) (schedule : S → Option Schedule) (failed : Bool) (old new : S) : Type 0 where
   pub told_same : told new ≡ told old
+  pub layout_same : layout new ≡ layout old
   pub fuse_same : fuse new ≡ fuse old
   pub spare_more : spare old ≤ spare new
   pub own_goes : CountGoes failed (own old) (own new)
@@ -22,9 +24,10 @@ pub record ReadsAt {S : Type 0} (told : S → Option Kept) (fuse : S → Option 
   pub planned : ReadsGo (schedule old) (schedule new) failed
 
 -- After a reserve nothing but the room is another.
-pub record ReservesAt {S : Type 0} (told : S → Option Kept) (fuse : S → Option Fuse) (spare own faults : S → ℕ)
+pub record ReservesAt {S : Type 0} (told : S → Option Kept) (layout : S → Layout) (fuse : S → Option Fuse) (spare own faults : S → ℕ)
     (quiet : S → Bool) (schedule : S → Option Schedule) (old new : S) : Type 0 where
   pub told_same : told new ≡ told old
+  pub layout_same : layout new ≡ layout old
   pub fuse_same : fuse new ≡ fuse old
   pub spare_more : spare old ≤ spare new
   pub own_same : own new ≡ own old

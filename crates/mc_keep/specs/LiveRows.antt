@@ -8,6 +8,7 @@ use Rattle.mc_model.specs.Front.{same_cid}
 use Rattle.mc_model.specs.Id.{id_text}
 use Rattle.mc_model.specs.Live.{has_tomb, value_row}
 use Rattle.mc_model.specs.Rank.{Ranked, same_ranked}
+use Rattle.mc_model.specs.Who.{Placed}
 use Rattle.mc_keep.specs.declared.rows.ElementRow.{ElementRow}
 use Rattle.mc_keep.specs.Tables.{element_rows_of}
 
@@ -21,6 +22,16 @@ live_row hidden row = if hidden (id_text row.cid.0) then [] else ranked_of row �
 abbrev pub live_rows : (List ℕ → Bool) → List ElementRow → List Ranked
 live_rows hidden rows = flat_map (live_row hidden) rows
 
+-- the same with their blocks
+abbrev pub placed_of : ElementRow → Placed
+placed_of row = (ranked_of row, row.cid)
+
+abbrev pub place_row : (List ℕ → Bool) → ElementRow → List Placed
+place_row hidden row = if hidden (id_text row.cid.0) then [] else placed_of row ∷ []
+
+abbrev pub place_rows : (List ℕ → Bool) → List ElementRow → List Placed
+place_rows hidden rows = flat_map (place_row hidden) rows
+
 -- whether no tombstone of the blocks hides the row of the key
 abbrev pub is_shown : List Block → List ℕ → ElementRow → Bool
 is_shown blocks key row = not (has_tomb blocks key (id_text row.cid.0))
@@ -32,15 +43,3 @@ live_element_rows blocks key = filter (is_shown blocks key) (element_rows_of blo
 -- whether this is a row of the block, with the value and the priority
 abbrev pub is_row_of : Cid → Ranked → ElementRow → Bool
 is_row_of cid ranked row = same_cid cid row.cid && same_ranked ranked (ranked_of row)
-
--- the key has a value, and it is that of a live element in the block
-pub record HoldsValue (blocks : List Block) (key : List ℕ) (cid : Cid) : Type 0 where
-  pub ranked : Ranked
-  pub is_value : value_row blocks key ≡ Some ranked
-  pub there : list_any (is_row_of cid ranked) (element_rows_of blocks key) ≡ true
-  pub lives : has_tomb blocks key (id_text cid.0) ≡ false
-
--- a block that holds the value of the key, or none where it has no value
-abbrev pub IsHolder : List Block → List ℕ → Option Cid → Type 0
-IsHolder blocks key None = value_row blocks key ≡ None
-IsHolder blocks key (Some cid) = HoldsValue blocks key cid

@@ -1,5 +1,5 @@
 -- The tables of a keeper, as definitions over the processed blocks, and the changes that keep them so.
-use Rattle.std.specs.Prelude.{◌≡◌, ◌<◌, ◌^◌, ℕ, Some, None, length, Bool, true, false, ◌||◌, ◌&&◌, List, ◌++◌, map}
+use Rattle.std.specs.Prelude.{◌≡◌, ◌⊎◌, ◌<◌, ◌^◌, ℕ, Some, None, length, Bool, true, false, ◌||◌, ◌&&◌, List, ◌++◌, map}
 use Rattle.std.specs.Prelude.{filter, Option}
 use Rattle.std.specs.List.{list_any, list_all, flat_map}
 use Rattle.std.specs.Str.{bytes_eq}
@@ -10,6 +10,9 @@ use Rattle.mc_model.specs.declared.delta.Element.{Element}
 use Rattle.mc_model.specs.SameMembers.{SameMembers}
 use Rattle.mc_model.specs.Ascending.{is_once}
 use Rattle.mc_model.specs.Live.{has_tomb, value_row}
+use Rattle.mc_model.specs.Layouts.{winner_in}
+use Rattle.mc_model.specs.Who.{who}
+use Rattle.mc_model.specs.declared.layout.Layout.{Layout}
 use Rattle.mc_model.specs.Front.{same_cid, is_among, is_linked, head_at, gaps}
 use Rattle.mc_model.specs.Kept.{Kept, processed, is_stored, cids_of}
 use Rattle.mc_model.specs.Offer.{is_good}
@@ -18,8 +21,9 @@ use Rattle.mc_keep.specs.declared.rows.TombRow.{TombRow}
 use Rattle.mc_keep.specs.declared.rows.Summary.{Summary}
 use Rattle.mc_keep.specs.declared.rows.HeadRow.{HeadRow}
 use Rattle.mc_keep.specs.declared.changes.ValueChange.{ValueChange}
+use Rattle.mc_keep.specs.declared.changes.WinnerChange.{WinnerChange}
 use Rattle.mc_keep.specs.declared.changes.Changes.{Changes}
-use Rattle.mc_keep.specs.Changes.{newly_processed, has_tomb_row, values_after, head_after}
+use Rattle.mc_keep.specs.Changes.{newly_processed, no_changes, has_tomb_row, values_after, winners_after, has_winner_of, laid, head_after}
 
 -- the row of an element of the block
 abbrev pub element_row : Block → Element → ElementRow
@@ -49,6 +53,10 @@ pub record RowsFit (blocks more : List Block) (changes : Changes) : Type 0 where
   pub tombs_once : is_once same_tomb changes.tombs ≡ true
   pub values : (key : List ℕ) → value_row (blocks ++ more) key ≡ values_after key (value_row blocks key) changes.values
   pub values_once : is_once (λ (a b : ValueChange). bytes_eq a.key b.key) changes.values ≡ true
+  pub winners : (key : List ℕ) → who (blocks ++ more) key ≡ winners_after key (who blocks key) changes.winners
+  pub winners_once : is_once (λ (a b : WinnerChange). bytes_eq a.key b.key) changes.winners ≡ true
+  -- a changed value comes with its block
+  pub winners_with : list_all (λ (change : ValueChange). has_winner_of changes.winners change.key) changes.values ≡ true
 
 -- the rows of links and heads turn those of `blocks` into those of `blocks` and `more`
 pub record FrontFits (blocks more : List Block) (changes : Changes) : Type 0 where
@@ -76,7 +84,21 @@ pub record ChangesFit (kept : Kept) (changes : Changes) : Type 0 where
   pub store : StoreFits kept changes
   pub marks : MarksFit kept changes
   pub rows : RowsFit (processed kept) (newly_processed kept changes) changes
+  pub ordinary : (changes.two ≡ false) × (changes.upto ≡ None)
   pub front : FrontFits (processed kept) (newly_processed kept changes) changes
+
+-- a commit of a migration: only the layout and the winner rows change, and those are the ones that the layout has then
+pub record MigrateFits (layout : Layout) (kept : Kept) (changes : Changes) : Type 0 where
+  pub only : changes
+      ≡ record no_changes { winners = changes.winners; upto = changes.upto; two = changes.two }
+  pub winners : (key : List ℕ) →
+      winner_in (laid layout changes) (processed kept) key
+      ≡ winners_after key (winner_in layout (processed kept) key) changes.winners
+  pub winners_once : is_once (λ (a b : WinnerChange). bytes_eq a.key b.key) changes.winners ≡ true
+
+-- what a keeper takes
+abbrev pub Meets : Layout → Kept → Changes → Type 0
+Meets layout kept changes = ChangesFit kept changes ⊎ MigrateFits layout kept changes
 
 -- the numbers of a keeper that stands for this
 abbrev pub IsSummary : Kept → Summary → Type 0

@@ -16,6 +16,15 @@ pub struct ValueChange {
     pub value: Option<RankedValue>,
 }
 
+/// The new block that gives a key its value, or none where the key has no value any more.
+#[derive(Debug, Drop)]
+pub struct WinnerChange {
+    /// The key.
+    pub key: Text,
+    /// The block.
+    pub cid: Option<Cid>,
+}
+
 /// What one commit changes.
 #[derive(Debug, Drop)]
 pub struct Changes {
@@ -31,6 +40,12 @@ pub struct Changes {
     pub tombs: List<TombRow>,
     /// The keys whose value changes.
     pub values: List<ValueChange>,
+    /// The keys whose value another block gives.
+    pub winners: List<WinnerChange>,
+    /// The key up to which winner rows are there, where a migration comes so far.
+    pub upto: Option<Text>,
+    /// Whether a migration is at its end: all winner rows are there.
+    pub two: bool,
     /// The new heads.
     pub heads_in: List<HeadRow>,
     /// The heads that are none any more.
@@ -51,6 +66,9 @@ impl Changes {
             elements: List::new(alloc),
             tombs: List::new(alloc),
             values: List::new(alloc),
+            winners: List::new(alloc),
+            upto: None,
+            two: false,
             heads_in: List::new(alloc),
             heads_out: List::new(alloc),
             mark: None,
@@ -67,6 +85,7 @@ impl Changes {
         rows = rows.saturating_add(self.elements.len() as u64);
         rows = rows.saturating_add(self.tombs.len() as u64);
         rows = rows.saturating_add(self.values.len() as u64);
+        rows = rows.saturating_add(self.winners.len() as u64);
         rows.saturating_add(self.heads_in.len() as u64)
     }
 }

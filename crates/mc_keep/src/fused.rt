@@ -8,6 +8,7 @@ use crate::{
     Changes, ElementRow, Fuse, HeadRow, KeepError, Keeper, RankedValue, Summary, ValueRow,
 };
 use mc_base::{Bytes, Cid, Counted, Failed, List, Text};
+use mc_model::Layout;
 use std::alloc::{AllocError, Global};
 use std::sync::Wait;
 
@@ -29,6 +30,7 @@ impl<K: Keeper> Fused<K> {
     pub fn wrap(keeper: K) -> Fused<K>
         ensures unarmed { result ≡ record { keeper = keeper; fuse = None; fired = 0 } }
         ensures told { ⟦<Fused<K> as Keeper>⟧.told result ≡ K.told keeper }
+        ensures layout { ⟦<Fused<K> as Keeper>⟧.layout result ≡ K.layout keeper }
         ensures spare { ⟦<Fused<K> as Keeper>⟧.spare result ≡ K.spare keeper }
         ensures own { ⟦<Fused<K> as Keeper>⟧.own result ≡ K.faults keeper }
         ensures count { ⟦<Fused<K> as Counted>⟧.faults result ≡ K.faults keeper }
@@ -102,14 +104,16 @@ impl<K: Keeper> Keeper for Fused<K> {
     ghost use Rattle.mc_base.specs.Told.{Told};
     ghost use Rattle.mc_keep.specs.Calls.{Commits};
     ghost use Rattle.mc_keep.specs.Causes.{CommitFails};
-    ghost use Rattle.mc_keep.specs.Changes.{row_count, changed};
+    ghost use Rattle.mc_keep.specs.Changes.{row_count, changed, laid};
     ghost use Rattle.mc_keep.specs.Fused.{fired_after, quiet_in, schedule_in, CommitsOnce};
     ghost use Rattle.mc_keep.specs.Plan.{CommitsAsPlanned};
-    ghost use Rattle.mc_keep.specs.Tables.{ChangesFit};
+    ghost use Rattle.mc_keep.specs.Tables.{Meets};
 
     type Desk = K::Desk;
 
     ghost told = { λ fused. K.told fused.keeper };
+
+    ghost layout = { λ fused. K.layout fused.keeper };
 
     ghost spare = { λ fused. K.spare fused.keeper };
 
@@ -189,8 +193,12 @@ impl<K: Keeper> Keeper for Fused<K> {
         self.keeper.value(alloc, key)
     }
 
-    fn holder(&mut self, alloc: Global, key: &str) -> Result<Option<Cid>, KeepError> {
-        self.keeper.holder(alloc, key)
+    fn layout(&mut self, alloc: Global) -> Result<Layout, KeepError> {
+        self.keeper.layout(alloc)
+    }
+
+    fn winner(&mut self, key: &str) -> Result<Option<Cid>, Failed> {
+        self.keeper.winner(key)
     }
 
     fn has(&mut self, key: &str) -> Result<bool, Failed> {
@@ -225,9 +233,13 @@ impl<K: Keeper> Keeper for Fused<K> {
     /// makes one commit, and where no fuse fires the answer is that commit's. The fuse counts each time that it fires.
     fn commit(&mut self, changes: Changes) -> Result<(), Failed>
         requires room { row_count changes ≤ K.spare self.old.keeper }
-        requires fits { IfSome (K.told self.old.keeper) (λ kept. ChangesFit kept changes) }
+        requires fits { IfSome (K.told self.old.keeper) (λ kept. Meets (K.layout self.old.keeper) kept changes) }
         ensures done { OnOk result (Told (K.told self.old.keeper) (K.told self.new.keeper)
             (λ kept new. new ≡ changed kept changes)) }
+        ensures laid { OnOk result (K.layout self.new.keeper ≡ laid (K.layout self.old.keeper) changes) }
+        ensures laid_or_not { OnErr result (CommitFails (fires self.old.fuse)
+            (Rose (K.faults self.old.keeper) (K.faults self.new.keeper))
+            (K.layout self.old.keeper) (laid (K.layout self.old.keeper) changes) (K.layout self.new.keeper)) }
         ensures lasts { OnOk result (fires self.old.fuse ≡ None) }
         ensures failed { OnErr result (Told (K.told self.old.keeper) (K.told self.new.keeper) (λ kept new.
             CommitFails (fires self.old.fuse) (Rose (K.faults self.old.keeper) (K.faults self.new.keeper))

@@ -1,6 +1,6 @@
 // Where the blocks of a replica and their rows are kept.
 ghost use Rattle.std.specs.Prelude.{◌≡◌, ◌≤◌, ℕ, Bool, true, false, Option, None, is_some, slice_get};
-ghost use Rattle.std.specs.Prelude.{IfSome, IfOk, OnOk, OnErr};
+ghost use Rattle.std.specs.Prelude.{IfSome, IfOk, IfErr, OnOk, OnErr};
 ghost use Rattle.std.specs.Result.{is_err};
 ghost use Rattle.std.specs.Option.{option_map};
 ghost use Rattle.std.specs.List.{position};
@@ -9,14 +9,16 @@ ghost use Rattle.mc_base.specs.Told.{Told};
 ghost use Rattle.mc_model.specs.Ascending.{Ascends};
 ghost use Rattle.mc_model.specs.Id.{id_text};
 ghost use Rattle.mc_model.specs.Live.{has_tomb, value_row};
+ghost use Rattle.mc_model.specs.Layouts.{winner_in};
+ghost use Rattle.mc_model.specs.declared.layout.Layout.TheVariants.{Two};
 ghost use Rattle.mc_model.specs.Front.{same_cid, is_linked, heads};
 ghost use Rattle.mc_model.specs.Kept.{Kept, IsKept, processed, bytes_at, is_stored};
 ghost use Rattle.mc_keep.specs.Causes.{IfTold, CountGoes, fires, CommitFails};
 ghost use Rattle.mc_keep.specs.Frame.{ReadsAt, ReservesAt, CommitsAt};
-ghost use Rattle.mc_keep.specs.Changes.{row_count, changed, heads_in_rows, ranked_value};
+ghost use Rattle.mc_keep.specs.Changes.{row_count, changed, laid, heads_in_rows, ranked_value};
 ghost use Rattle.mc_keep.specs.Next.{AreNext, IsKeyAt};
 ghost use Rattle.mc_keep.specs.ElementOrder.{element_cmp};
-ghost use Rattle.mc_keep.specs.LiveRows.{IsHolder, live_element_rows};
+ghost use Rattle.mc_keep.specs.LiveRows.{live_element_rows};
 ghost use Rattle.mc_keep.specs.Plan.{
   Schedule,
   DeskSchedule,
@@ -27,10 +29,12 @@ ghost use Rattle.mc_keep.specs.Plan.{
   is_fault,
   without_desks,
 };
-ghost use Rattle.mc_keep.specs.Tables.{ChangesFit, IsSummary, IsSmall};
+ghost use Rattle.mc_keep.specs.Tables.{Meets, IsSummary, IsSmall};
+ghost use Rattle.mc_keep.specs.declared.error.KeepError.{KeepError};
 
 use crate::{Changes, ElementRow, HeadRow, KeepError, RankedValue, Summary, ValueRow};
 use mc_base::{Bytes, Cid, Counted, Failed, List, Text};
+use mc_model::Layout;
 use std::alloc::{AllocError, Global};
 use std::sync::Wait;
 
@@ -42,12 +46,16 @@ use std::sync::Wait;
 /// that answer `Failed`, until it stands at its last value.
 pub trait Keeper: Counted {
     ghost use Rattle.mc_keep.specs.declared.fuse.Fuse.{Fuse};
+    ghost use Rattle.mc_model.specs.declared.layout.Layout.{Layout};
 
     /// A place from which another thread reads blocks.
     type Desk: Counted;
 
     /// The stored blocks, the order of the processed ones, and the mark, where they are told.
     ghost told: { Self → Option Kept };
+
+    /// Of which keys there are winner rows, also where nothing is told.
+    ghost layout: { Self → Layout };
 
     /// How many rows the next commits may have without taking memory.
     ghost spare: { Self → ℕ };
@@ -78,7 +86,7 @@ pub trait Keeper: Counted {
     fn desk(&mut self, alloc: Global) -> Result<Self::Desk, KeepError>
         ensures fresh { IfOk result (λ desk. Self.Desk.faults desk ≡ 0) }
         ensures quiet_desk { quiet self.old ≡ true → IfOk result (λ desk. quiet_desk desk ≡ true) }
-        ensures reads { ReadsAt told fuse spare own Self.faults quiet
+        ensures reads { ReadsAt told layout fuse spare own Self.faults quiet
             (λ keeper. without_desks (schedule keeper)) (is_fault result) self.old self.new }
         ensures planned { DeskAsPlanned desk_schedule (schedule self.old) (schedule self.new) result };
 
@@ -101,43 +109,50 @@ pub trait Keeper: Counted {
     fn summary(&mut self) -> Result<Summary, Failed>
         ensures row { IfTold (told self.old) result (λ kept summary. IsSummary kept summary) }
         ensures below { IfOk result IsSmall }
-        ensures reads { ReadsAt told fuse spare own Self.faults quiet schedule (is_err result) self.old self.new }
+        ensures reads { ReadsAt told layout fuse spare own Self.faults quiet schedule (is_err result)
+            self.old self.new }
         ensures planned { ReadsAsPlanned (schedule self.old) (schedule self.new) (is_err result) };
 
     /// The bytes of a stored block, or none where it is not stored.
     fn block(&mut self, alloc: Global, cid: &Cid) -> Result<Option<Bytes>, KeepError>
         ensures row { IfTold (told self.old) result (λ kept bytes. bytes ≡ bytes_at kept.graph cid.now) }
-        ensures reads { ReadsAt told fuse spare own Self.faults quiet schedule (is_fault result) self.old self.new }
+        ensures reads { ReadsAt told layout fuse spare own Self.faults quiet schedule (is_fault result)
+            self.old self.new }
         ensures planned { ReadsAsPlanned (schedule self.old) (schedule self.new) (is_fault result) };
 
     /// Whether the block is stored.
     fn stored(&mut self, cid: &Cid) -> Result<bool, Failed>
         ensures row { IfTold (told self.old) result (λ kept found. found ≡ is_stored kept.graph cid.now) }
-        ensures reads { ReadsAt told fuse spare own Self.faults quiet schedule (is_err result) self.old self.new }
+        ensures reads { ReadsAt told layout fuse spare own Self.faults quiet schedule (is_err result)
+            self.old self.new }
         ensures planned { ReadsAsPlanned (schedule self.old) (schedule self.new) (is_err result) };
 
     /// The place of the block in the order of processing, counted from 0, or none where it is not processed.
     fn position(&mut self, cid: &Cid) -> Result<Option<u64>, Failed>
         ensures row { IfTold (told self.old) result (λ kept place. place ≡ position (same_cid cid.now) kept.order) }
-        ensures reads { ReadsAt told fuse spare own Self.faults quiet schedule (is_err result) self.old self.new }
+        ensures reads { ReadsAt told layout fuse spare own Self.faults quiet schedule (is_err result)
+            self.old self.new }
         ensures planned { ReadsAsPlanned (schedule self.old) (schedule self.new) (is_err result) };
 
     /// The block at a place in the order of processing, or none past its end.
     fn at(&mut self, position: u64) -> Result<Option<Cid>, Failed>
         ensures row { IfTold (told self.old) result (λ kept cid. cid ≡ slice_get kept.order position) }
-        ensures reads { ReadsAt told fuse spare own Self.faults quiet schedule (is_err result) self.old self.new }
+        ensures reads { ReadsAt told layout fuse spare own Self.faults quiet schedule (is_err result)
+            self.old self.new }
         ensures planned { ReadsAsPlanned (schedule self.old) (schedule self.new) (is_err result) };
 
     /// Whether a processed block links to it.
     fn linked(&mut self, cid: &Cid) -> Result<bool, Failed>
         ensures row { IfTold (told self.old) result (λ kept found. found ≡ is_linked (processed kept) cid.now) }
-        ensures reads { ReadsAt told fuse spare own Self.faults quiet schedule (is_err result) self.old self.new }
+        ensures reads { ReadsAt told layout fuse spare own Self.faults quiet schedule (is_err result)
+            self.old self.new }
         ensures planned { ReadsAsPlanned (schedule self.old) (schedule self.new) (is_err result) };
 
     /// The heads, ascending by the digest.
     fn heads(&mut self, alloc: Global) -> Result<List<HeadRow>, KeepError>
         ensures row { IfTold (told self.old) result (λ kept rows. heads_in_rows rows ≡ heads (processed kept)) }
-        ensures reads { ReadsAt told fuse spare own Self.faults quiet schedule (is_fault result) self.old self.new }
+        ensures reads { ReadsAt told layout fuse spare own Self.faults quiet schedule (is_fault result)
+            self.old self.new }
         ensures planned { ReadsAsPlanned (schedule self.old) (schedule self.new) (is_fault result) };
 
     /// The element rows of a key that no tombstone of a processed block hides, ascending by the priority and the block,
@@ -145,13 +160,15 @@ pub trait Keeper: Counted {
     fn live_elements(&mut self, alloc: Global, key: &str) -> Result<List<ElementRow>, KeepError>
         ensures row { IfTold (told self.old) result (λ kept rows.
             Ascends element_cmp rows (live_element_rows (processed kept) key.now)) }
-        ensures reads { ReadsAt told fuse spare own Self.faults quiet schedule (is_fault result) self.old self.new }
+        ensures reads { ReadsAt told layout fuse spare own Self.faults quiet schedule (is_fault result)
+            self.old self.new }
         ensures planned { ReadsAsPlanned (schedule self.old) (schedule self.new) (is_fault result) };
 
     /// Whether a processed block has the tombstone of the key with the id.
     fn hidden(&mut self, key: &str, id: &str) -> Result<bool, Failed>
         ensures row { IfTold (told self.old) result (λ kept found. found ≡ has_tomb (processed kept) key.now id.now) }
-        ensures reads { ReadsAt told fuse spare own Self.faults quiet schedule (is_err result) self.old self.new }
+        ensures reads { ReadsAt told layout fuse spare own Self.faults quiet schedule (is_err result)
+            self.old self.new }
         ensures planned { ReadsAsPlanned (schedule self.old) (schedule self.new) (is_err result) };
 
     /// Whether a processed block has a tombstone of the key that names the block. The block's id is for the keeper to
@@ -159,28 +176,41 @@ pub trait Keeper: Counted {
     fn hides(&mut self, alloc: Global, key: &str, cid: &Cid) -> Result<bool, KeepError>
         ensures row { IfTold (told self.old) result (λ kept found.
             found ≡ has_tomb (processed kept) key.now (id_text cid.now.0)) }
-        ensures reads { ReadsAt told fuse spare own Self.faults quiet schedule (is_fault result) self.old self.new }
+        ensures reads { ReadsAt told layout fuse spare own Self.faults quiet schedule (is_fault result)
+            self.old self.new }
         ensures planned { ReadsAsPlanned (schedule self.old) (schedule self.new) (is_fault result) };
 
     /// The value of a key, or none where it has none.
     fn value(&mut self, alloc: Global, key: &str) -> Result<Option<RankedValue>, KeepError>
         ensures row { IfTold (told self.old) result (λ kept value.
             ranked_value value ≡ value_row (processed kept) key.now) }
-        ensures reads { ReadsAt told fuse spare own Self.faults quiet schedule (is_fault result) self.old self.new }
+        ensures reads { ReadsAt told layout fuse spare own Self.faults quiet schedule (is_fault result)
+            self.old self.new }
         ensures planned { ReadsAsPlanned (schedule self.old) (schedule self.new) (is_fault result) };
 
-    /// A processed block with a live element of the key that has the value and the priority of the key's value row, or
-    /// none where the key has no value. Which of several it is, is the keeper's choice.
-    fn holder(&mut self, alloc: Global, key: &str) -> Result<Option<Cid>, KeepError>
-        ensures row { IfTold (told self.old) result (λ kept cid. IsHolder (processed kept) key.now cid) }
-        ensures reads { ReadsAt told fuse spare own Self.faults quiet schedule (is_fault result) self.old self.new }
+    /// Of which keys there are winner rows. Takes no memory where they are there for all.
+    fn layout(&mut self, alloc: Global) -> Result<Layout, KeepError>
+        ensures row { IfOk result (λ found. found ≡ layout self.old) }
+        ensures no_memory { layout self.old ≡ Two → IfErr result (λ error. error ≡ KeepError.Failed) }
+        ensures reads { ReadsAt told layout fuse spare own Self.faults quiet schedule (is_fault result)
+            self.old self.new }
         ensures planned { ReadsAsPlanned (schedule self.old) (schedule self.new) (is_fault result) };
+
+    /// The block that gives a key its value, or none where the key has none or its winner row is still to come. Takes
+    /// no memory.
+    fn winner(&mut self, key: &str) -> Result<Option<Cid>, Failed>
+        ensures row { IfTold (told self.old) result (λ kept cid.
+            cid ≡ winner_in (layout self.old) (processed kept) key.now) }
+        ensures reads { ReadsAt told layout fuse spare own Self.faults quiet schedule (is_err result)
+            self.old self.new }
+        ensures planned { ReadsAsPlanned (schedule self.old) (schedule self.new) (is_err result) };
 
     /// Whether a key has a value.
     fn has(&mut self, key: &str) -> Result<bool, Failed>
         ensures row { IfTold (told self.old) result (λ kept found.
             found ≡ is_some (value_row (processed kept) key.now)) }
-        ensures reads { ReadsAt told fuse spare own Self.faults quiet schedule (is_err result) self.old self.new }
+        ensures reads { ReadsAt told layout fuse spare own Self.faults quiet schedule (is_err result)
+            self.old self.new }
         ensures planned { ReadsAsPlanned (schedule self.old) (schedule self.new) (is_err result) };
 
     /// The value rows of the next keys with a value above the bound, or from it on where `inclusive`, in the order of
@@ -194,7 +224,8 @@ pub trait Keeper: Counted {
     ) -> Result<List<ValueRow>, KeepError>
         ensures rows { IfTold (told self.old) result (λ kept rows.
             AreNext (processed kept) bound.now inclusive most rows) }
-        ensures reads { ReadsAt told fuse spare own Self.faults quiet schedule (is_fault result) self.old self.new }
+        ensures reads { ReadsAt told layout fuse spare own Self.faults quiet schedule (is_fault result)
+            self.old self.new }
         ensures planned { ReadsAsPlanned (schedule self.old) (schedule self.new) (is_fault result) };
 
     /// The key at a place, from 0, among the next keys with a value above the bound, or from it on where `inclusive`,
@@ -208,21 +239,26 @@ pub trait Keeper: Counted {
     ) -> Result<Option<Text>, KeepError>
         ensures key { IfTold (told self.old) result (λ kept key.
             IsKeyAt (processed kept) bound.now inclusive place key) }
-        ensures reads { ReadsAt told fuse spare own Self.faults quiet schedule (is_fault result) self.old self.new }
+        ensures reads { ReadsAt told layout fuse spare own Self.faults quiet schedule (is_fault result)
+            self.old self.new }
         ensures planned { ReadsAsPlanned (schedule self.old) (schedule self.new) (is_fault result) };
 
     /// Makes room for so many rows. Nothing else changes.
     fn reserve(&mut self, rows: u64) -> Result<(), AllocError>
         ensures ok { OnOk result (rows ≤ spare self.new) }
-        ensures reserves { ReservesAt told fuse spare own Self.faults quiet schedule self.old self.new };
+        ensures reserves { ReservesAt told layout fuse spare own Self.faults quiet schedule self.old self.new };
 
     /// Makes the changes, or fails before or after them, wholly or not at all. It takes no memory. The changes are
     /// those that the definitions give: the blocks to store are good and new, those to process are stored and not
-    /// processed, and the rows turn the tables of the processed blocks into those with the new ones.
+    /// processed, and the rows turn the tables of the processed blocks into those with the new ones; or they are a
+    /// migration's: nothing is stored or processed, and the winner rows become those of the new layout.
     fn commit(&mut self, changes: Changes) -> Result<(), Failed>
         requires room { row_count changes ≤ spare self.old }
-        requires fits { IfSome (told self.old) (λ kept. ChangesFit kept changes) }
+        requires fits { IfSome (told self.old) (λ kept. Meets (layout self.old) kept changes) }
         ensures done { OnOk result (Told (told self.old) (told self.new) (λ kept new. new ≡ changed kept changes)) }
+        ensures laid { OnOk result (layout self.new ≡ laid (layout self.old) changes) }
+        ensures laid_or_not { OnErr result (CommitFails (fires (fuse self.old)) (Rose (own self.old) (own self.new))
+            (layout self.old) (laid (layout self.old) changes) (layout self.new)) }
         ensures lasts { OnOk result (fires (fuse self.old) ≡ None) }
         ensures failed { OnErr result (Told (told self.old) (told self.new) (λ kept new.
             CommitFails (fires (fuse self.old)) (Rose (own self.old) (own self.new)) kept (changed kept changes) new)) }

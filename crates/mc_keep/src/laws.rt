@@ -9,6 +9,7 @@ ghost use Rattle.mc_model.specs.Events.{Store, Process, WalkEnd, MayRun, runs, p
 ghost use Rattle.mc_model.specs.Graph.{no_gaps};
 ghost use Rattle.mc_model.specs.Kept.{Kept, IsKept, processed, blocks_in, is_stored};
 ghost use Rattle.mc_model.specs.State.{Running, durable_of, vertices};
+ghost use Rattle.mc_model.specs.declared.layout.Layout.{Layout};
 ghost use Rattle.mc_keep.specs.declared.changes.Changes.{Changes};
 ghost use Rattle.mc_keep.specs.Burning.{burnt_by};
 ghost use Rattle.mc_keep.specs.Causes.{fires};
@@ -16,7 +17,7 @@ ghost use Rattle.mc_keep.specs.Changes.{changed, newly_processed, no_changes};
 ghost use Rattle.mc_keep.specs.declared.rows.ElementRow.{ElementRow};
 ghost use Rattle.mc_keep.specs.ElementOrder.{element_cmp};
 ghost use Rattle.mc_keep.specs.New.{AreNew};
-ghost use Rattle.mc_keep.specs.Tables.{StoreFits, MarksFit, RowsFit, FrontFits, ChangesFit};
+ghost use Rattle.mc_keep.specs.Tables.{StoreFits, MarksFit, RowsFit, FrontFits, ChangesFit, MigrateFits};
 
 use mc_model::{kept_changes_are_events, kept_changes_may_come};
 
@@ -64,9 +65,16 @@ pub fn changes_fit()
         changes.store ≡ [] → changes.marks ≡ map (λ (block : Block). block.cid) blocks → AreNew kept blocks →
         list_all (is_stored kept.graph) (map (λ (block : Block). block.cid) blocks) ≡ true →
         blocks_in kept.graph (map (λ (block : Block). block.cid) blocks) ≡ blocks →
-        RowsFit (processed kept) blocks changes → FrontFits (processed kept) blocks changes → ChangesFit kept changes }
+        RowsFit (processed kept) blocks changes → FrontFits (processed kept) blocks changes →
+        (changes.two ≡ false) × (changes.upto ≡ None) → ChangesFit kept changes }
     ensures processed { (kept : Kept) (changes : Changes) → IsKept kept →
         processed (changed kept changes) ≡ processed kept ++ newly_processed kept changes }
+{}
+
+/// A migration's changes leave what is stored and processed, and the mark.
+pub fn migrations_fit()
+    ensures { (layout : Layout) (kept : Kept) (changes : Changes) → MigrateFits layout kept changes →
+        changed kept changes ≡ kept }
 {}
 
 /// Element rows that tie in their order are equal.

@@ -8,13 +8,15 @@ mod fuse;
 mod fused;
 mod keeper;
 mod laws;
+mod laying;
 mod rows;
 
-pub use changes::{Changes, ValueChange};
+pub use changes::{Changes, ValueChange, WinnerChange};
 pub use error::KeepError;
 pub use fuse::Fuse;
 pub use fused::Fused;
 pub use keeper::Keeper;
-pub use laws::{changes_fit, commits_are_events, fuses_fire_once, ties_are_equal};
-pub use mc_model::Stored;
+pub use laws::{changes_fit, commits_are_events, fuses_fire_once, migrations_fit, ties_are_equal};
+pub use laying::lay;
+pub use mc_model::{Layout, Stored};
 pub use rows::{ElementRow, HeadRow, RankedValue, Summary, TombRow, ValueRow};

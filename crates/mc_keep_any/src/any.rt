@@ -6,7 +6,9 @@ ghost use Rattle.mc_keep_any.specs.Sound.{either_sound};
 
 use crate::desk::{AnyDesk, Inside};
 use mc_base::{Bytes, Cid, Counted, Failed, List, Text};
-use mc_keep::{Changes, ElementRow, HeadRow, KeepError, Keeper, RankedValue, Summary, ValueRow};
+use mc_keep::{
+    Changes, ElementRow, HeadRow, KeepError, Keeper, Layout, RankedValue, Summary, ValueRow,
+};
 use std::alloc::{AllocError, Global};
 use std::sync::Wait;
 
@@ -35,6 +37,8 @@ impl<A: Keeper, B: Keeper> Keeper for AnyKeeper<A, B> {
     type Desk = AnyDesk<A::Desk, B::Desk>;
 
     ghost told = { either_keeper A.told B.told };
+
+    ghost layout = { either_keeper A.layout B.layout };
 
     ghost spare = { either_keeper A.spare B.spare };
 
@@ -168,10 +172,17 @@ impl<A: Keeper, B: Keeper> Keeper for AnyKeeper<A, B> {
         }
     }
 
-    fn holder(&mut self, alloc: Global, key: &str) -> Result<Option<Cid>, KeepError> {
+    fn layout(&mut self, alloc: Global) -> Result<Layout, KeepError> {
         match self {
-            AnyKeeper::Memory(keeper) => keeper.holder(alloc, key),
-            AnyKeeper::File(keeper) => keeper.holder(alloc, key),
+            AnyKeeper::Memory(keeper) => keeper.layout(alloc),
+            AnyKeeper::File(keeper) => keeper.layout(alloc),
+        }
+    }
+
+    fn winner(&mut self, key: &str) -> Result<Option<Cid>, Failed> {
+        match self {
+            AnyKeeper::Memory(keeper) => keeper.winner(key),
+            AnyKeeper::File(keeper) => keeper.winner(key),
         }
     }
 

@@ -18,7 +18,8 @@ use std::alloc::Global;
 use std::marker::Model;
 use std::rt::HostRuntime;
 
-/// Makes the keepers of the program, by the plan: in memory, without faults, or in SQLite files.
+/// Makes the keepers of the program, by the plan: in memory, without faults, or in SQLite files. Of a file of layout
+/// 1 it says on standard error how many keys are migrated before the first line of a run.
 #[derive(Drop)]
 pub struct RealKeepers {
     rt: HostRuntime,
@@ -126,6 +127,7 @@ impl Keepers for RealKeepers {
             KeeperPlan::Sqlite { dir } => {
                 let opened = FileKeeper::open(&self.rt, dir.as_str(), index);
                 let keeper = self.count(opened)?;
+                tell_migration(&self.rt, &keeper);
                 Ok(AnyKeeper::File(keeper))
             }
         }
@@ -158,6 +160,17 @@ impl Keepers for RealKeepers {
     }
 
     ghost marked = { λ keepers plan index. starts_marked plan };
+}
+
+// Says of a file of layout 1 that it is migrated now, since a large one takes a while. That the line can't be written
+// is no reason not to run.
+fn tell_migration(rt: &HostRuntime, keeper: &FileKeeper) {
+    if let Some(keys) = keeper.to_migrate() {
+        let _ = eprintln!(rt;
+            "mc: {}: migrating from layout 1 to 2, {keys} keys",
+            keeper.name()
+        );
+    }
 }
 
 // Closes the file of a keeper that has one, and answers why a call on it failed first. Where the closing fails, what was

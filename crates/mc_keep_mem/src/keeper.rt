@@ -1,13 +1,16 @@
 // The keeper in memory.
 ghost use Rattle.std.specs.Prelude.{◌≡◌, true, false, [], Some, None, IfOk};
 ghost use Rattle.mc_model.specs.Kept.{nothing_kept};
+ghost use Rattle.mc_model.specs.declared.layout.Layout.TheVariants.{One, Two};
 ghost use Rattle.mc_tables.specs.Fits.{kept_in};
 ghost use Rattle.mc_keep_mem.specs.Plan.{plans_nothing, is_nothing, planned, desk_schedule_of};
 ghost use Rattle.mc_keep_mem.specs.Faults.{fails_never, schedule_of};
 
 use crate::plan::{FaultPlan, Faults, MemDesk};
 use mc_base::{Bytes, Cid, Counted, Failed, List, Text};
-use mc_keep::{Changes, ElementRow, HeadRow, KeepError, Keeper, RankedValue, Summary, ValueRow};
+use mc_keep::{
+    Changes, ElementRow, HeadRow, KeepError, Keeper, Layout, RankedValue, Summary, ValueRow,
+};
 use mc_tables::Store;
 use std::alloc::{AllocError, Global};
 use std::hash::{BuildHasher, BuildHasherDefault, FoldHasher};
@@ -26,6 +29,7 @@ impl MemKeeper {
     /// An empty keeper with the mark clear, and the default hasher.
     pub fn new(alloc: Global, plan: FaultPlan) -> Result<MemKeeper, AllocError>
         ensures told { IfOk result (λ keeper. kept_in keeper.store.tables ≡ nothing_kept) }
+        ensures layout { IfOk result (λ keeper. keeper.store.tables.layout ≡ Two) }
         ensures count { IfOk result (λ keeper. keeper.faults.faults ≡ 0) }
         ensures quiet { plans_nothing plan ≡ true → IfOk result (λ keeper. fails_never keeper.faults ≡ true) }
         ensures schedule { IfOk result (λ keeper. schedule_of keeper.faults ≡ planned plan) }
@@ -38,6 +42,7 @@ impl<S: BuildHasher + Copy + Drop> MemKeeper<S> {
     /// An empty keeper with the mark clear, and this hasher for its tables of texts. Takes no memory.
     pub fn with_hasher(alloc: Global, plan: FaultPlan, hasher: S) -> MemKeeper<S>
         ensures told { kept_in result.store.tables ≡ nothing_kept }
+        ensures layout { result.store.tables.layout ≡ Two }
         ensures count { result.faults.faults ≡ 0 }
         ensures quiet { plans_nothing plan ≡ true → fails_never result.faults ≡ true }
         ensures schedule { schedule_of result.faults ≡ planned plan }
@@ -46,6 +51,20 @@ impl<S: BuildHasher + Copy + Drop> MemKeeper<S> {
             store: Store::new(alloc, hasher),
             faults: Faults::new(plan),
         }
+    }
+}
+
+impl<S: BuildHasher + Drop> MemKeeper<S> {
+    /// The same keeper without winner rows, as one of layout 1 has none. Takes no memory.
+    pub fn downgrade(self) -> MemKeeper<S>
+        ensures told { kept_in result.store.tables ≡ kept_in self.store.tables }
+        ensures layout { result.store.tables.layout ≡ One None }
+        ensures room { result.store.room ≡ self.store.room }
+        ensures faults { result.faults ≡ self.faults }
+    {
+        let mut keeper = self;
+        keeper.store.downgrade();
+        keeper
     }
 }
 
@@ -61,6 +80,8 @@ impl<S: BuildHasher + Drop> Keeper for MemKeeper<S> {
     type Desk = MemDesk;
 
     ghost told = { λ keeper. Some (kept_in keeper.store.tables) };
+
+    ghost layout = { λ keeper. keeper.store.tables.layout };
 
     ghost spare = { λ keeper. keeper.store.room };
 
@@ -179,11 +200,18 @@ impl<S: BuildHasher + Drop> Keeper for MemKeeper<S> {
         Ok(self.store.value(alloc, key)?)
     }
 
-    fn holder(&mut self, alloc: Global, key: &str) -> Result<Option<Cid>, KeepError> {
+    fn layout(&mut self, alloc: Global) -> Result<Layout, KeepError> {
         if self.faults.read_fails() {
             return Err(KeepError::Failed);
         }
-        Ok(self.store.holder(alloc, key)?)
+        Ok(self.store.layout(alloc)?)
+    }
+
+    fn winner(&mut self, key: &str) -> Result<Option<Cid>, Failed> {
+        if self.faults.read_fails() {
+            return Err(Failed);
+        }
+        Ok(self.store.winner(key))
     }
 
     fn has(&mut self, key: &str) -> Result<bool, Failed> {

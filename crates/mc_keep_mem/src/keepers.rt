@@ -1,5 +1,5 @@
 // Who makes the keepers in memory, and takes them back.
-ghost use Rattle.std.specs.Prelude.{◌≡◌, refl, ℕ, ◌+◌, ◌-◌, ◌^◌, true, Some, min, fold, map, IfOk, if◌then◌else◌};
+ghost use Rattle.std.specs.Prelude.{◌≡◌, refl, ℕ, ◌+◌, ◌-◌, ◌^◌, true, false, Some, min, fold, map, IfOk, if◌then◌else◌};
 ghost use Rattle.std.specs.List.{list_all, sum_by};
 ghost use Rattle.mc_model.specs.Kept.{nothing_kept};
 ghost use Rattle.mc_keepers.specs.declared.keepers.KeeperPlan.{KeeperPlan};
@@ -8,7 +8,8 @@ ghost use Rattle.mc_keepers.specs.Making.{keeper_plan};
 ghost use Rattle.mc_keep_mem.specs.declared.plan.MemDesk.{MemDesk};
 ghost use Rattle.mc_tables.specs.Fits.{kept_in};
 ghost use Rattle.mc_keep_mem.specs.Desks.{counted_with};
-ghost use Rattle.mc_keep_mem.specs.Faults.{schedule_of};
+ghost use Rattle.mc_keep_mem.specs.Faults.{fails_never, schedule_of};
+ghost use Rattle.mc_keep_mem.specs.Layouts.{first_layout};
 ghost use Rattle.mc_keep_mem.specs.Plan.{plans_nothing, planned, makes_of};
 
 use crate::keeper::MemKeeper;
@@ -20,12 +21,14 @@ use std::alloc::{AllocError, Global};
 use std::hash::{BuildHasher, BuildHasherDefault, FoldHasher};
 
 /// Makes keepers in memory, whatever the plan of the keeper, and takes them back. The keeper with the index i takes a
-/// copy of the fault plan at place i, and one by which nothing fails where there is none.
+/// copy of the fault plan at place i, and one by which nothing fails where there is none. They have all winner rows, or
+/// none where they are `downgraded`.
 #[derive(Drop)]
 pub struct MemKeepers<S: BuildHasher + Copy + Drop = BuildHasherDefault<FoldHasher>> {
     plans: List<FaultPlan>,
     failing: List<u64>,
     hasher: S,
+    downgrades: bool,
     made: u64,
     faults: u64,
     lost: u64,
@@ -39,6 +42,7 @@ impl MemKeepers {
         ensures schedule { makes_of result.failing result.made result.plans
             ≡ record { makes = makes; makes_made = 0; keepers = map planned plans } }
         ensures count { (result.faults ≡ 0) × (result.lost ≡ 0) }
+        ensures layout { result.downgrades ≡ false }
     {
         MemKeepers::with_hasher(plans, makes, BuildHasherDefault::new())
     }
@@ -52,16 +56,47 @@ impl<S: BuildHasher + Copy + Drop> MemKeepers<S> {
         ensures schedule { makes_of result.failing result.made result.plans
             ≡ record { makes = makes; makes_made = 0; keepers = map planned plans } }
         ensures count { (result.faults ≡ 0) × (result.lost ≡ 0) }
+        ensures layout { result.downgrades ≡ false }
     {
         MemKeepers {
             plans,
             failing: makes,
             hasher,
+            downgrades: false,
             made: 0,
             faults: 0,
             lost: 0,
         }
     }
+
+    /// The same, but that the keepers which are made from now on have layout 1, without winner rows. Takes no memory.
+    pub fn downgraded(self) -> MemKeepers<S>
+        ensures { result ≡ record self { downgrades = true } }
+    {
+        let mut keepers = self;
+        keepers.downgrades = true;
+        keepers
+    }
+}
+
+// A keeper in memory, without winner rows where it is `downgraded`.
+fn keeper_of<S: BuildHasher + Copy + Drop>(
+    alloc: Global,
+    plan: FaultPlan,
+    hasher: S,
+    downgraded: bool,
+) -> MemKeeper<S>
+    ensures told { kept_in result.store.tables ≡ nothing_kept }
+    ensures layout { result.store.tables.layout ≡ first_layout downgraded }
+    ensures count { result.faults.faults ≡ 0 }
+    ensures quiet { plans_nothing plan ≡ true → fails_never result.faults ≡ true }
+    ensures schedule { schedule_of result.faults ≡ planned plan }
+{
+    let keeper = MemKeeper::with_hasher(alloc, plan, hasher);
+    if downgraded {
+        return keeper.downgrade();
+    }
+    keeper
 }
 
 // A copy of the plan at a place, or one by which nothing fails.
@@ -97,7 +132,8 @@ impl<S: BuildHasher + Copy + Drop> Keepers for MemKeepers<S> {
     ghost makes = { λ old plan index result new. (new ≡ record old {
       made = next_number old.made;
       faults = if is_fault result then min (old.faults + 1) (2 ^ 64 - 1) else old.faults;
-    }) × IfOk result (λ keeper. (kept_in keeper.store.tables ≡ nothing_kept) × (keeper.faults.faults ≡ 0)
+    }) × IfOk result (λ keeper. (kept_in keeper.store.tables ≡ nothing_kept)
+        × (keeper.store.tables.layout ≡ first_layout old.downgrades) × (keeper.faults.faults ≡ 0)
         × (schedule_of keeper.faults ≡ keeper_plan (map planned old.plans) index)) };
 
     ghost takes = { λ old keeper desks new. new ≡ record old {
@@ -116,7 +152,7 @@ impl<S: BuildHasher + Copy + Drop> Keepers for MemKeepers<S> {
             return Err(KeepError::Failed);
         }
         let plan = plan_at(alloc, self.plans.as_slice(), index as usize)?;
-        Ok(MemKeeper::with_hasher(alloc, plan, self.hasher))
+        Ok(keeper_of(alloc, plan, self.hasher, self.downgrades))
     }
 
     fn end(&mut self, keeper: MemKeeper<S>, desks: List<MemDesk>)

@@ -9,7 +9,9 @@ use crate::keeper::DatabaseKeeper;
 use crate::name::file_name;
 use mc_base::{Bytes, Cid, Counted, Failed, List, Text};
 use mc_database::{FileCause, FileDatabase};
-use mc_keep::{Changes, ElementRow, HeadRow, KeepError, Keeper, RankedValue, Summary, ValueRow};
+use mc_keep::{
+    Changes, ElementRow, HeadRow, KeepError, Keeper, Layout, RankedValue, Summary, ValueRow,
+};
 use std::alloc::{AllocError, Global};
 use std::rt::HostRuntime;
 use std::sync::Wait;
@@ -41,6 +43,11 @@ impl FileKeeper {
         ensures { result.now ≡ file_of self.now }
     {
         self.name.as_str()
+    }
+
+    /// How many keys with a value had no winner row yet when the file was opened, where it was of layout 1.
+    pub fn to_migrate(&self) -> Option<u64> {
+        self.inner.to_migrate()
     }
 }
 
@@ -74,6 +81,8 @@ impl Keeper for FileKeeper {
     type Desk = SqlDesk;
 
     ghost told = { λ keeper. None };
+
+    ghost layout = { λ keeper. keeper.inner.layout };
 
     ghost spare = { λ keeper. 2 ^ 64 - 1 };
 
@@ -153,8 +162,12 @@ impl Keeper for FileKeeper {
         self.inner.value(alloc, key)
     }
 
-    fn holder(&mut self, alloc: Global, key: &str) -> Result<Option<Cid>, KeepError> {
-        self.inner.holder(alloc, key)
+    fn layout(&mut self, alloc: Global) -> Result<Layout, KeepError> {
+        self.inner.layout(alloc)
+    }
+
+    fn winner(&mut self, key: &str) -> Result<Option<Cid>, Failed> {
+        self.inner.winner(key)
     }
 
     fn has(&mut self, key: &str) -> Result<bool, Failed> {

@@ -1,14 +1,18 @@
 // The keeper over SQLite.
-ghost use Rattle.std.specs.Prelude.{◌≡◌, ◌-◌, ◌^◌, false, None, IfOk};
+ghost use Rattle.std.specs.Prelude.{◌≡◌, ◌≢◌, ◌-◌, ◌^◌, false, None, IfOk, IfErr, OnOk, OnErr};
 ghost use Rattle.std.specs.Result.{is_err};
+ghost use Rattle.mc_model.specs.declared.layout.Layout.TheVariants.{Two};
 ghost use Rattle.mc_keep.specs.Causes.{CountGoes};
+ghost use Rattle.mc_keep.specs.Changes.{laid};
 ghost use Rattle.mc_keep.specs.Plan.{is_fault};
 
 use crate::desk::SqlDesk;
 use crate::name::file_name;
 use mc_base::{Bytes, Cid, Counted, Failed, List, Text};
-use mc_database::{Counts, Database, FileCause, FileDatabase, Work, counts_after, opened};
-use mc_keep::{Changes, ElementRow, HeadRow, KeepError, Keeper, RankedValue, Summary, ValueRow};
+use mc_database::{Counts, Database, FileCause, FileDatabase, Start, Work, counts_after, opened};
+use mc_keep::{
+    Changes, ElementRow, HeadRow, KeepError, Keeper, Layout, RankedValue, Summary, ValueRow, lay,
+};
 use sqlite::{Alter, Connection, File, FileStore};
 use std::alloc::{AllocError, Global};
 use std::rt::HostRuntime;
@@ -25,6 +29,10 @@ pub struct DatabaseKeeper<D> {
     database: Mutex<D>,
     // None where a commit has failed, since it may have happened.
     counts: Option<Counts>,
+    // Of which keys there are winner rows. Where a commit of a migration has failed there may be some of more.
+    layout: Layout,
+    // How many keys had none when it was opened, where it was of layout 1.
+    to_migrate: Option<u64>,
     faults: u64,
 }
 
@@ -44,14 +52,15 @@ impl SqlKeeper {
 }
 
 impl<S: Alter + Drop> SqlKeeper<S> {
-    /// A keeper over an open connection. Where it has no tables they are made. Fails where it has others, or another
-    /// layout.
+    /// A keeper over an open connection. Where it has no tables they are made, and where it is of layout 1 those that
+    /// it lacks. Fails where it has others, or another layout.
     pub fn adopt(connection: Connection<S>) -> Result<SqlKeeper<S>, KeepError>
         ensures fresh { IfOk result (λ keeper. keeper.faults ≡ 0) }
     {
         match DatabaseKeeper::over(connection) {
             Ok(keeper) => Ok(keeper),
-            Err(_connection) => Err(KeepError::Failed),
+            Err((_connection, FileCause::Memory)) => Err(KeepError::Memory),
+            Err((_connection, _cause)) => Err(KeepError::Failed),
         }
     }
 
@@ -71,8 +80,13 @@ impl DatabaseKeeper<FileDatabase> {
     {
         match DatabaseKeeper::over(FileDatabase::open(rt, name)?) {
             Ok(keeper) => Ok(keeper),
-            Err(database) => Err(database.refuse(rt)),
+            Err((database, cause)) => Err(database.refuse(rt, cause)),
         }
+    }
+
+    // How many keys had no winner row when the file was opened, where it was of layout 1.
+    pub(crate) fn to_migrate(&self) -> Option<u64> {
+        self.to_migrate
     }
 
     // The same keeper over the file's connection.
@@ -82,11 +96,15 @@ impl DatabaseKeeper<FileDatabase> {
         let DatabaseKeeper {
             database,
             counts,
+            layout,
+            to_migrate,
             faults,
         } = self;
         DatabaseKeeper {
             database: Mutex::new(database.into_inner().into_connection()),
             counts,
+            layout,
+            to_migrate,
             faults,
         }
     }
@@ -94,18 +112,27 @@ impl DatabaseKeeper<FileDatabase> {
 
 impl<D: Database + Drop> DatabaseKeeper<D> {
     // A keeper over a database. Where it has no tables they are made. Gives it back where it has others, or another
-    // layout.
-    fn over(database: D) -> Result<DatabaseKeeper<D>, D>
+    // layout, with the cause.
+    fn over(database: D) -> Result<DatabaseKeeper<D>, (D, FileCause)>
         ensures fresh { IfOk result (λ keeper. keeper.faults ≡ 0) }
     {
         let mut database = database;
         match opened(&mut database) {
-            Ok(counts) => Ok(DatabaseKeeper {
-                database: Mutex::new(database),
-                counts: Some(counts),
-                faults: 0,
-            }),
-            Err(Failed) => Err(database),
+            Ok(start) => Ok(DatabaseKeeper::begun(database, start)),
+            Err(cause) => Err((database, cause)),
+        }
+    }
+
+    // A keeper over an opened database.
+    fn begun(database: D, start: Start) -> DatabaseKeeper<D>
+        ensures { result.faults ≡ 0 }
+    {
+        DatabaseKeeper {
+            database: Mutex::new(database),
+            counts: Some(start.counts),
+            layout: start.layout,
+            to_migrate: start.to_migrate,
+            faults: 0,
         }
     }
 }
@@ -116,6 +143,8 @@ impl<D> DatabaseKeeper<D> {
         let DatabaseKeeper {
             database,
             counts: _,
+            layout: _,
+            to_migrate: _,
             faults: _,
         } = self;
         database.into_inner()
@@ -126,6 +155,7 @@ impl<D: Database> DatabaseKeeper<D> {
     // Counts the answer of a call, where it failed.
     fn count<T>(&mut self, answer: Result<T, KeepError>) -> Result<T, KeepError>
         ensures count { CountGoes (is_fault result) self.old.faults self.new.faults }
+        ensures layout { self.new.layout ≡ self.old.layout }
     {
         if let Err(KeepError::Failed) = answer {
             self.faults = self.faults.saturating_add(1);
@@ -136,6 +166,8 @@ impl<D: Database> DatabaseKeeper<D> {
     // The same of a call that takes no memory of the caller's.
     fn count_failed<T>(&mut self, answer: Result<T, Failed>) -> Result<T, Failed>
         ensures count { CountGoes (is_err result) self.old.faults self.new.faults }
+        ensures layout { self.new.layout ≡ self.old.layout }
+        ensures same { is_err result ≡ is_err answer }
     {
         if answer.is_err() {
             self.faults = self.faults.saturating_add(1);
@@ -145,7 +177,8 @@ impl<D: Database> DatabaseKeeper<D> {
 
     // The counts, which are read where they are not known.
     fn known_counts(&mut self) -> Result<Counts, Failed>
-        ensures { self.new.faults ≡ self.old.faults }
+        ensures count { self.new.faults ≡ self.old.faults }
+        ensures layout { self.new.layout ≡ self.old.layout }
     {
         if let Some(counts) = self.counts {
             return Ok(counts);
@@ -155,8 +188,10 @@ impl<D: Database> DatabaseKeeper<D> {
         Ok(counts)
     }
 
-    fn make(&mut self, changes: &Changes) -> Result<(), Failed>
-        ensures { self.new.faults ≡ self.old.faults }
+    // Writes the changes.
+    fn write(&mut self, changes: &Changes) -> Result<(), Failed>
+        ensures count { self.new.faults ≡ self.old.faults }
+        ensures layout { self.new.layout ≡ self.old.layout }
     {
         let counts = self.known_counts()?;
         self.counts = None;
@@ -165,6 +200,17 @@ impl<D: Database> DatabaseKeeper<D> {
             changes,
         })?;
         self.counts = Some(counts_after(&counts, changes, gone));
+        Ok(())
+    }
+
+    // Makes the changes. Takes the key up to which there are winner rows then.
+    fn make(&mut self, changes: &mut Changes) -> Result<(), Failed>
+        ensures count { self.new.faults ≡ self.old.faults }
+        ensures laid { OnOk result (self.new.layout ≡ laid self.old.layout changes.old) }
+        ensures unlaid { OnErr result (self.new.layout ≡ self.old.layout) }
+    {
+        self.write(changes)?;
+        lay(&mut self.layout, changes.upto.take(), changes.two);
         Ok(())
     }
 }
@@ -181,6 +227,8 @@ impl<D: Database> Keeper for DatabaseKeeper<D> {
     type Desk = SqlDesk;
 
     ghost told = { λ keeper. None };
+
+    ghost layout = { λ keeper. keeper.layout };
 
     ghost spare = { λ keeper. 2 ^ 64 - 1 };
 
@@ -277,9 +325,19 @@ impl<D: Database> Keeper for DatabaseKeeper<D> {
         self.count(answer)
     }
 
-    fn holder(&mut self, alloc: Global, key: &str) -> Result<Option<Cid>, KeepError> {
-        let answer = mc_database::holder(self.database.get_mut(), alloc, key);
-        self.count(answer)
+    fn layout(&mut self, alloc: Global) -> Result<Layout, KeepError> {
+        match copy_of(alloc, &self.layout) {
+            Ok(layout) => Ok(layout),
+            Err(AllocError) => Err(KeepError::Memory),
+        }
+    }
+
+    fn winner(&mut self, key: &str) -> Result<Option<Cid>, Failed> {
+        if !self.layout.covers(key) {
+            return Ok(None);
+        }
+        let answer = mc_database::winner(self.database.get_mut(), key);
+        self.count_failed(answer)
     }
 
     fn has(&mut self, key: &str) -> Result<bool, Failed> {
@@ -320,7 +378,22 @@ impl<D: Database> Keeper for DatabaseKeeper<D> {
     }
 
     fn commit(&mut self, changes: Changes) -> Result<(), Failed> {
-        let answer = self.make(&changes);
+        let mut changes = changes;
+        let answer = self.make(&mut changes);
         self.count_failed(answer)
+    }
+}
+
+// A copy, which takes no memory where all winner rows are there.
+fn copy_of(alloc: Global, layout: &Layout) -> Result<Layout, AllocError>
+    ensures same { IfOk result (λ copy. copy ≡ layout.now) }
+    ensures no_memory { IfErr result (λ _. layout.now ≢ Two) }
+{
+    match layout {
+        Layout::One { upto: None } => Ok(Layout::One { upto: None }),
+        Layout::One { upto: Some(upto) } => Ok(Layout::One {
+            upto: Some(Text::from_text(alloc, upto.as_str())?),
+        }),
+        Layout::Two => Ok(Layout::Two),
     }
 }

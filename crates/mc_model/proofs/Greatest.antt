@@ -154,23 +154,23 @@ greatest_is_greatest (x ∷ xs) =
 
 -- the order ties just what is one
 
+pub one_ranked : (m x : Ranked) → same_ranked m x ≡ true → m ≡ x
+one_ranked (p, v) (q, w) e =
+    let parts = and_parts (nat_eq p q) (bytes_eq v w) e in
+    let first : p ≡ q = eqb-true p q parts.0 in
+    let second : v ≡ w = (bytes_eq-Decides v w).0 parts.1 in
+    cc
+
+pub ranked_itself : (m : Ranked) → same_ranked m m ≡ true
+ranked_itself (p, v) = ap (λ b. b && bytes_eq v v) (eq-eqb p p refl) ∙ (bytes_eq-Decides v v).1 refl
+
 tied_same : (m x : Ranked) → is_eq (rank_cmp m x) ≡ same_ranked m x
 tied_same m x =
     elim (same_ranked m x) as (λ t. same_ranked m x ≡ t → is_eq (rank_cmp m x) ≡ t) [
-      | true ↦ λ e. ap (λ (z : Ranked). is_eq (rank_cmp m z)) (sym (same_one m x e)) ∙ ap is_eq (tied_itself rank_total m)
-      | false ↦ λ e. apart (rank_cmp m x) (λ tied. absurd (let no : false ≡ true = sym e ∙ ap (same_ranked m) (sym (rank_tied m x tied)) ∙ one_itself m in cc))
+      | true ↦ λ e. ap (λ (z : Ranked). is_eq (rank_cmp m z)) (sym (one_ranked m x e)) ∙ ap is_eq (tied_itself rank_total m)
+      | false ↦ λ e. apart (rank_cmp m x) (λ tied. absurd (let no : false ≡ true = sym e ∙ ap (same_ranked m) (sym (rank_tied m x tied)) ∙ ranked_itself m in cc))
     ] refl
   where
-    same_one : (m x : Ranked) → same_ranked m x ≡ true → m ≡ x
-    same_one (p, v) (q, w) e =
-        let parts = and_parts (nat_eq p q) (bytes_eq v w) e in
-        let first : p ≡ q = eqb-true p q parts.0 in
-        let second : v ≡ w = (bytes_eq-Decides v w).0 parts.1 in
-        cc
-
-    one_itself : (m : Ranked) → same_ranked m m ≡ true
-    one_itself (p, v) = ap (λ b. b && bytes_eq v v) (eq-eqb p p refl) ∙ (bytes_eq-Decides v v).1 refl
-
     apart : (o : Ordering) → (o ≡ Equal → is_eq o ≡ false) → is_eq o ≡ false
     apart Less h = refl
     apart Equal h = h refl

@@ -31,3 +31,6 @@ pub mod GapCount
 pub mod MadeLinks
 pub mod Valued
 pub mod MayCome
+pub mod Topmost
+pub mod WhoFacts
+pub mod MoveFacts

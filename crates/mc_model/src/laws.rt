@@ -9,6 +9,7 @@ ghost use Rattle.mc_model.specs.Live.{has_tomb, value_row};
 ghost use Rattle.mc_model.specs.State.{Durable, Running};
 ghost use Rattle.mc_model.specs.Rank.{Ranked, greatest, IsGreatestOf};
 ghost use Rattle.mc_model.specs.SameMembers.{SameMembers};
+ghost use Rattle.mc_model.specs.Who.{IsWhoOf, who};
 
 /// The greatest of values with priorities is one of them, and none of them is above it; there is none only where there
 /// are no values; and it depends on the members alone, not on their order or number.
@@ -25,6 +26,7 @@ pub fn same_blocks_same_answers()
         SameMembers (joined xs) (joined ys) →
         SameAnswers (processed_in_groups durable run xs) (processed_in_groups durable run ys) }
     ensures value { (xs ys : List Block) → SameMembers xs ys → (key : List ℕ) → value_row xs key ≡ value_row ys key }
+    ensures who { (xs ys : List Block) → SameMembers xs ys → (key : List ℕ) → who xs key ≡ who ys key }
     ensures hidden { (xs ys : List Block) → SameMembers xs ys → (key id : List ℕ) → has_tomb xs key id
         ≡ has_tomb ys key id }
     ensures processed { (xs ys : List Block) → SameMembers xs ys → (cid : Cid) → is_processed xs cid
@@ -36,6 +38,13 @@ pub fn same_blocks_same_answers()
     ensures heads { (xs ys : List Block) → SameMembers xs ys → heads xs ≡ heads ys }
     ensures head { (xs ys : List Block) → SameMembers xs ys → (cid : Cid) → is_some (head_at xs cid)
         ≡ is_some (head_at ys cid) }
+{}
+
+/// Where a key has a value, the block that gives it holds a live element of the key with the greatest priority and, of
+/// equal ones, the greatest bytes, and no block with a lesser identifier holds such a one; and there is none just where
+/// the key has no value.
+pub fn who_is_least()
+    ensures { (blocks : List Block) (key : List ℕ) → IsWhoOf blocks key (who blocks key) }
 {}
 
 /// A list that has each gap once has as many identifiers as there are gaps.

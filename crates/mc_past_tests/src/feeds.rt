@@ -233,10 +233,10 @@ fn is_event(event: &Event, wanted: &(u64, &str, Option<&[u8]>)) -> bool {
     event.position == *position && event.key.as_str() == *key && same
 }
 
-// A plan by which the second read fails: the first is the opening's.
+// A plan by which the third read fails: the first two are the opening's.
 fn failing(alloc: Global) -> Result<FaultPlan, AllocError> {
     let mut plan = FaultPlan::nothing(alloc);
-    plan.reads.push(2)?;
+    plan.reads.push(3)?;
     Ok(plan)
 }
 

@@ -2,6 +2,7 @@
 use Rattle.std.proofs.Common.{◌≡◌, ap, sym, ℕ, Bool, false, Option, Err}
 use Rattle.std.specs.Prelude.{⊤}
 use Rattle.mc_model.specs.Kept.{Kept}
+use Rattle.mc_model.specs.declared.layout.Layout.{Layout}
 use Rattle.mc_keep.specs.Causes.{is_fault_kind}
 use Rattle.mc_keep.specs.Frame.{ReadsAt}
 use Rattle.mc_keep.specs.Plan.{Schedule, is_fault as keeper_failed}
@@ -18,6 +19,6 @@ same_fault Failed error of = ap (λ e. is_fault_kind (kind_of e)) (sym of)
 same_fault Memory error of = ap (λ e. is_fault_kind (kind_of e)) (sym of)
 
 -- nothing was read
-pub reads_nothing : {K : Type 0} {told : K → Option Kept} {fuse : K → Option Fuse} {spare own faults : K → ℕ} {quiet : K → Bool} {schedule : K → Option Schedule} {failed : Bool} (now : K) → failed ≡ false
-    → ReadsAt told fuse spare own faults quiet schedule failed now now
+pub reads_nothing : {K : Type 0} {told : K → Option Kept} {layout : K → Layout} {fuse : K → Option Fuse} {spare own faults : K → ℕ} {quiet : K → Bool} {schedule : K → Option Schedule} {failed : Bool} (now : K) → failed ≡ false
+    → ReadsAt told layout fuse spare own faults quiet schedule failed now now
 reads_nothing now well = read_well (read_itself now) (sym well)

@@ -32,7 +32,7 @@ use Rattle.mc_plan.proofs.KnownFacts.{known_is}
 abbrev pub FitLaw : Type 0
 FitLaw = (kept : Kept) (blocks : List Block) (changes : Changes) → changes.store ≡ [] → changes.marks ≡ map (λ (block : Block). block.cid) blocks → AreNew kept blocks
     → list_all (is_stored kept.graph) (map (λ (block : Block). block.cid) blocks) ≡ true → blocks_in kept.graph (map (λ (block : Block). block.cid) blocks) ≡ blocks
-    → RowsFit (processed kept) blocks changes → FrontFits (processed kept) blocks changes → ChangesFit kept changes
+    → RowsFit (processed kept) blocks changes → FrontFits (processed kept) blocks changes → (changes.two ≡ false) × (changes.upto ≡ None) → ChangesFit kept changes
 
 abbrev pub SoundLaw : Type 0
 SoundLaw = (kept : Kept) (changes : Changes) → IsKept kept → StoreFits kept changes → MarksFit kept changes → IsKept (changed kept changes)
@@ -86,7 +86,7 @@ module _ (fit_law : FitLaw) (sound_law : SoundLaw) (mark_law : MarkLaw) (links_l
       → ((q : Queue) → processed_queue (durable_of kept) q (map (λ (block : Block). block.cid) blocks) ≡ wants (without q (map (λ (block : Block). block.cid) blocks)) after.links)
       → IsReady kept whole changes after
   ready kept whole blocks changes after sound new stored are p left wanted = record {
-    fits = fit_law kept blocks changes p.only p.marks new stored are p.rows p.front;
+    fits = fit_law kept blocks changes p.only p.marks new stored are p.rows p.front p.ordinary;
     mark = mark_fits kept whole blocks changes sound new stored are p.mark ∙ ap (λ cids. processed_mark whole (durable_of kept) (kept.order ++ cids)) (sym p.marks);
     gaps_left = left ∙ ap (λ b. length (gaps b)) (sym (processed_then kept blocks changes p.only p.marks are));
     wanted = subst (λ cids. (q : Queue) → processed_queue (durable_of kept) q cids ≡ wants (without q cids) after.links) (sym p.marks) wanted;
@@ -153,6 +153,7 @@ process_of old new whole blocks cids changes mark same p = record {
   only = p.only;
   marks = p.marks;
   rows = subst (λ b. RowsFit b blocks changes) (sym same) p.rows;
+  ordinary = p.ordinary;
   front = subst (λ b. FrontFits b blocks changes) (sym same) p.front;
   mark = ap (λ m. unwrap_or changes.mark m) mark ∙ p.mark ∙ ap (λ m. mark_over whole m (processed old ++ blocks)) (sym mark) ∙ ap (λ b. mark_over whole new.mark (b ++ blocks)) (sym same);
 }

@@ -46,6 +46,7 @@ pub record Processes (kept : Kept) (whole : Bool) (blocks : List Block) (cids : 
   pub only : changes.store ≡ []
   pub marks : changes.marks ≡ cids
   pub rows : RowsFit (processed kept) blocks changes
+  pub ordinary : (changes.two ≡ false) × (changes.upto ≡ None)
   pub front : FrontFits (processed kept) blocks changes
   pub mark : unwrap_or changes.mark kept.mark ≡ mark_over whole kept.mark (processed kept ++ blocks)
 

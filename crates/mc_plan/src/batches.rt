@@ -1,6 +1,7 @@
 // The block of a batch, up to its commits.
 ghost use Rattle.mc_keep.specs.Calls.{Reads};
 ghost use Rattle.std.specs.Prelude.{◌≡◌, ◌≤◌, [], None, IfOk, IfSome, IfErr};
+ghost use Rattle.mc_model.specs.declared.layout.Layout.TheVariants.{Two};
 ghost use Rattle.mc_keep.specs.Causes.{IfTold};
 ghost use Rattle.mc_plan.specs.Batches.{batch_made_refusal};
 ghost use Rattle.mc_plan.specs.Batches.{delta_of_batch};
@@ -24,6 +25,7 @@ pub fn plan_batch<K: Keeper>(
     batch: &Batch,
     whole: bool,
 ) -> Result<Planned, CoreError>
+    requires two { K.layout keeper.old ≡ Two }
     ensures allowed { IfTold (K.told keeper.old) result (λ kept planned. batch_made_refusal kept batch.now ≡ None) }
     ensures planned { IfTold (K.told keeper.old) result (λ kept planned.
         IsPlanned kept whole (next_links kept) (delta_of_batch kept batch.now) planned) }

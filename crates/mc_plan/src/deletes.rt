@@ -4,6 +4,7 @@ ghost use Rattle.std.specs.Prelude.{◌≡◌, ◌≤◌, ◌^◌, nat_lt, ◌++
 ghost use Rattle.std.specs.List.{list_all};
 ghost use Rattle.mc_model.specs.Kept.{is_stored};
 ghost use Rattle.mc_model.specs.Made.{made_bytes, made_cid};
+ghost use Rattle.mc_model.specs.declared.layout.Layout.TheVariants.{Two};
 ghost use Rattle.mc_keep.specs.Causes.{IfTold};
 ghost use Rattle.mc_keep.specs.Plan.{is_fault as keeper_failed};
 ghost use Rattle.mc_plan.specs.Deletes.{AreMade, DeleteKeptRefusal};
@@ -48,6 +49,7 @@ pub fn plan_one<K: Keeper>(
     made: MadeBlock,
     whole: bool,
 ) -> Result<Uptake, CoreError>
+    requires two { K.layout keeper.old ≡ Two }
     requires new { IfSome (K.told keeper.old) (λ kept. IsNew kept made.block made.bytes []) }
     requires stored { IfSome (K.told keeper.old) (λ kept. made.known ≡ is_stored kept.graph made.block.cid) }
     ensures uptake { IfTold (K.told keeper.old) result (λ kept uptake.

@@ -7,6 +7,7 @@ ghost use Rattle.mc_keep.specs.Plan.{is_fault as keeper_failed};
 ghost use Rattle.mc_model.specs.Front.{is_among};
 ghost use Rattle.mc_model.specs.Kept.{bytes_at, is_stored};
 ghost use Rattle.mc_model.specs.Offer.{is_good, offer};
+ghost use Rattle.mc_model.specs.declared.layout.Layout.TheVariants.{Two};
 ghost use Rattle.mc_plan.specs.Jobs.{IsTaken};
 ghost use Rattle.mc_model.specs.Events.{Process};
 ghost use Rattle.mc_plan.specs.Uptakes as uptakes;
@@ -39,6 +40,7 @@ pub fn plan_arrival<K: Keeper>(
     bytes: Bytes,
     whole: bool,
 ) -> Result<Arrival, KeepError>
+    requires two { K.layout keeper.old ≡ Two }
     requires good { (offer cid.now bytes ≡ Ok block) × (block.cid ≡ cid.now) }
     requires new { IfSome (K.told keeper.old) (λ kept. is_among kept.order cid.now ≡ false) }
     ensures uptake { IfTold (K.told keeper.old) result (λ kept arrival. IsSomeUptake kept whole arrival.uptake) }
@@ -65,6 +67,7 @@ fn plan_block<K: Keeper>(
     known: bool,
     whole: bool,
 ) -> Result<Arrival, KeepError>
+    requires two { K.layout keeper.old ≡ Two }
     requires new { IfSome (K.told keeper.old) (λ kept. IsNew kept block.now bytes (uptakes.open_links kept block.now)) }
     requires stored { IfSome (K.told keeper.old) (λ kept. known ≡ is_stored kept.graph block.now.cid) }
     ensures uptake { IfTold (K.told keeper.old) result (λ kept arrival.

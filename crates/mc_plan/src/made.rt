@@ -7,6 +7,7 @@ ghost use Rattle.mc_model.specs.Front.{is_among};
 ghost use Rattle.mc_model.specs.Kept.{processed, is_stored};
 ghost use Rattle.mc_model.specs.Made.{made_bytes, made_cid, next_priority};
 ghost use Rattle.mc_model.specs.Offer.{block_max, offer};
+ghost use Rattle.mc_model.specs.declared.layout.Layout.TheVariants.{Two};
 ghost use Rattle.mc_keep.specs.Causes.{IfTold};
 ghost use Rattle.mc_write.specs.Pairs.{row_cids};
 ghost use Rattle.mc_plan.specs.Exact.{front_of};
@@ -145,7 +146,8 @@ pub(crate) fn plan_made<K: Keeper>(
     delta: Delta,
     whole: bool,
 ) -> Result<Planned, CoreError>
-    requires { IfSome (K.told keeper.old) (λ kept. list_all (is_among kept.order) links ≡ true) }
+    requires two { K.layout keeper.old ≡ Two }
+    requires linked { IfSome (K.told keeper.old) (λ kept. list_all (is_among kept.order) links ≡ true) }
     ensures planned { IfTold (K.told keeper.old) result (λ kept planned. IsPlanned kept whole links delta planned) }
     ensures front { front_of result ≡ None }
     ensures refused { IfSome (K.told keeper.old) (λ kept. IfErr result (IsDue (Is (made_refusal kept links delta)))) }
@@ -172,6 +174,7 @@ fn plan_written<K: Keeper>(
     bytes: Bytes,
     whole: bool,
 ) -> Result<Planned, CoreError>
+    requires two { K.layout keeper.old ≡ Two }
     requires linked { IfSome (K.told keeper.old) (λ kept. list_all (is_among kept.order) block.now.links ≡ true) }
     requires bytes { bytes ≡ made_bytes block.now.links block.now.delta }
     requires cid { block.now.cid ≡ made_cid block.now.links block.now.delta }

@@ -1,6 +1,7 @@
 // Puts, up to their commits.
 ghost use Rattle.mc_keep.specs.Calls.{Reads};
 ghost use Rattle.std.specs.Prelude.{◌≡◌, ◌≤◌, [], None, Some, false, IfOk, IfSome, IfErr, OnOk};
+ghost use Rattle.mc_model.specs.declared.layout.Layout.TheVariants.{Two};
 ghost use Rattle.mc_keep.specs.Causes.{IfTold};
 ghost use Rattle.mc_plan.specs.Exact.{front_of, put_front};
 ghost use Rattle.mc_plan.specs.Uptakes.{IsShaped, uptake_rows};
@@ -52,6 +53,7 @@ fn plan_made_put<K: Keeper>(
     value: &[u8],
     whole: bool,
 ) -> Result<Planned, CoreError>
+    requires two { K.layout keeper.old ≡ Two }
     ensures allowed { IfTold (K.told keeper.old) result (λ kept planned.
         put_made_refusal kept key.now value.now ≡ None) }
     ensures planned { IfTold (K.told keeper.old) result (λ kept planned.
@@ -80,6 +82,7 @@ pub fn plan_put<K: Keeper>(
     value: &[u8],
     whole: bool,
 ) -> Result<Planned, CoreError>
+    requires two { K.layout keeper.old ≡ Two }
     ensures allowed { IfTold (K.told keeper.old) result (λ kept planned.
         put_kept_refusal kept key.now value.now ≡ None) }
     ensures planned { IfTold (K.told keeper.old) result (λ kept planned.

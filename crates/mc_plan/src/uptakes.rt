@@ -2,6 +2,7 @@
 ghost use Rattle.mc_keep.specs.Calls.{Reads, Reserves};
 ghost use Rattle.std.specs.Prelude.{◌≡◌, ◌≤◌, ◌+◌, ◌++◌, ◌∷◌, [], true, false, map, length, IfSome, IfOk, OnOk};
 ghost use Rattle.mc_model.specs.declared.block.Block.{Block};
+ghost use Rattle.mc_model.specs.declared.layout.Layout.TheVariants.{Two};
 ghost use Rattle.mc_model.specs.Front.{gaps};
 ghost use Rattle.mc_model.specs.Kept.{processed, is_stored};
 ghost use Rattle.mc_keep.specs.Causes.{IfTold};
@@ -44,6 +45,7 @@ fn process_changes<K: Keeper>(
     whole: bool,
     changes: &mut Changes,
 ) -> Result<u64, KeepError>
+    requires two { K.layout keeper.old ≡ Two }
     requires none { changes.old ≡ no_changes }
     requires new { IfSome (K.told keeper.old) (λ kept. AreNew kept blocks.now) }
     ensures process { IfTold (K.told keeper.old) result (λ kept count.
@@ -112,6 +114,7 @@ pub(crate) fn uptake_of<K: Keeper>(
     links: List<Cid>,
     whole: bool,
 ) -> Result<Uptake, KeepError>
+    requires two { K.layout keeper.old ≡ Two }
     requires new { IfSome (K.told keeper.old) (λ kept. IsNew kept block.now bytes links) }
     requires stored { IfSome (K.told keeper.old) (λ kept. known ≡ is_stored kept.graph block.now.cid) }
     ensures uptake { IfTold (K.told keeper.old) result (λ kept uptake. IsUptake kept whole block.now bytes uptake) }
@@ -149,6 +152,7 @@ fn plan_changes<K: Keeper>(
     whole: bool,
     process: &mut Changes,
 ) -> Result<(Option<Changes>, u64), KeepError>
+    requires two { K.layout keeper.old ≡ Two }
     requires none { process.old ≡ no_changes }
     requires new { IfSome (K.told keeper.old) (λ kept. AreNew kept (block.now ∷ [])) }
     ensures stored { known ≡ true → IfOk result (λ plan. plan.0 ≡ Rattle.std.specs.Prelude.None) }

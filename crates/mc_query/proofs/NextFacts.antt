@@ -96,7 +96,7 @@ first_past bound inclusive key (low ∷ keys) sorted past least there = (elim (i
     outside smaller e Greater more = absurd (false≢true (sym e ∙ past_more bound inclusive key low past (nat_list_cmp_total.antisymm key low ∙ ap ordering_reverse more)))
 
 -- where no key past a bound is among them, none is
-none_past : (bound : List ℕ) (inclusive : Bool) (keys : List (List ℕ)) → ((key : List ℕ) → is_past bound inclusive key ≡ true → has_key key keys ≡ true → ⊥) → filter (is_past bound inclusive) keys ≡ []
+pub none_past : (bound : List ℕ) (inclusive : Bool) (keys : List (List ℕ)) → ((key : List ℕ) → is_past bound inclusive key ≡ true → has_key key keys ≡ true → ⊥) → filter (is_past bound inclusive) keys ≡ []
 none_past bound inclusive [] none = refl
 none_past bound inclusive (key ∷ keys) none = (elim (is_past bound inclusive key) as (λ b. is_past bound inclusive key ≡ b → cond b (key ∷ filter (is_past bound inclusive) keys) (filter (is_past bound inclusive) keys) ≡ []) [
   | true ↦ λ e. absurd (none key e (ap (λ b. b || has_key key keys) ((bytes_decides key key).1 refl)))
@@ -152,13 +152,13 @@ abbrev pub AreExact : Type 0
 AreExact = (blocks : List Block) (key : List ℕ) → list_any (λ other. bytes_eq other key) (valued_keys blocks) ≡ has_value blocks key
 
 module _ (sorted : AreSorted) (exact : AreExact) where
-  no_row : (blocks : List Block) (key : List ℕ) → value_row blocks key ≡ None → has_key key (valued_keys blocks) ≡ true → ⊥
+  pub no_row : (blocks : List Block) (key : List ℕ) → value_row blocks key ≡ None → has_key key (valued_keys blocks) ≡ true → ⊥
   no_row blocks key none there = false≢true (sym (exact blocks key ∙ ap (λ (row : Option Ranked). is_some (option_map (λ (best : Ranked). best.1) row)) none) ∙ there)
 
   row_there : (blocks : List Block) (key : List ℕ) (best : Ranked) → value_row blocks key ≡ Some best → has_key key (valued_keys blocks) ≡ true
   row_there blocks key best is = exact blocks key ∙ ap (λ (row : Option Ranked). is_some (option_map (λ (best : Ranked). best.1) row)) is
 
-  past_row : (blocks : List Block) (bound : List ℕ) (inclusive : Bool) (row : ValueRow) → IsNextRow (value_row blocks) bound inclusive row →
+  pub past_row : (blocks : List Block) (bound : List ℕ) (inclusive : Bool) (row : ValueRow) → IsNextRow (value_row blocks) bound inclusive row →
       filter (is_past bound inclusive) (valued_keys blocks) ≡ row.key ∷ filter (is_past row.key false) (valued_keys blocks)
   past_row blocks bound inclusive row next =
       first_past bound inclusive row.key (valued_keys blocks) (sorted blocks) next.past (λ other past below there. no_row blocks other (next.least other past below) there) (row_there blocks row.key (row.priority, row.value) next.is_value)

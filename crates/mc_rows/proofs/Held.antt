@@ -1,44 +1,57 @@
--- Where no new tombstone hides the block of a key's value, the value stands.
-use Rattle.std.proofs.Common.{◌≡◌, ℕ, Bool, true, false, true≢false, List, Option, Some, None, sym, ap, ◌∙◌, subst}
-use Rattle.std.specs.Prelude.{IfSome, is_some}
+-- What counts of a key, as its keeper tells it; and where no new tombstone hides its block, it still counts.
+use Rattle.std.proofs.Common.{◌≡◌, ℕ, Bool, true, false, List, Option, Some, None, refl, sym, ap, ◌∙◌, subst}
+use Rattle.std.specs.Prelude.{IfSome}
+use Rattle.std.specs.Option.{option_map}
 use Rattle.mc_base.specs.declared.cid.Cid.{Cid}
-use Rattle.mc_model.specs.Id.{id_text}
+use Rattle.mc_model.specs.declared.layout.Layout.{Layout}
+use Rattle.mc_model.specs.declared.layout.Layout.TheVariants.{Two}
 use Rattle.mc_model.specs.Kept.{Kept, processed}
+use Rattle.mc_model.specs.Layouts.{winner_in}
 use Rattle.mc_model.specs.Live.{value_row}
+use Rattle.mc_model.specs.Rank.{Ranked}
+use Rattle.mc_model.specs.Who.{Placed, top_row, who}
+use Rattle.mc_model.proofs.WhoFacts.{ranked_in_place, block_in_place, value_is_top}
 use Rattle.mc_keep.specs.declared.rows.TombRow.{TombRow}
 use Rattle.mc_keep.specs.declared.rows.RankedValue.{RankedValue}
-use Rattle.mc_keep.specs.Changes.{has_tomb_row, ranked_value}
-use Rattle.mc_keep.specs.LiveRows.{IsHolder}
-use Rattle.mc_rows.specs.Hiding.{has_tomb_of, HidesValue, Stands}
-use Rattle.mc_rows.proofs.Lives.{untouched_row_stands, no_row_stands, held_row_stands}
+use Rattle.mc_keep.specs.Changes.{ranked_value}
+use Rattle.mc_rows.specs.Hiding.{is_top_hidden, Stands}
+use Rattle.mc_rows.proofs.Lives.{no_row_stands, top_row_stands}
 
--- the key has no value
-pub no_value_told : (told : Option Kept) (tombs : List TombRow) (key : List ℕ) (old : Option RankedValue) → IfSome told (λ kept. ranked_value old ≡ value_row (processed kept) key) → is_some old ≡ false
-    → IfSome told (λ kept. false ≡ false → Stands (processed kept) tombs key)
-no_value_told None tombs key old is none = tt
-no_value_told (Some kept) tombs key None is none = λ e. no_row_stands (processed kept) tombs key (sym is)
-no_value_told (Some kept) tombs key (Some row) is none = absurd (cc)
+-- a key without a value, or without a winner, has nothing that counts
 
--- no new tombstone has the key
-pub no_tomb_told : (told : Option Kept) (tombs : List TombRow) (key : List ℕ) → has_tomb_of tombs key ≡ false → IfSome told (λ kept. false ≡ false → Stands (processed kept) tombs key)
-no_tomb_told None tombs key none = tt
-no_tomb_told (Some kept) tombs key none = λ e. untouched_row_stands (processed kept) tombs key none
+no_part : {A : Type 0} (part : Placed → A) (top : Option Placed) → None ≡ option_map part top → None ≡ top
+no_part part None e = refl
+no_part part (Some p) e = absurd (cc)
 
--- the block that holds the value may be hidden
-pub held_told : (told : Option Kept) (tombs : List TombRow) (key id : List ℕ) (cid : Cid) (found : Option Cid) (hidden : Bool) → IfSome told (λ kept. IsHolder (processed kept) key found) → found ≡ Some cid
-    → id ≡ id_text cid.0 → hidden ≡ has_tomb_row tombs key id → IfSome told (λ kept. hidden ≡ false → Stands (processed kept) tombs key)
-held_told None tombs key id cid found hidden holds is named asked = tt
-held_told (Some kept) tombs key id cid found hidden holds is named asked =
-    λ e. held_row_stands (processed kept) tombs key cid (subst (IsHolder (processed kept) key) is holds) (ap (has_tomb_row tombs key) (sym named) ∙ sym asked ∙ e)
+none_of : {A : Type 0} (x : Option A) → ((a : A) → x ≡ Some a → ⊥) → x ≡ None
+none_of None never = refl
+none_of (Some a) never = absurd (never a refl)
 
--- and where one does, it hides a block that holds the value
+pub no_value : (told : Option Kept) (key : List ℕ) (value : Option RankedValue) → ((v : RankedValue) → value ≡ Some v → ⊥) → IfSome told (λ kept. ranked_value value ≡ value_row (processed kept) key)
+    → IfSome told (λ kept. None ≡ top_row (processed kept) key)
+no_value None key value never is = tt
+no_value (Some kept) key value never is = no_part ranked_in_place (top_row (processed kept) key) (sym (ap ranked_value (none_of value never)) ∙ is ∙ value_is_top (processed kept) key)
 
-pub nothing_hides : (told : Option Kept) (tombs : List TombRow) (key : List ℕ) → IfSome told (λ kept. false ≡ true → HidesValue (processed kept) tombs key)
-nothing_hides None tombs key = tt
-nothing_hides (Some kept) tombs key = λ e. absurd (true≢false (sym e))
+-- the value with the winner is what counts
 
-pub held_hides : (told : Option Kept) (tombs : List TombRow) (key id : List ℕ) (cid : Cid) (found : Option Cid) (hidden : Bool) → IfSome told (λ kept. IsHolder (processed kept) key found) → found ≡ Some cid
-    → id ≡ id_text cid.0 → hidden ≡ has_tomb_row tombs key id → IfSome told (λ kept. hidden ≡ true → HidesValue (processed kept) tombs key)
-held_hides None tombs key id cid found hidden holds is named asked = tt
-held_hides (Some kept) tombs key id cid found hidden holds is named asked =
-    λ e. record { cid = cid; holds = subst (IsHolder (processed kept) key) is holds; hidden = ap (has_tomb_row tombs key) (sym named) ∙ sym asked ∙ e }
+both_parts : (top : Option Placed) (ranked : Ranked) (cid : Cid) → Some ranked ≡ option_map ranked_in_place top → Some cid ≡ option_map block_in_place top → Some (ranked, cid) ≡ top
+both_parts None ranked cid e f = absurd (cc)
+both_parts (Some p) ranked cid e f = λ i. Some (some_is ranked p.0 e i, some_is cid p.1 f i)
+  where
+    some_is : {A : Type 0} (x y : A) → Some x ≡ Some y → x ≡ y
+    some_is x y e = cc
+
+pub both_told : (told : Option Kept) (layout : Layout) (key : List ℕ) (value : Option RankedValue) (found : Option Cid) (v : RankedValue) (cid : Cid) → layout ≡ Two → value ≡ Some v → found ≡ Some cid
+    → IfSome told (λ kept. ranked_value value ≡ value_row (processed kept) key)
+    → IfSome told (λ kept. found ≡ winner_in layout (processed kept) key)
+    → IfSome told (λ kept. Some ((v.priority, v.value), cid) ≡ top_row (processed kept) key)
+both_told None layout key value found v cid two e f is won = tt
+both_told (Some kept) layout key value found v cid two e f is won =
+    both_parts (top_row (processed kept) key) (v.priority, v.value) cid (sym (ap ranked_value e) ∙ is ∙ value_is_top (processed kept) key) (sym f ∙ won ∙ ap (λ (y : Layout). winner_in y (processed kept) key) two)
+
+-- what no new tombstone hides still counts
+pub stands_told : (told : Option Kept) (tombs : List TombRow) (key : List ℕ) (top : Option Placed) → IfSome told (λ kept. top ≡ top_row (processed kept) key) → is_top_hidden tombs key top ≡ false
+    → IfSome told (λ kept. Stands (processed kept) tombs key)
+stands_told None tombs key top is shown = tt
+stands_told (Some kept) tombs key None is shown = no_row_stands (processed kept) tombs key (sym is)
+stands_told (Some kept) tombs key (Some placed) is shown = top_row_stands (processed kept) tombs key placed (sym is) shown

@@ -8,3 +8,4 @@ pub mod FitAll
 pub mod Held
 pub mod HiddenFacts
 pub mod AboveFacts
+pub mod Ties

@@ -1,16 +1,15 @@
 -- What lives of the rows of a key.
-use Rattle.std.specs.Prelude.{◌≡◌, ℕ, Bool, true, not, ◌||◌, List, ◌++◌, filter, Option}
+use Rattle.std.specs.Prelude.{◌≡◌, ℕ, Bool, false, not, ◌||◌, List, ◌++◌, filter, Option, Some, None}
 use Rattle.std.specs.List.{list_any}
 use Rattle.std.specs.Str.{bytes_eq}
-use Rattle.mc_base.specs.declared.cid.Cid.{Cid}
 use Rattle.mc_model.specs.declared.block.Block.{Block}
 use Rattle.mc_model.specs.Id.{id_text}
-use Rattle.mc_model.specs.Live.{has_tomb, value_row}
-use Rattle.mc_model.specs.Rank.{Ranked, greatest}
+use Rattle.mc_model.specs.Live.{has_tomb}
+use Rattle.mc_model.specs.Who.{Placed, topmost, top_row}
 use Rattle.mc_keep.specs.declared.rows.ElementRow.{ElementRow}
 use Rattle.mc_keep.specs.declared.rows.TombRow.{TombRow}
 use Rattle.mc_keep.specs.Changes.{has_tomb_row}
-use Rattle.mc_keep.specs.LiveRows.{live_rows, HoldsValue}
+use Rattle.mc_keep.specs.LiveRows.{place_rows}
 use Rattle.mc_keep.specs.Tables.{element_rows_of}
 
 -- whether a tombstone is in no block
@@ -32,21 +31,20 @@ has_element_of rows key = list_any (λ (row : ElementRow). bytes_eq row.key key)
 abbrev pub has_tomb_of : List TombRow → List ℕ → Bool
 has_tomb_of rows key = list_any (λ (row : TombRow). bytes_eq row.key key) rows
 
--- the value row of a key over the blocks, these new rows of the key, and new tombstones
-abbrev pub row_from : List Block → List ElementRow → List TombRow → List ℕ → Option Ranked
-row_from blocks run tombs key = greatest (live_rows (hides blocks tombs key) (element_rows_of blocks key ++ run))
+-- what counts of a key over the blocks, these new rows of the key, and new tombstones
+abbrev pub row_from : List Block → List ElementRow → List TombRow → List ℕ → Option Placed
+row_from blocks run tombs key = topmost (place_rows (hides blocks tombs key) (element_rows_of blocks key ++ run))
 
 -- the same over all new rows
-abbrev pub new_row : List Block → List ElementRow → List TombRow → List ℕ → Option Ranked
+abbrev pub new_row : List Block → List ElementRow → List TombRow → List ℕ → Option Placed
 new_row blocks elements tombs key = row_from blocks (rows_with elements key) tombs key
 
--- the value row of a key is still that of its old rows
+-- what counts of a key is still what counts of its old rows
 abbrev pub Stands : List Block → List TombRow → List ℕ → Type 0
 Stands blocks tombs key =
-    greatest (live_rows (hides blocks tombs key) (element_rows_of blocks key)) ≡ value_row blocks key
+    topmost (place_rows (hides blocks tombs key) (element_rows_of blocks key)) ≡ top_row blocks key
 
--- a new tombstone hides a block that holds the value of the key
-pub record HidesValue (blocks : List Block) (tombs : List TombRow) (key : List ℕ) : Type 0 where
-  pub cid : Cid
-  pub holds : HoldsValue blocks key cid
-  pub hidden : has_tomb_row tombs key (id_text cid.0) ≡ true
+-- whether a new tombstone hides the block that gives the key its value
+abbrev pub is_top_hidden : List TombRow → List ℕ → Option Placed → Bool
+is_top_hidden tombs key None = false
+is_top_hidden tombs key (Some placed) = has_tomb_row tombs key (id_text placed.1.0)

@@ -30,6 +30,14 @@ impl<'a> NewElement<'a> {
         &self.block.cid
     }
 
+    // The same for as long as the block lives.
+    pub(crate) fn cid_of(&self) -> &'a Cid
+        ensures { result.now ≡ (row_of self.now).cid }
+    {
+        let block: &'a Block = self.block;
+        &block.cid
+    }
+
     pub(crate) fn priority(&self) -> u64
         ensures { result ≡ (row_of self.now).priority }
     {

@@ -7,8 +7,11 @@ mod elements;
 mod keys;
 mod live;
 mod merging;
+mod parts;
 mod search;
 mod tombs;
 mod values;
+mod winner;
 
 pub use merging::merge;
+pub use winner::find_winner;

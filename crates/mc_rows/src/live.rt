@@ -3,16 +3,16 @@ ghost use Rattle.std.specs.Prelude.{◌≡◌, fold, IfOk, Some};
 ghost use Rattle.std.specs.List.Sorted.{IsStrictlySortedBy};
 ghost use Rattle.mc_model.specs.Id.{id_text};
 ghost use Rattle.mc_model.specs.Kept.{processed};
-ghost use Rattle.mc_model.specs.Rank.{greater, greatest};
+ghost use Rattle.mc_model.specs.Who.{higher, topmost};
 ghost use Rattle.mc_keep.specs.Calls.{Reads};
 ghost use Rattle.mc_keep.specs.Causes.{IfTold};
 ghost use Rattle.mc_keep.specs.Changes.{has_tomb_row};
 ghost use Rattle.mc_keep.specs.Plan.{is_fault};
 ghost use Rattle.mc_rows.specs.Rows.{new_tomb_cmp, row_of, rows_of, tombs_of};
-ghost use Rattle.mc_keep.specs.LiveRows.{live_row, live_rows};
+ghost use Rattle.mc_keep.specs.LiveRows.{place_row, place_rows};
 ghost use Rattle.mc_rows.specs.Hiding.{hides};
 ghost use Rattle.mc_rows.specs.LastBlock.{LastFits};
-ghost use Rattle.mc_rows.specs.Values.{ranked_best};
+ghost use Rattle.mc_rows.specs.Values.{placed_best};
 
 use crate::best::{Best, is_above};
 use crate::elements::NewElement;
@@ -25,7 +25,12 @@ use std::alloc::{AllocError, Global};
 
 // Whether a tombstone of the group hides the elements of the key in a block. The block's id is made only where the
 // group has a tombstone of the key.
-fn is_named(alloc: Global, key: &str, cid: &Cid, tombs: &[NewTomb<'_>]) -> Result<bool, AllocError>
+pub(crate) fn is_named(
+    alloc: Global,
+    key: &str,
+    cid: &Cid,
+    tombs: &[NewTomb<'_>],
+) -> Result<bool, AllocError>
     requires sorted { IsStrictlySortedBy new_tomb_cmp tombs.now }
     ensures { IfOk result (λ named. named ≡ has_tomb_row (tombs_of tombs.now) key.now (id_text cid.now.0)) }
 {
@@ -98,7 +103,7 @@ pub(crate) fn best_of_old<'a>(
 ) -> Result<Option<Best<'a>>, AllocError>
     requires sorted { IsStrictlySortedBy new_tomb_cmp tombs.now }
     ensures best { IfOk result (λ best.
-        ranked_best best ≡ greatest (live_rows (has_tomb_row (tombs_of tombs.now) key.now) rows.now)) }
+        placed_best best ≡ topmost (place_rows (has_tomb_row (tombs_of tombs.now) key.now) rows.now)) }
 {
     let mut best = None;
     let mut last = None;
@@ -119,13 +124,14 @@ fn with_old<'a>(
 ) -> Result<Option<Best<'a>>, AllocError>
     requires sorted { IsStrictlySortedBy new_tomb_cmp tombs.now }
     requires last { LastFits (tombs_of tombs.now) key.now last.old }
-    ensures best { IfOk result (λ found. ranked_best found ≡ fold greater (ranked_best best.entry)
-        (live_row (has_tomb_row (tombs_of tombs.now) key.now) row.now)) }
+    ensures best { IfOk result (λ found. placed_best found ≡ fold higher (placed_best best.entry)
+        (place_row (has_tomb_row (tombs_of tombs.now) key.now) row.now)) }
     ensures last { LastFits (tombs_of tombs.now) key.now last.new }
 {
     let next = Best {
         priority: row.priority,
         value: row.value.as_slice(),
+        cid: &row.cid,
     };
     if !is_above(best, next) {
         return Ok(best);
@@ -149,8 +155,8 @@ pub(crate) fn best_with_new<'a, K: Keeper>(
 ) -> Result<Option<Best<'a>>, KeepError>
     requires sorted { IsStrictlySortedBy new_tomb_cmp tombs.now }
     ensures best { IfTold (K.told keeper.old) result (λ kept found.
-        ranked_best found ≡ fold greater (ranked_best best.entry)
-        (live_rows (hides (processed kept) (tombs_of tombs.now) key.now) (rows_of elements.now))) }
+        placed_best found ≡ fold higher (placed_best best.entry)
+        (place_rows (hides (processed kept) (tombs_of tombs.now) key.now) (rows_of elements.now))) }
     ensures reads { Reads K.Keeper (is_fault result) keeper.old keeper.new }
 {
     let mut best = best;
@@ -171,13 +177,14 @@ fn with_new<'a, K: Keeper>(
 ) -> Result<Option<Best<'a>>, KeepError>
     requires sorted { IsStrictlySortedBy new_tomb_cmp tombs.now }
     ensures best { IfTold (K.told keeper.old) result (λ kept found.
-        ranked_best found ≡ fold greater (ranked_best best.entry)
-        (live_row (hides (processed kept) (tombs_of tombs.now) key.now) (row_of element.now))) }
+        placed_best found ≡ fold higher (placed_best best.entry)
+        (place_row (hides (processed kept) (tombs_of tombs.now) key.now) (row_of element.now))) }
     ensures reads { Reads K.Keeper (is_fault result) keeper.old keeper.new }
 {
     let next = Best {
         priority: element.priority(),
         value: element.value,
+        cid: element.cid_of(),
     };
     if !is_above(best, next) {
         return Ok(best);

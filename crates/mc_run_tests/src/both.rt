@@ -29,8 +29,8 @@ pub(crate) fn over_sql<W: Threads + Wait + Sync>(
     )
 }
 
-// A keeper in memory that never fails.
-fn empty(alloc: Global) -> Result<MemKeeper, KeepError>
+/// A keeper in memory that never fails.
+pub(crate) fn empty(alloc: Global) -> Result<MemKeeper, KeepError>
     ensures { IfOk result (λ keeper. HasSoundMark (kept_in keeper.store.tables)) }
 {
     Ok(MemKeeper::new(alloc, FaultPlan::nothing(alloc))?)

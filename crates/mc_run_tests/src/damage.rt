@@ -53,6 +53,11 @@ fn a_row_of_another_form_is_a_fault_of_the_keeper(rt: HostRuntime) -> Result<(),
             "none\ndeleted 0\nfault keeper\nstopped\n",
         ),
         (
+            "INSERT INTO value (key, priority, value) VALUES (x'2f6b', x'0000000000000001', x'02'); INSERT INTO winner (key, cid) VALUES (x'2f6b', x'01')",
+            "get a /k\nput a /k 03\nput a /k 03",
+            "02\nfault keeper\nstopped\n",
+        ),
+        (
             "INSERT INTO mark (pos, cid) VALUES (0, x'01'); UPDATE meta SET dirty = 1",
             "get a /k\nrepair a 1\nrepair a 1",
             "none\nfault keeper\nstopped\n",
@@ -80,8 +85,11 @@ fn is_refused(alloc: Global, before: &str) -> bool {
 #[test]
 fn tables_of_another_layout_are_not_adopted(rt: HostRuntime) -> Result<(), Fail> {
     let changes = [
-        "UPDATE meta SET layout = 2",
+        "UPDATE meta SET layout = 3",
         "UPDATE meta SET layout = 0",
+        "UPDATE meta SET layout = 'two'",
+        "UPDATE meta SET layout = 1; INSERT INTO progress (id, upto) VALUES (1, x'2fff')",
+        "UPDATE meta SET layout = 1; INSERT INTO progress (id, upto) VALUES (1, 5)",
         "UPDATE meta SET dirty = 2",
         "UPDATE meta SET id = 2",
         "DELETE FROM meta",

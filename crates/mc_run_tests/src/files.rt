@@ -1,8 +1,12 @@
 // Runs over SQLite files.
 use crate::drawing::drawn_script;
+use crate::earlier::{WINNERS, statements};
+use crate::layouts::change_file;
+use crate::migrations::number;
 use crate::runs::{Given, Meeting, Ran, WHOLE, run_with};
 use mc_app::Status;
 use mc_keep_any::RealKeepers;
+use sqlite::Connection;
 use std::fs;
 use std::sync::Wait;
 use std::test::Fail;
@@ -80,6 +84,37 @@ fn a_drawn_script_has_the_replies_of_memory(rt: HostRuntime) -> Result<(), Fail>
     made(&rt, "mc_drawn_test")?;
     assert!(rt; is_written(&rt, "mc_drawn_test", script.as_str(), out.bytes(), &rt)?);
     fs::remove_dir_all(&rt, "mc_drawn_test")?;
+    Ok(())
+}
+
+// Whether plain statements find the winners in this file.
+fn has_winners(rt: &HostRuntime, file: &str) -> bool {
+    let Ok(mut connection) = Connection::open(rt, file) else {
+        return false;
+    };
+    let mut found = true;
+    for (sql, wanted) in WINNERS {
+        found = found && number(&mut connection, sql) == Some(wanted);
+    }
+    connection.close().is_ok() && found
+}
+
+#[test]
+fn a_file_of_before_is_migrated_by_a_run(rt: HostRuntime) -> Result<(), Fail> {
+    made(&rt, "mc_before_test")?;
+    let tables = statements(rt.alloc())?;
+    change_file(
+        Connection::open(&rt, "mc_before_test/a.db"),
+        tables.as_str(),
+    )?;
+    let script = "get a /k\nget a /l\nquery a / 0 9\nstate a\n";
+    let replies =
+        "05\n02\nrows 4\n/e -\n/k 05\n/l 02\n/z 09\nstate processed 7 stored 7 waiting 0 missing 0 bad 0 mark clear whole yes\n";
+    for _ in 0..2 {
+        assert!(rt; is_written(&rt, "mc_before_test", script, replies.as_bytes(), &rt)?);
+        assert!(rt; has_winners(&rt, "mc_before_test/a.db"));
+    }
+    fs::remove_dir_all(&rt, "mc_before_test")?;
     Ok(())
 }
 

@@ -1,7 +1,7 @@
 // Files of another layout, and folders in which no file is made.
-use crate::tables::changed;
+use crate::tables::{LAYOUT_ONE, changed};
 use mc_keep::KeepError;
-use mc_keep_sql::SqlKeeper;
+use mc_keep_sql::{FileKeeper, OpenFault, SqlKeeper};
 use sqlite::{Connection, Error, FileStore};
 use sqlite_disk::Disk;
 use std::fs;
@@ -32,8 +32,8 @@ fn change_tables<D: Disk + Drop>(
     close_after(keeper?.into_connection(), statements)
 }
 
-// The same over a file.
-fn change_file<D: Disk + Drop>(
+/// The same over a file.
+pub(crate) fn change_file<D: Disk + Drop>(
     connection: Result<Connection<FileStore<D>>, Error>,
     statements: &str,
 ) -> Result<(), KeepError> {
@@ -70,11 +70,41 @@ fn is_left(rt: &HostRuntime) -> Result<bool, Fail> {
 
 #[test]
 fn a_file_of_another_layout_is_left(rt: HostRuntime) -> Result<(), Fail> {
-    for statements in ["UPDATE meta SET layout = 2", "DROP TABLE link"] {
+    for statements in ["UPDATE meta SET layout = 3", "DROP TABLE link"] {
         make_folder(&rt)?;
         change_tables(SqlKeeper::open(&rt, FOLDER, 0), statements)?;
         assert!(rt; is_left(&rt)?, "{statements}");
     }
+    fs::remove_dir_all(&rt, FOLDER)?;
+    Ok(())
+}
+
+// Why the file is refused, as it is said.
+fn said_of(rt: &HostRuntime) -> Result<String, Fail> {
+    match FileKeeper::open(rt, FOLDER, 0) {
+        Err(OpenFault::Refused { fault }) => Ok(format!(in rt.alloc(); "{fault}")?),
+        _ => Err(Fail::new("a file that is not refused")),
+    }
+}
+
+#[test]
+fn the_number_of_an_unknown_layout_is_said(rt: HostRuntime) -> Result<(), Fail> {
+    make_folder(&rt)?;
+    let statements = "UPDATE meta SET layout = 3";
+    change_tables(SqlKeeper::open(&rt, FOLDER, 0), statements)?;
+    let said = "mc_sql_layout_test/a.db: it has layout 3, and this program knows layouts 1 and 2";
+    assert_eq!(rt; said_of(&rt)?.as_str(), said);
+    fs::remove_dir_all(&rt, FOLDER)?;
+    Ok(())
+}
+
+// A file of layout 1 that lacks one of its tables.
+#[test]
+fn a_file_of_layout_1_that_is_refused_is_left(rt: HostRuntime) -> Result<(), Fail> {
+    make_folder(&rt)?;
+    let statements = format!(in rt.alloc(); "{LAYOUT_ONE}; DROP TABLE link")?;
+    change_file(Connection::open(&rt, FILE), statements.as_str())?;
+    assert!(rt; is_left(&rt)?);
     fs::remove_dir_all(&rt, FOLDER)?;
     Ok(())
 }

@@ -8,9 +8,13 @@ mod both;
 #[cfg(test)]
 mod damage;
 #[cfg(test)]
+mod downgraded;
+#[cfg(test)]
 mod drawing;
 #[cfg(test)]
 mod drawn;
+#[cfg(test)]
+mod earlier;
 #[cfg(test)]
 mod failing;
 #[cfg(test)]
@@ -23,6 +27,8 @@ mod layouts;
 mod limits;
 #[cfg(test)]
 mod lines;
+#[cfg(test)]
+mod migrations;
 #[cfg(test)]
 mod rows;
 #[cfg(test)]

@@ -6,7 +6,7 @@ use std::alloc::{AllocError, Global};
 // More than a keeper of a test has values.
 const MOST: u64 = 1_000;
 
-/// The answers of a keeper to `summary` and `heads`, and those to `values_from` and `holder` at each key, in order of
+/// The answers of a keeper to `summary` and `heads`, and those to `values_from` and `winner` at each key, in order of
 /// the keys.
 pub(crate) fn shown<K: Keeper>(keeper: &mut K, alloc: Global) -> Result<String, KeepError> {
     let mut text = String::new(alloc);
@@ -87,7 +87,7 @@ fn push_value_after<K: Keeper>(
     {
         push_value(alloc, same, text)?;
     }
-    push_holder(keeper, alloc, row.key.as_str(), text)?;
+    push_winner(keeper, alloc, row.key.as_str(), text)?;
     Ok(Some(row.key))
 }
 
@@ -100,18 +100,18 @@ fn push_value(alloc: Global, row: &ValueRow, text: &mut String) -> Result<(), Al
     Ok(())
 }
 
-fn push_holder<K: Keeper>(
+fn push_winner<K: Keeper>(
     keeper: &mut K,
     alloc: Global,
     key: &str,
     text: &mut String,
 ) -> Result<(), KeepError> {
-    let Some(cid) = keeper.holder(alloc, key)? else {
-        text.push_str("no holder\n")?;
+    let Some(cid) = keeper.winner(key)? else {
+        text.push_str("no winner\n")?;
         return Ok(());
     };
     let cid = hex::encode(alloc, cid.0)?;
-    let line = format!(in alloc; "holder {cid}\n")?;
+    let line = format!(in alloc; "winner {cid}\n")?;
     text.push_str(line.as_str())?;
     Ok(())
 }

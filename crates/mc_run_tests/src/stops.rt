@@ -33,7 +33,11 @@ fn options() -> Options {
     options
 }
 
-fn connected<D: Disk + Drop>(alloc: Global, files: Files<D>) -> Option<Connection<FileStore<D>>> {
+/// The connection to these files. None where they were not opened.
+pub(crate) fn connected<D: Disk + Drop>(
+    alloc: Global,
+    files: Files<D>,
+) -> Option<Connection<FileStore<D>>> {
     if !(files.log.may_be_used() && files.db.may_be_used()) {
         return None;
     }
@@ -43,8 +47,11 @@ fn connected<D: Disk + Drop>(alloc: Global, files: Files<D>) -> Option<Connectio
     }
 }
 
-// The keeper of these files. None where they were not opened, or their tables neither made nor read.
-fn adopted<D: Disk + Drop>(alloc: Global, files: Files<D>) -> Option<SqlKeeper<FileStore<D>>> {
+/// The keeper of these files. None where they were not opened, or their tables neither made nor read.
+pub(crate) fn adopted<D: Disk + Drop>(
+    alloc: Global,
+    files: Files<D>,
+) -> Option<SqlKeeper<FileStore<D>>> {
     SqlKeeper::adopt(connected(alloc, files)?).ok()
 }
 
@@ -135,17 +142,17 @@ fn stopped<D: Disk + Drop>(alloc: Global, files: Files<D>) -> Option<(u64, Files
     Some((acknowledged, files))
 }
 
-// A file with all that was written to this one.
-fn copied(alloc: Global, file: &Fuse<Memory>) -> Result<Fuse<Memory>, Fail> {
+/// A file with all that was written to this one, which makes so many calls before it stops.
+pub(crate) fn copied(alloc: Global, file: &Fuse<Memory>, calls: u64) -> Result<Fuse<Memory>, Fail> {
     let mut copy = Memory::new(alloc);
     copy.write_at(0, file.inner().bytes())?;
     copy.sync()?;
-    Ok(Fuse::new(copy, u64::MAX))
+    Ok(Fuse::new(copy, calls))
 }
 
 fn order_of_written(alloc: Global, files: &Files<Fuse<Memory>>) -> Result<Vec<Cid>, Fail> {
-    let log = copied(alloc, &files.log)?;
-    let db = copied(alloc, &files.db)?;
+    let log = copied(alloc, &files.log, u64::MAX)?;
+    let db = copied(alloc, &files.db, u64::MAX)?;
     order_in(alloc, Files { log, db })
 }
 

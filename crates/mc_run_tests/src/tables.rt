@@ -4,6 +4,23 @@ use mc_keep_sql::SqlKeeper;
 use sqlite::{Alter, Connection, MemStore};
 use std::alloc::Global;
 
+/// The tables that a file of layout 1 has.
+pub(crate) const LAYOUT_ONE: &str = "\
+CREATE TABLE meta (id INTEGER PRIMARY KEY, layout INTEGER NOT NULL, dirty INTEGER NOT NULL);\
+CREATE TABLE block (cid BLOB PRIMARY KEY NOT NULL, bytes BLOB NOT NULL);\
+CREATE TABLE mark (pos INTEGER PRIMARY KEY, cid BLOB NOT NULL UNIQUE);\
+CREATE TABLE link (cid BLOB PRIMARY KEY NOT NULL);\
+CREATE TABLE head (cid BLOB PRIMARY KEY NOT NULL, height BLOB NOT NULL);\
+CREATE TABLE element (key BLOB NOT NULL, cid BLOB NOT NULL, value BLOB NOT NULL, priority BLOB NOT NULL, PRIMARY KEY (key, cid, value));\
+CREATE TABLE tomb (key BLOB NOT NULL, id BLOB NOT NULL, PRIMARY KEY (key, id));\
+CREATE TABLE value (key BLOB PRIMARY KEY NOT NULL, priority BLOB NOT NULL, value BLOB NOT NULL);\
+INSERT INTO meta (id, layout, dirty) VALUES (1, 1, 0)";
+
+/// A connection in memory after these statements.
+pub(crate) fn after(alloc: Global, statements: &str) -> Result<Connection<MemStore>, KeepError> {
+    changed(Connection::open_in_memory(alloc)?, statements)
+}
+
 /// A keeper that adopted a connection in memory, once more after these statements over its tables, if there are any.
 pub(crate) fn in_memory(alloc: Global, before: &str) -> Result<SqlKeeper<MemStore>, KeepError> {
     let connection = Connection::open_in_memory(alloc)?;

@@ -50,20 +50,7 @@ use Rattle.mc_seats.specs.Words.{place}
 use Rattle.mc_seats.specs.Worlds.{Place, WorldState, is_down, place_with, state_at}
 use Rattle.mc_seats.proofs.CallFacts.{no_other}
 use Rattle.mc_seats.proofs.GoesFacts.{keeper_goes, keeper_still}
-
--- the members of a bound
-abbrev pub members : {K D : Type 0} → keeper.Ghosts K D → counted.Ghosts K → Members K D
-members k c = record {
-  faults = c.faults;
-  told = k.told;
-  spare = k.spare;
-  fuse = k.fuse;
-  own = k.own;
-  quiet = k.quiet;
-  quiet_desk = k.quiet_desk;
-  schedule = k.schedule;
-  desk_schedule = k.desk_schedule;
-}
+pub use Rattle.mc_seats.proofs.MemberWords.{members}
 
 pub never : {P : Type 0} → true ≡ false → P
 never e = absurd (true≢false e)

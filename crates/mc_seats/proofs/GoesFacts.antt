@@ -77,7 +77,7 @@ module _ {K D : Type 0} {k : Members K D} where
   }
 
   -- one that only reads
-  pub keeper_reads : {schedule : K → Option Schedule} {failed : Bool} {old new : K} → ReadsAt k.told k.fuse k.spare k.own k.faults k.quiet schedule failed old new → KeeperGoes k (cond failed 1 0) 0 old new
+  pub keeper_reads : {schedule : K → Option Schedule} {failed : Bool} {old new : K} → ReadsAt k.told k.layout k.fuse k.spare k.own k.faults k.quiet schedule failed old new → KeeperGoes k (cond failed 1 0) 0 old new
   keeper_reads {schedule = schedule} {failed = failed} {old = old} {new = new} reads = keeper_goes {schedule = schedule} {failed = failed} {old = old} {new = new} (goes_reads reads)
 
   -- nothing, and one after another

@@ -4,12 +4,14 @@ pub mod CallFacts
 pub mod GoesFacts
 pub mod HearFacts
 pub mod HeldFacts
+pub mod LaidFacts
 pub mod RowFacts
 pub mod WorkedFacts
 pub mod BeginFacts
 pub mod DeliverFacts
 pub mod PeerFacts
 pub mod MemberWords
+pub mod MigrateFacts
 pub mod DeskFacts
 pub mod DeskedFacts
 pub mod OpeningFacts

@@ -8,6 +8,7 @@ abbrev pub members : {K D : Type 0} → keeper.Ghosts K D → counted.Ghosts K �
 members k c = record {
   faults = c.faults;
   told = k.told;
+  layout = k.layout;
   spare = k.spare;
   fuse = k.fuse;
   own = k.own;

@@ -5,10 +5,7 @@ use Rattle.std.specs.List.{AllZip}
 use Rattle.std.proofs.Math.Seq.{drop-nil}
 use Rattle.mc_fetch.specs.Peers.{SamePlan}
 use Rattle.mc_keep.specs.Calls.{Members}
-use Rattle.mc_keep.specs.Frame.{ReadsAt}
-use Rattle.mc_keep.specs.Plan.{DeskAsPlanned, DeskSchedule, ReadsGo, Schedule, first_plan, with_desk}
-use Rattle.mc_keep.specs.declared.fuse.Fuse.{Fuse}
-use Rattle.mc_model.specs.Kept.{Kept}
+use Rattle.mc_keep.specs.Plan.{CallsGo, DeskAsPlanned, DeskSchedule, Schedule, first_plan, with_desk}
 use Rattle.mc_seats.specs.Desked.{AreDesksOf, HavePlans, HavePlansOf, reads_of}
 use Rattle.mc_seats.specs.Keepers.{DeskStays, DesksStay}
 use Rattle.mc_seats.specs.StepParts.{AllDesksGo}
@@ -98,8 +95,8 @@ module _ {D : Type 0} (desk_schedule : D → Option DeskSchedule) where
   pub of_none : (schedule : Option Schedule) (desks : List D) → desks ≡ [] → AreDesksOf desk_schedule schedule desks
   of_none schedule desks none = subst (AreDesksOf desk_schedule schedule) (sym none) (record { planned = none_have schedule })
 
-  -- reads leave what is planned for the desks
-  have_before : (a b : Option Schedule) (failed : Bool) (desks : List D) → ReadsGo a b failed → HavePlansOf desk_schedule b desks → HavePlansOf desk_schedule a desks
+  -- calls leave what is planned for the desks
+  pub have_before : (a b : Option Schedule) (failed : Bool) (desks : List D) → CallsGo a b failed → HavePlansOf desk_schedule b desks → HavePlansOf desk_schedule a desks
   have_before None b failed desks goes have = tt
   have_before (Some a) b failed desks goes have = subst (λ (s : Option Schedule). HavePlansOf desk_schedule s desks) goes.counted have
 
@@ -134,8 +131,3 @@ module _ {D : Type 0} (desk_schedule : D → Option DeskSchedule) where
         have_push a.desks desks desk have (ap reads_of next.2 ∙ ap (λ (l : List (List ℕ)). Some (first_plan l)) (left.2 ∙ ap (λ (n : ℕ). drop n a.desks) (sym many))),
         (with_desk true left.0, next.0, ap (λ (l : List (List ℕ)). drop 1 l) left.2 ∙ one_dropped count a.desks ∙ ap (λ (n : ℕ). drop n a.desks) next_count),
       )
-
--- the desks of a keeper that was read before it made them
-pub of_before : {K D : Type 0} {desk_schedule : D → Option DeskSchedule} {told : K → Option Kept} {fuse : K → Option Fuse} {spare own faults : K → ℕ} {quiet : K → Bool} {schedule : K → Option Schedule} {failed : Bool} {old new : K} {desks : List D} → ReadsAt told fuse spare own faults quiet schedule failed old new
-    → AreDesksOf desk_schedule (schedule new) desks → AreDesksOf desk_schedule (schedule old) desks
-of_before {desk_schedule = desk_schedule} {schedule = schedule} {failed = failed} {old = old} {new = new} {desks = desks} reads of = record { planned = have_before desk_schedule (schedule old) (schedule new) failed desks reads.planned of.planned }

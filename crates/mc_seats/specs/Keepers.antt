@@ -5,6 +5,8 @@ use Rattle.mc_base.specs.declared.counted.Counted as counted
 use Rattle.mc_fetch.specs.Peers.{SamePlan}
 use Rattle.mc_keep.specs.Calls.{Members}
 use Rattle.mc_keep.specs.declared.keeper.Keeper as keeper
+use Rattle.mc_model.specs.Layouts.{is_two}
+use Rattle.mc_model.specs.declared.layout.Layout.{Layout}
 use Rattle.mc_seats.specs.declared.seat.Held.{Held}
 use Rattle.mc_seats.specs.declared.seat.Held.TheVariants.{Up, Down}
 use Rattle.mc_seats.specs.declared.seat.Seat.{Seat}
@@ -19,6 +21,11 @@ keeper_in (Down idle) = idle.keeper
 abbrev pub keeper_of : {K D : Type 0} {g : keeper.Ghosts K D} {h : counted.Ghosts K} {i : counted.Ghosts D} →
     Seat K D g h i → K
 keeper_of seat = keeper_in seat.held
+
+-- whether the keepers of some replicas have the winner row of each key with a value
+abbrev pub are_laid : {K D : Type 0} {g : keeper.Ghosts K D} {h : counted.Ghosts K} {i : counted.Ghosts D} →
+    (K → Layout) → List (Seat K D g h i) → Bool
+are_laid layout seats = list_all (λ seat. is_two (layout (keeper_of seat))) seats
 
 -- the counts of some desks together, at most the last value of 64 bits
 abbrev pub desk_count : {D : Type 0} → (D → ℕ) → List D → ℕ

@@ -10,8 +10,9 @@ use Rattle.mc_keep.specs.Calls.{Members}
 use Rattle.mc_keep.specs.declared.fuse.Fuse.{Fuse}
 use Rattle.mc_keep.specs.declared.keeper.Keeper as keeper
 use Rattle.mc_core.specs.declared.replica.OpenCause.{OpenCause}
-use Rattle.mc_core.specs.declared.replica.OpenCause.TheVariants.{KeeperFault, Memory}
+use Rattle.mc_core.specs.declared.replica.OpenCause.TheVariants.{KeeperFault}
 use Rattle.mc_core.specs.declared.replica.Replica.{Replica}
+use Rattle.mc_core.specs.Openings.{is_fault_cause}
 use Rattle.mc_seats.specs.declared.seat.Held.TheVariants.{Up}
 use Rattle.mc_seats.specs.declared.seat.Seat.{Seat}
 use Rattle.mc_seats.specs.declared.world.Part.{Part}
@@ -43,10 +44,6 @@ parts_of (seat ∷ seats) (desks ∷ more) = record { keeper = keeper_of seat; d
 parts_of seats desks = []
 
 -- whether a keeper failed where a replica was to be opened
-abbrev pub is_fault_cause : OpenCause → Bool
-is_fault_cause KeeperFault = true
-is_fault_cause Memory = false
-
 abbrev pub is_open_fault : {T : Type 0} → Result T OpenCause → Bool
 is_open_fault (Ok value) = false
 is_open_fault (Err cause) = is_fault_cause cause

@@ -3,6 +3,7 @@ ghost use Rattle.std.specs.Prelude.{◌≡◌, None, true, Ok, IfSome};
 ghost use Rattle.mc_core.specs.Counted.{run_of};
 ghost use Rattle.mc_core.specs.Replica.{running_of};
 ghost use Rattle.mc_model.specs.State.{HasSoundMark};
+ghost use Rattle.mc_model.specs.declared.layout.Layout.TheVariants.{Two};
 ghost use Rattle.mc_past.specs.Pasts.{PastFits};
 ghost use Rattle.mc_script.specs.declared.command.Command.TheVariants.{Plant, State as StateOf};
 ghost use Rattle.mc_script.specs.declared.command.Command.TheVariants.{Stop as StopOf, Open as OpenOf};
@@ -181,10 +182,11 @@ fn put_down<K: Keeper>(held: Held<K>) -> Held<K>
     Held::Down(rest(take_out(held)))
 }
 
-// The keeper of what is held, whose mark is sound.
+// The keeper of what is held, whose mark is sound and which has all winner rows.
 fn take_out<K: Keeper>(held: Held<K>) -> K
     ensures keeper { result ≡ keeper_in held }
     ensures marked { IfSome (K.told result) HasSoundMark }
+    ensures laid { K.layout result ≡ Two }
 {
     match held {
         Held::Up(replica) => replica.stop(),
@@ -204,9 +206,10 @@ pub fn open_at<K: Keeper>(seat: Seat<K>, alloc: Global, r: u64) -> (Seat<K>, Rep
     (Seat { held, planted }, reply)
 }
 
-// Opens the replica of a keeper.
+// Opens the replica of a keeper that has all winner rows.
 fn open_keeper<K: Keeper>(alloc: Global, keeper: K) -> (Held<K>, Reply)
     requires marked { IfSome (K.told keeper) HasSoundMark }
+    requires laid { K.layout keeper ≡ Two }
     ensures { Opening K.Keeper keeper result.0 result.1 }
 {
     match Replica::open(alloc, keeper) {

@@ -1,6 +1,6 @@
 // How a world begins and ends.
 ghost use Rattle.std.specs.Prelude.{◌≡◌, ◌≤◌, ◌+◌, ◌++◌, [], true, IfOk, IfErr, length, vec_len, vec_capacity};
-ghost use Rattle.mc_seats.specs.Keepers.{armed_in, counted_in, is_calm, keeper_of};
+ghost use Rattle.mc_seats.specs.Keepers.{are_laid, armed_in, counted_in, is_calm, keeper_of};
 ghost use Rattle.mc_seats.specs.Openings.{
   AreFresh,
   AreOpened,
@@ -27,10 +27,11 @@ use std::alloc::{AllocError, Global};
 
 impl<K: Keeper> World<K> {
     /// Opens the replicas of the parts, in order, and makes sixteen desks for each: `parts` are the keepers in order of
-    /// the replicas' names, each with a sound mark, no fuse and no desks. No message is sent, all links are up, nothing
-    /// is planted, and the record is empty; each desk has the plan that its keeper had for it. Refusals: `KeeperFault`,
-    /// where a keeper failed, which has counted it, and `Memory`. They hand the parts back in order, with the desks that
-    /// were made.
+    /// the replicas' names, each with a sound mark, no fuse and no desks. Each keeper first migrates to layout 2, which
+    /// changes nothing of what it tells. No message is sent, all links are up, nothing is planted, and the record is
+    /// empty; each desk has the plan that its keeper had for it. Refusals: `KeeperFault`, where a keeper failed, which
+    /// has counted it, and `Memory`. They hand the parts back in order, with the desks that were made; what a migration
+    /// has written before stays.
     pub fn new(alloc: Global, parts: List<Part<K>>) -> Result<World<K>, NoWorld<K>>
         requires fresh { AreFresh K.told K.fuse parts }
         ensures first { IfOk result (λ world.
@@ -52,6 +53,12 @@ impl<K: Keeper> World<K> {
             }),
         }
     }
+
+    /// The keeper of each replica, which runs or doesn't, has the winner row of each key with a value. A caller has
+    /// this of every world, also of the first one. Does nothing.
+    pub fn is_laid(&self)
+        ensures { are_laid K.layout self.now.seats.items ≡ true }
+    {}
 
     /// Hands back the keepers in order of the replicas' names, each as it is, with its desks. Takes no memory.
     pub fn end(self) -> List<Part<K>>

@@ -1,6 +1,7 @@
 // How the replica of a part is opened, and its desks are made.
 ghost use Rattle.std.specs.Prelude.{◌≡◌, ◌≤◌, ◌+◌, [], None, IfOk, IfErr, OnOk, vec_len, vec_capacity, length};
 ghost use Rattle.mc_keep.specs.Causes.{is_fault_kind};
+ghost use Rattle.mc_core.specs.Openings.{is_fault_cause};
 ghost use Rattle.mc_core.specs.Refusals.{kind_of};
 ghost use Rattle.mc_seats.specs.Desked.{AreDesksOf, desks_each};
 ghost use Rattle.mc_seats.specs.Openings.{
@@ -10,7 +11,6 @@ ghost use Rattle.mc_seats.specs.Openings.{
   IsOpened,
   IsSeated,
   MakesDesks,
-  is_fault_cause,
   is_open_fault,
 };
 
@@ -37,8 +37,8 @@ pub(crate) struct NoPart<K: Keeper> {
     pub(crate) part: Part<K>,
 }
 
-// Opens the replica of a part, and makes its desks.
-#[tactic(auto, using(crate::proofs::StayFacts::of_before, crate::proofs::StayFacts::of_none))]
+// Opens the replica of a part, whose keeper migrates first, and makes its desks.
+#[tactic(auto, using(crate::proofs::StayFacts::of_none))]
 pub(crate) fn open_part<K: Keeper>(alloc: Global, part: Part<K>) -> Result<Opened<K>, NoPart<K>>
     requires fresh { IsFresh K.told K.fuse part }
     ensures opened { IfOk result (λ opened. IsOpened K.Keeper K.Desk.faults part opened.seat opened.desks) }

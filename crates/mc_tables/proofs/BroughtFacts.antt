@@ -2,6 +2,7 @@
 use Rattle.std.proofs.Common.{◌≡◌, ℕ, ◌<◌, get_or, Bool, true, false, not, cond, List, [], ◌∷◌, ◌++◌, ◌&&◌, ◌||◌, map, length, inl, inr, Option, Some, None, sym, refl, ap, ◌∙◌}
 use Rattle.std.specs.Prelude.{fold, is_some, if◌then◌else◌}
 use Rattle.std.specs.List.{list_all, list_any}
+use Rattle.std.specs.Option.{option_map}
 use Rattle.std.specs.HashMap.{keys}
 use Rattle.std.specs.Str.{bytes_eq}
 use Rattle.std.specs.declared.hash.BuildHasher as build
@@ -16,29 +17,36 @@ use Rattle.mc_model.specs.declared.delta.Element.{Element}
 use Rattle.mc_model.specs.Ascending.{is_once}
 use Rattle.mc_model.specs.Front.{is_among, is_processed, same_cid}
 use Rattle.mc_model.specs.Id.{id_text}
-use Rattle.mc_model.specs.Kept.{Kept, is_stored, processed}
+use Rattle.mc_model.specs.Kept.{Kept, cids_of, is_stored, processed}
 use Rattle.mc_model.specs.Live.{has_tomb, value_row}
 use Rattle.mc_model.specs.Rank.{Ranked, same_ranked}
 use Rattle.mc_model.proofs.Blocks.{is_processed_has}
 use Rattle.mc_model.proofs.Counts.{cid_is, cid_itself}
-use Rattle.mc_model.proofs.Members.{list_any-filter}
+use Rattle.mc_model.proofs.Members.{any_agree, list_any-filter}
+use Rattle.mc_model.proofs.Topmost.{topmost_member}
+use Rattle.mc_model.proofs.WhoFacts.{ranked_in_place, block_in_place, value_is_top}
+use Rattle.mc_model.specs.Who.{Placed, same_placed, topmost, top_row, who}
 use Rattle.mc_keep.specs.declared.changes.Changes.{Changes}
 use Rattle.mc_keep.specs.declared.changes.ValueChange.{ValueChange}
 use Rattle.mc_keep.specs.declared.rows.ElementRow.{ElementRow}
 use Rattle.mc_keep.specs.declared.rows.RankedValue.{RankedValue}
-use Rattle.mc_keep.specs.Changes.{has_tomb_row, newly_processed, ranked_value, value_after, values_after}
-use Rattle.mc_keep.specs.LiveRows.{is_shown, ranked_of}
+use Rattle.mc_keep.specs.Changes.{has_tomb_row, newly_processed, ranked_value, value_after, values_after, winners_after}
+use Rattle.mc_keep.specs.LiveRows.{is_row_of, is_shown, placed_of, place_rows, ranked_of}
+use Rattle.mc_keep.proofs.Lives.{place_rows-element_rows_of, place_rows_any}
+use Rattle.mc_keep.specs.declared.changes.WinnerChange.{WinnerChange}
 use Rattle.mc_keep.specs.Tables.{element_row, element_rows, element_rows_of, ChangesFit}
 use Rattle.mc_tables.specs.Places.{last_in, value_in}
 use Rattle.mc_tables.specs.declared.elements.Node.{Node}
 use Rattle.mc_tables.specs.declared.tables.Tables.{Tables}
 use Rattle.mc_tables.specs.Chains.{chain, is_live, row_of_node, rows_in, with_element}
-use Rattle.mc_tables.specs.Fits.{kept_in, tomb_in, Fits}
-use Rattle.mc_tables.specs.Holder.{is_brought, is_held, row_with}
-use Rattle.mc_tables.specs.Values.{ranked_in, row_in}
+use Rattle.mc_tables.specs.Fits.{kept_in, tomb_in, Fits, TableFits}
+use Rattle.mc_tables.specs.Winners.{has_row_of, is_met}
+use Rattle.mc_tables.proofs.StoredFacts.{rows_grown}
+use Rattle.mc_tables.proofs.WinnerFacts.{all_met}
+use Rattle.mc_tables.specs.Values.{is_brought, ranked_in, row_in, row_with}
 use Rattle.mc_tables.proofs.Fit.{elements_put}
 use Rattle.mc_tables.proofs.FitAfter.{rows_of-append}
-use Rattle.mc_tables.proofs.HolderFacts.{is_found, some_row}
+use Rattle.mc_tables.proofs.FoundFacts.{is_found, some_row}
 
 -- an identifier that is one of these passes where all of them do
 among_all : (test : Cid → Bool) (cids : List Cid) (cid : Cid) → list_all test cids ≡ true → is_among cids cid ≡ true → test cid ≡ true
@@ -152,7 +160,7 @@ any_up a b (row ∷ rows) up e = elim (or_cases (a row) (list_any a rows) e) [
   | inr there ↦ or_right (b row) (list_any b rows) (any_up a b rows up there)
 ]
 
-module _ {S X : Type 0} {g : build.Ghosts S X} {h : hash.Ghosts X} (old : Tables S X g h) (changes : Changes) (fits : Fits old) (meet : ChangesFit (kept_in old) changes) where
+module _ {S X : Type 0} {g : build.Ghosts S X} {h : hash.Ghosts X} (old : Tables S X g h) (changes : Changes) (fits : Fits old) (meet : TableFits (kept_in old) changes) where
   abbrev blocks : List Block
   blocks = processed (kept_in old)
 
@@ -162,12 +170,10 @@ module _ {S X : Type 0} {g : build.Ghosts S X} {h : hash.Ghosts X} (old : Tables
   abbrev rows : List ℕ → List ElementRow
   rows key = rows_in (keys old.graph.blocks) old.elements.nodes.items (last_in old.elements.keys) key
 
-  module _ (key : List ℕ) (ranked : Ranked) where
-    abbrev has : ElementRow → Bool
-    has row = same_ranked ranked (ranked_of row)
-
+  module _ (key : List ℕ) (has : ElementRow → Bool) where
+    -- whether a row passes, and is not hidden after the commit
     abbrev held : ElementRow → Bool
-    held = is_held (has_tomb (blocks ++ more) key) ranked
+    held row = has row && not (has_tomb (blocks ++ more) key (id_text row.cid.0))
 
     -- what is not hidden after the commit was not hidden before it
     still_shown : (row : ElementRow) → held row ≡ true → (is_shown blocks key row && has row) ≡ true
@@ -189,18 +195,78 @@ module _ {S X : Type 0} {g : build.Ghosts S X} {h : hash.Ghosts X} (old : Tables
         and_from (bytes_eq row.key key) (has row) parts.0 (and_parts (has row) (not (has_tomb (blocks ++ more) key (id_text row.cid.0))) parts.1).0)
         (meet.rows.elements.same (λ (row : ElementRow). bytes_eq row.key key && held row) ∙ e)
 
+    -- what passes of the live rows after the commit passes of the rows of the table
+    reaches : list_any held (element_rows_of (blocks ++ more) key) ≡ true → list_any has (fold (with_element key) (rows key) changes.elements) ≡ true
+    reaches e =
+        elements_put has key (rows key) changes.elements
+        ∙ elim (or_cases (list_any held (element_rows_of blocks key)) (list_any (λ (row : ElementRow). bytes_eq row.key key && held row) (element_rows more)) (sym (rows_of-append held key blocks more) ∙ e)) [
+          | inl before ↦ or_left (list_any has (rows key)) (list_any (λ (row : ElementRow). bytes_eq row.key key && has row) changes.elements) (old_one before)
+          | inr new ↦ or_right (list_any has (rows key)) (list_any (λ (row : ElementRow). bytes_eq row.key key && has row) changes.elements) (new_one new)
+        ]
+
+  module _ (key : List ℕ) (ranked : Ranked) where
+    abbrev has_ranked : ElementRow → Bool
+    has_ranked row = same_ranked ranked (ranked_of row)
+
     is_there : (cids : List Cid) → values_after key (row_in old.elements.nodes.items (value_in old.elements.keys) key) changes.values ≡ Some ranked → is_some (row_with ranked (fold (with_element key) (rows_in cids old.elements.nodes.items (last_in old.elements.keys) key) changes.elements)) ≡ true
     is_there cids e =
         let own : List ElementRow = rows_in cids old.elements.nodes.items (last_in old.elements.keys) key in
         let value : value_row (blocks ++ more) key ≡ Some ranked = meet.rows.values key ∙ ap (λ z. values_after key z changes.values) (sym (fits.values key)) ∙ e in
-        is_found has (fold (with_element key) own changes.elements)
-        (elements_put has key own changes.elements
-        ∙ elim (or_cases (list_any held (element_rows_of blocks key)) (list_any (λ (row : ElementRow). bytes_eq row.key key && held row) (element_rows more))
-        (sym (rows_of-append held key blocks more) ∙ some_row (blocks ++ more) key ranked value)) [
-          | inl before ↦ or_left (list_any has own) (list_any (λ (row : ElementRow). bytes_eq row.key key && has row) changes.elements)
-              (any_ranked cids (keys old.graph.blocks) (same_ranked ranked) key (chain old.elements.nodes.items (length old.elements.nodes.items) (last_in old.elements.keys key)) ∙ old_one before)
-          | inr new ↦ or_right (list_any has own) (list_any (λ (row : ElementRow). bytes_eq row.key key && has row) changes.elements) (new_one new)
+        is_found has_ranked (fold (with_element key) own changes.elements)
+        (elements_put has_ranked key own changes.elements
+        ∙ elim (or_cases (list_any (held key has_ranked) (element_rows_of blocks key)) (list_any (λ (row : ElementRow). bytes_eq row.key key && held key has_ranked row) (element_rows more))
+        (sym (rows_of-append (held key has_ranked) key blocks more) ∙ some_row (blocks ++ more) key ranked value)) [
+          | inl before ↦ or_left (list_any has_ranked own) (list_any (λ (row : ElementRow). bytes_eq row.key key && has_ranked row) changes.elements)
+              (any_ranked cids (keys old.graph.blocks) (same_ranked ranked) key (chain old.elements.nodes.items (length old.elements.nodes.items) (last_in old.elements.keys key)) ∙ old_one key has_ranked before)
+          | inr new ↦ or_right (list_any has_ranked own) (list_any (λ (row : ElementRow). bytes_eq row.key key && has_ranked row) changes.elements) (new_one key has_ranked new)
         ])
 
   pub are_brought : (cids : List Cid) → list_all (is_brought (λ key. fold (with_element key) (rows_in cids old.elements.nodes.items (last_in old.elements.keys) key) changes.elements)) changes.values ≡ true
   are_brought cids = all_brought (λ key. fold (with_element key) (rows_in cids old.elements.nodes.items (last_in old.elements.keys) key) changes.elements) (row_in old.elements.nodes.items (value_in old.elements.keys)) changes.values meet.rows.values_once (λ key ranked e. is_there key ranked cids e)
+
+  -- a block that gives a value after the commit has a row with it
+  won_row : (key : List ℕ) (cid : Cid) → who (blocks ++ more) key ≡ Some cid
+      → has_row_of (Some cid) (values_after key (row_in old.elements.nodes.items (value_in old.elements.keys) key) changes.values) (fold (with_element key) (rows key) changes.elements) ≡ true
+  won_row key cid won = by (top_row (blocks ++ more) key) refl won
+    where
+      turn : (h r c : Bool) → (not h && (r && c)) ≡ ((c && r) && not h)
+      turn true true true = refl
+      turn true true false = refl
+      turn true false true = refl
+      turn true false false = refl
+      turn false true true = refl
+      turn false true false = refl
+      turn false false true = refl
+      turn false false false = refl
+
+      there : (p : Placed) → top_row (blocks ++ more) key ≡ Some p → list_any (is_row_of p.1 p.0) (fold (with_element key) (rows key) changes.elements) ≡ true
+      there p is =
+          reaches key (is_row_of p.1 p.0)
+          (sym (any_agree (λ (row : ElementRow). not (has_tomb (blocks ++ more) key (id_text row.cid.0)) && same_placed p (placed_of row)) (held key (is_row_of p.1 p.0))
+          (λ row. turn (has_tomb (blocks ++ more) key (id_text row.cid.0)) (same_ranked p.0 (ranked_of row)) (same_cid p.1 row.cid)) (element_rows_of (blocks ++ more) key))
+          ∙ sym (place_rows_any (has_tomb (blocks ++ more) key) (same_placed p) (element_rows_of (blocks ++ more) key))
+          ∙ topmost_member (place_rows (has_tomb (blocks ++ more) key) (element_rows_of (blocks ++ more) key)) p (ap topmost (place_rows-element_rows_of (blocks ++ more) (blocks ++ more) key) ∙ is))
+
+      by : (top : Option Placed) → top_row (blocks ++ more) key ≡ top → option_map block_in_place top ≡ Some cid
+          → has_row_of (Some cid) (values_after key (row_in old.elements.nodes.items (value_in old.elements.keys) key) changes.values) (fold (with_element key) (rows key) changes.elements) ≡ true
+      by None is e = absurd (cc)
+      by (Some p) is e =
+          let same : p.1 ≡ cid = cc in
+          let value : values_after key (row_in old.elements.nodes.items (value_in old.elements.keys) key) changes.values ≡ Some p.0 =
+          ap (λ z. values_after key z changes.values) (fits.values key) ∙ sym (meet.rows.values key) ∙ value_is_top (blocks ++ more) key ∙ ap (option_map ranked_in_place) is in
+          ap (λ z. has_row_of (Some cid) z (fold (with_element key) (rows key) changes.elements)) value
+          ∙ ap (λ (z : Cid). list_any (is_row_of z p.0) (fold (with_element key) (rows key) changes.elements)) (sym same) ∙ there p is
+
+  pub are_met : (start : List ℕ → Option Cid) → is_once (λ (a b : WinnerChange). bytes_eq a.key b.key) changes.winners ≡ true
+      → ((key : List ℕ) (cid : Cid) → winners_after key (start key) changes.winners ≡ Some cid → who (blocks ++ more) key ≡ Some cid)
+      → (cids : List Cid) → cids ≡ keys old.graph.blocks ++ cids_of changes.store
+      → list_all (is_met (λ key. values_after key (row_in old.elements.nodes.items (value_in old.elements.keys) key) changes.values)
+      (λ key. fold (with_element key) (rows_in cids old.elements.nodes.items (last_in old.elements.keys) key) changes.elements)) changes.winners ≡ true
+  are_met start once won cids grown =
+      all_met (λ key. values_after key (row_in old.elements.nodes.items (value_in old.elements.keys) key) changes.values)
+      (λ key. fold (with_element key) (rows_in cids old.elements.nodes.items (last_in old.elements.keys) key) changes.elements)
+      start changes.winners once
+      (λ key cid w.
+      ap (λ z. has_row_of (Some cid) (values_after key (row_in old.elements.nodes.items (value_in old.elements.keys) key) changes.values) (fold (with_element key) z changes.elements))
+      (rows_grown (keys old.graph.blocks) cids (cids_of changes.store) grown old.elements.nodes.items fits.blocks (last_in old.elements.keys) key)
+      ∙ won_row key cid (won key cid w))

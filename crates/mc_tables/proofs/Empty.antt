@@ -14,14 +14,15 @@ use Rattle.std.specs.declared.hash.Hasher as hash
 use Rattle.mc_model.specs.Front.{same_cid, is_among, is_gap, head_at}
 use Rattle.mc_model.specs.Live.{has_tomb, value_row}
 use Rattle.mc_model.specs.Kept.{Kept, IsKept, processed}
+use Rattle.mc_model.specs.Who.{who}
+use Rattle.mc_keep.specs.declared.rows.ElementRow.{ElementRow}
 use Rattle.mc_keep.specs.LiveRows.{live_element_rows}
 use Rattle.mc_tables.specs.Places.{last_in, value_in}
 use Rattle.mc_tables.specs.declared.places.Places.{Places}
 use Rattle.mc_tables.specs.declared.tables.Tables.{Tables}
 use Rattle.mc_tables.specs.Chains.{are_stored, is_live, row_at, rows_in}
-use Rattle.mc_tables.specs.Fits.{kept_in, tomb_in, Fits}
+use Rattle.mc_tables.specs.Fits.{kept_in, tomb_in, Fits, HasWinners}
 use Rattle.mc_graph.specs.Graph.{cid_in, stored_of}
-use Rattle.mc_tables.specs.Holder.{is_backed}
 use Rattle.mc_tombs.specs.Tombs.{same_pair, number_of}
 use Rattle.mc_tables.specs.Values.{ranked_in}
 
@@ -53,9 +54,16 @@ module _ {S X : Type 0} {g : build.Ghosts S X} {h : hash.Ghosts X} (tables : Tab
       each = λ key some. absurd (let f : false ≡ true = sym (ap is_some (no_value key)) ∙ some in cc);
       exact = λ key there. absurd (let f : false ≡ true = sym (ap (list_any (λ k. is_eq (slice_cmp nat_cmp key (string_bytes k)))) ordered) ∙ there in cc);
     };
-    backed = record {
-      each = λ key. ap (is_backed (tomb_in tables key) (rows_in (map_keys tables.graph.blocks) tables.elements.nodes.items (last_in tables.elements.keys) key) (row_at (map_keys tables.graph.blocks) tables.elements.nodes.items key)) (no_value key);
+    there = record {
+      each = λ key. ap (λ z. is_some (option_and_then (slice_get tables.elements.nodes.items) z)) (no_value key) ∙ ap is_some (sym (no_value key));
     };
     gaps = λ cid. ap (λ z. is_among z cid) gaps ∙ ap (λ z. is_gap z cid) (sym none);
     heads = λ cid. ap (lookup (same_cid cid)) heads ∙ ap (λ z. head_at z cid) (sym none);
+  }
+
+  pub winners_empty : HasWinners tables
+  winners_empty = record {
+    each = λ key there.
+        ap (λ z. option_map (λ (row : ElementRow). row.cid) (option_and_then (row_at (map_keys tables.graph.blocks) tables.elements.nodes.items key) z)) (no_value key)
+        ∙ ap (λ z. who z key) (sym none);
   }

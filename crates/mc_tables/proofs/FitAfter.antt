@@ -19,18 +19,20 @@ use Rattle.mc_model.proofs.Blocks.{is_processed_has}
 use Rattle.mc_model.proofs.Members.{any_agree, list_any-filter}
 use Rattle.mc_keep.specs.declared.rows.ElementRow.{ElementRow}
 use Rattle.mc_keep.specs.declared.changes.Changes.{Changes}
-use Rattle.mc_keep.specs.Changes.{changed, newly_processed, has_tomb_row, values_after, head_after}
+use Rattle.mc_model.specs.Layouts.{covers, winner_in}
+use Rattle.mc_tables.specs.Winners.{has_value_of, named_in}
+use Rattle.mc_keep.specs.Changes.{changed, newly_processed, has_tomb_row, has_winner_of, values_after, winners_after, head_after}
 use Rattle.mc_keep.specs.LiveRows.{is_shown, live_element_rows}
-use Rattle.mc_keep.specs.Tables.{element_row, element_rows, element_rows_of, ChangesFit}
+use Rattle.mc_keep.specs.Tables.{element_row, element_rows, element_rows_of}
 use Rattle.mc_tables.specs.Places.{last_in, value_in}
 use Rattle.mc_tables.specs.declared.tables.Tables.{Tables}
 use Rattle.mc_tables.specs.Chains.{is_live, rows_in, with_element}
 use Rattle.mc_graph.specs.Front.{closed_by}
-use Rattle.mc_tables.specs.Fits.{kept_in, order_in, tomb_in, Fits, Applied}
+use Rattle.mc_tables.specs.Fits.{kept_in, order_in, tomb_in, Fits, HasWinners, TableFits, Applied}
 use Rattle.mc_tables.proofs.Fit.{elements_put, tombs_put, closed_all, opened_all}
-use Rattle.mc_tables.proofs.HolderFacts.{are_there, backed_put}
+use Rattle.mc_tables.proofs.WinnerFacts.{named_kept, none_named, none_won, winner_holds}
 use Rattle.mc_tables.proofs.StoredFacts.{keys_grown, rows_grown, rows_stay, still_stored}
-use Rattle.mc_tables.proofs.ValueFacts.{row_kept}
+use Rattle.mc_tables.proofs.ValueFacts.{row_kept, there_kept}
 
 -- the rows of a key over further blocks
 pub rows_of-append : (test : ElementRow → Bool) (key : List ℕ) (blocks more : List Block)
@@ -58,7 +60,7 @@ gap_more true false false links = refl
 gap_more false order marks true = refl
 gap_more false order marks false = refl
 
-module _ {S X : Type 0} {g : build.Ghosts S X} {h : hash.Ghosts X} (old new : Tables S X g h) (changes : Changes) (fits : Fits old) (applied : Applied old new changes) (meet : ChangesFit (kept_in old) changes)
+module _ {S X : Type 0} {g : build.Ghosts S X} {h : hash.Ghosts X} (old new : Tables S X g h) (changes : Changes) (fits : Fits old) (applied : Applied old new changes) (meet : TableFits (kept_in old) changes)
     (sound_after : IsKept (changed (kept_in old) changes)) (processed_after : processed (changed (kept_in old) changes) ≡ processed (kept_in old) ++ newly_processed (kept_in old) changes) where
   told_after : kept_in new ≡ changed (kept_in old) changes
   told_after = λ i. record { graph = applied.graph i; order = applied.order i; mark = applied.mark i }
@@ -145,12 +147,30 @@ module _ {S X : Type 0} {g : build.Ghosts S X} {h : hash.Ghosts X} (old new : Ta
     tombs = tombs_after;
     values = λ key.
         applied.values key
-        ∙ ap (λ z. values_after key z changes.values) (row_kept old.elements.nodes.items new.elements.nodes.items (value_in old.elements.keys) applied.stays (are_there fits.backed) key ∙ fits.values key) ∙ sym (meet.rows.values key) ∙ ap (λ z. value_row z key) (sym blocks_after);
+        ∙ ap (λ z. values_after key z changes.values) (row_kept old.elements.nodes.items new.elements.nodes.items (value_in old.elements.keys) applied.stays fits.there key ∙ fits.values key) ∙ sym (meet.rows.values key) ∙ ap (λ z. value_row z key) (sym blocks_after);
     covered = applied.covered;
-    backed = applied.backed (keys new.graph.blocks) (tomb_in new)
-        (backed_put (keys old.graph.blocks) (keys new.graph.blocks) (tomb_in old) (tomb_in new) old.elements.nodes.items new.elements.nodes.items (last_in old.elements.keys) (last_in new.elements.keys) (value_in old.elements.keys) changes.elements changes.tombs
-        rows_after applied.tombs
-        (rows_stay (keys old.graph.blocks) (keys new.graph.blocks) (cids_of changes.store) grown old.elements.nodes.items fits.blocks new.elements.nodes.items applied.stays) fits.backed);
+    there = applied.there (there_kept old.elements.nodes.items new.elements.nodes.items (value_in old.elements.keys) applied.stays fits.there);
     gaps = gaps_after;
     heads = λ cid. applied.heads cid ∙ ap (λ z. head_after cid z changes.heads_out changes.heads_in) (fits.heads cid) ∙ sym (meet.front.heads cid) ∙ ap (λ z. head_at z cid) (sym blocks_after);
+  }
+
+  -- what the values name after the commit are the blocks that give them
+  pub winners_after_commit : HasWinners old → ((key : List ℕ) → covers new.layout key ≡ true
+      → winner_in new.layout (processed (kept_in old) ++ newly_processed (kept_in old) changes) key ≡ winners_after key (winner_in old.layout (processed (kept_in old)) key) changes.winners)
+      → ((key : List ℕ) → has_winner_of changes.winners key ≡ false → has_value_of changes.values key ≡ false) → HasWinners new
+  winners_after_commit held won alone = record {
+    each = λ key there.
+        let named = applied.named key in
+        winner_holds old.layout new.layout (processed (kept_in old)) (processed (kept_in new)) key changes.winners
+        (named_in (keys old.graph.blocks) old.elements.nodes.items (value_in old.elements.keys) key) named.0
+        (named_in (keys new.graph.blocks) new.elements.nodes.items (value_in new.elements.keys) key)
+        there
+        (ap (λ z. winner_in new.layout z key) blocks_after ∙ won key there)
+        (held.each key)
+        (λ none. named.1 (alone key none)
+        ∙ named_kept (keys old.graph.blocks) (keys new.graph.blocks) old.elements.nodes.items new.elements.nodes.items (value_in old.elements.keys)
+        (rows_stay (keys old.graph.blocks) (keys new.graph.blocks) (cids_of changes.store) grown old.elements.nodes.items fits.blocks new.elements.nodes.items applied.stays)
+        fits.there key)
+        named.2
+        (λ none. none_named (keys new.graph.blocks) new.elements.nodes.items (value_in new.elements.keys) key (fits_after.values key ∙ none_won (processed (kept_in new)) key none));
   }

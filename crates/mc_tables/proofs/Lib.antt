@@ -2,7 +2,8 @@ pub mod ChainFacts
 pub mod WalkFacts
 pub mod PassFacts
 pub mod PruneFacts
-pub mod HolderFacts
+pub mod FoundFacts
+pub mod WinnerFacts
 pub mod StoredFacts
 pub mod PlaceFacts
 pub mod ValueFacts
@@ -12,6 +13,7 @@ pub mod FitAfter
 pub mod FrontMembers
 pub mod LinkFacts
 pub mod BroughtFacts
+pub mod CommitFacts
 pub mod Reserves
 pub mod Empty
 pub mod IfOk

@@ -20,13 +20,16 @@ use Rattle.mc_keep.specs.LiveRows.{live_element_rows, ranked_of}
 use Rattle.mc_tables.specs.Places.{last_in, value_in, texts_in}
 use Rattle.mc_tables.specs.declared.elements.Elements.{Elements}
 use Rattle.mc_tables.specs.declared.tables.Tables.{Tables}
-use Rattle.mc_tables.specs.Chains.{are_stored, is_live, rows_in, Pruned}
-use Rattle.mc_tables.specs.Fits.{kept_in, tomb_in, Fits, RoomFor, Reserved}
-use Rattle.mc_tables.specs.Holder.{AreBacked}
-use Rattle.mc_tables.specs.Values.{ranked_in, waits_in, IsCovered}
-use Rattle.mc_tables.proofs.HolderFacts.{backed_same, backed_pruned}
+use Rattle.mc_tables.specs.Chains.{are_stored, is_live, row_at, rows_in, Pruned}
+use Rattle.mc_tables.specs.declared.elements.Node.{Node}
+use Rattle.mc_model.specs.declared.layout.Layout.{Layout}
+use Rattle.mc_model.specs.Layouts.{covers}
+use Rattle.mc_model.specs.Who.{who}
+use Rattle.mc_tables.specs.Winners.{named_in}
+use Rattle.mc_tables.specs.Fits.{kept_in, tomb_in, Fits, HasWinners, RoomFor, Reserved}
+use Rattle.mc_tables.specs.Values.{ranked_in, waits_in, AreThere, IsCovered}
 use Rattle.mc_tables.proofs.StoredFacts.{keys_same}
-use Rattle.mc_tables.proofs.ValueFacts.{ranked_row}
+use Rattle.mc_tables.proofs.ValueFacts.{ranked_row, some_node, there_same}
 
 module _ {S X : Type 0} {g : build.Ghosts S X} {h : hash.Ghosts X} (old new : Tables S X g h) (reserved : Reserved old new) where
   told_same : kept_in new ≡ kept_in old
@@ -63,11 +66,18 @@ module _ {S X : Type 0} {g : build.Ghosts S X} {h : hash.Ghosts X} (old new : Ta
           ∙ fits.covered.each key (sym (ap is_some (reserved.values key)) ∙ has);
       exact = λ key there. ap is_some (reserved.values key) ∙ fits.covered.exact key (ap (λ z. contains_text z key) (sym reserved.ordered) ∙ there);
     };
-    backed = subst (λ (z : List Cid). AreBacked z (tomb_in new) new.elements.nodes.items (last_in new.elements.keys) (value_in new.elements.keys)) (sym same_cids)
-        (backed_same (keys old.graph.blocks) (tomb_in old) (tomb_in new) old.elements.nodes.items new.elements.nodes.items (last_in old.elements.keys) (last_in new.elements.keys) (value_in old.elements.keys) (value_in new.elements.keys)
-        reserved.tombs reserved.nodes (reserved.elements (keys old.graph.blocks)) reserved.values fits.backed);
+    there = there_same old.elements.nodes.items new.elements.nodes.items (value_in old.elements.keys) (value_in new.elements.keys) reserved.nodes reserved.values fits.there;
     gaps = λ cid. ap (λ (z : List Cid). is_among z cid) reserved.gaps ∙ fits.gaps cid ∙ ap (λ (z : Kept). is_gap (processed z) cid) (sym told_same);
     heads = λ cid. ap (λ (z : List (Cid × ℕ)). lookup (same_cid cid) z) reserved.heads ∙ fits.heads cid ∙ ap (λ (z : Kept). head_at (processed z) cid) (sym told_same);
+  }
+
+  pub winners_reserved : Fits old → HasWinners old → HasWinners new
+  winners_reserved fits held = record {
+    each = λ key there.
+        ap (λ (z : List Cid). named_in z new.elements.nodes.items (value_in new.elements.keys) key) same_cids
+        ∙ ap (λ (z : List Node). named_in (keys old.graph.blocks) z (value_in new.elements.keys) key) reserved.nodes
+        ∙ ap (λ z. option_map (λ (row : ElementRow). row.cid) (option_and_then (row_at (keys old.graph.blocks) old.elements.nodes.items key) z)) (reserved.values key)
+        ∙ held.each key (ap (λ (y : Layout). covers y key) (sym reserved.layout) ∙ there) ∙ ap (λ (z : Kept). who (processed z) key) (sym told_same);
   }
 
   pub room_reserved : (rows : ℕ) → RoomFor old rows → RoomFor new rows
@@ -103,8 +113,7 @@ fits_pruned old elements pruned same fits = record {
       ap (λ z. option_map ranked_in (option_and_then (slice_get elements.nodes.items) (value_in z key))) same
       ∙ pruned_value key (value_in old.elements.keys key) ∙ fits.values key;
   covered = subst (λ z. IsCovered (texts_in z) (value_in z) old.values.ordered old.values.pending.items) (sym same) fits.covered;
-  backed = subst (λ z. AreBacked (keys old.graph.blocks) (tomb_in old) elements.nodes.items (last_in z) (value_in z)) (sym same)
-      (backed_pruned (keys old.graph.blocks) (tomb_in old) old.elements.nodes.items elements.nodes.items (last_in old.elements.keys) (value_in old.elements.keys) pruned fits.backed);
+  there = subst (λ z. AreThere elements.nodes.items (value_in z)) (sym same) (record { each = λ key. pruned_there key (value_in old.elements.keys key) ∙ fits.there.each key });
   gaps = fits.gaps;
   heads = fits.heads;
 }
@@ -115,6 +124,12 @@ fits_pruned old elements pruned same fits = record {
     pruned_value key (Some place) =
         ranked_row (keys old.graph.blocks) key (slice_get elements.nodes.items place) ∙ ap (option_map ranked_of) (pruned.same key place)
         ∙ sym (ranked_row (keys old.graph.blocks) key (slice_get old.elements.nodes.items place))
+
+    pruned_there : (key : List ℕ) (value : Option ℕ) → is_some (option_and_then (slice_get elements.nodes.items) value) ≡ is_some (option_and_then (slice_get old.elements.nodes.items) value)
+    pruned_there key None = refl
+    pruned_there key (Some place) =
+        some_node (keys old.graph.blocks) key (slice_get elements.nodes.items place) ∙ ap is_some (pruned.same key place)
+        ∙ sym (some_node (keys old.graph.blocks) key (slice_get old.elements.nodes.items place))
 
 pub room_pruned : {S X : Type 0} {g : build.Ghosts S X} {h : hash.Ghosts X} (old : Tables S X g h) (elements : Elements S X g h) (rows : ℕ) → elements.keys ≡ old.elements.keys
     → vec_len elements.nodes ≡ vec_len old.elements.nodes → vec_capacity elements.nodes ≡ vec_capacity old.elements.nodes → RoomFor old rows → RoomFor (record old { elements = elements }) rows
@@ -130,3 +145,14 @@ room_pruned old elements rows keys len capacity room = record {
   pairs = room.pairs;
   pending = room.pending;
 }
+
+pub winners_pruned : {S X : Type 0} {g : build.Ghosts S X} {h : hash.Ghosts X} (old : Tables S X g h) (elements : Elements S X g h) → Pruned (keys old.graph.blocks) (tomb_in old) old.elements.nodes.items elements.nodes.items (last_in old.elements.keys)
+    → elements.keys ≡ old.elements.keys → HasWinners old → HasWinners (record old { elements = elements })
+winners_pruned old elements pruned same held = record {
+  each = λ key there.
+      ap (λ z. named_in (keys old.graph.blocks) elements.nodes.items (value_in z) key) same ∙ one key (value_in old.elements.keys key) ∙ held.each key there;
+}
+  where
+    one : (key : List ℕ) (value : Option ℕ) → option_map (λ (row : ElementRow). row.cid) (option_and_then (row_at (keys old.graph.blocks) elements.nodes.items key) value) ≡ option_map (λ (row : ElementRow). row.cid) (option_and_then (row_at (keys old.graph.blocks) old.elements.nodes.items key) value)
+    one key None = refl
+    one key (Some place) = ap (option_map (λ (row : ElementRow). row.cid)) (pruned.same key place)

@@ -15,11 +15,10 @@ use Rattle.mc_keep.specs.declared.rows.ElementRow.{ElementRow}
 use Rattle.mc_keep.specs.LiveRows.{ranked_of}
 use Rattle.mc_tables.specs.declared.elements.Node.{Node}
 use Rattle.mc_tables.specs.Chains.{row_at, row_of_node, KeepsNodes}
-use Rattle.mc_tables.specs.Holder.{row_with}
 use Rattle.mc_tables.specs.Places.{is_named, stands_at, has_value_at, texts_in, value_in, KeepsTexts}
 use Rattle.mc_tables.specs.declared.places.Places.{Places}
-use Rattle.mc_tables.specs.Values.{ranked_in, row_in, waits_in, AreThere, IsCovered}
-use Rattle.mc_tables.proofs.HolderFacts.{found_is}
+use Rattle.mc_tables.specs.Values.{ranked_in, row_in, row_with, waits_in, AreThere, IsCovered}
+use Rattle.mc_tables.proofs.FoundFacts.{found_is}
 
 more : (a b c : Bool) → (a || b) ≡ true → (a || (b || c)) ≡ true
 more true b c e = refl
@@ -105,16 +104,69 @@ module _ (nodes : List Node) (old new : List ℕ → Option ℕ) (key : List ℕ
       by false = refl
 
 -- what stays where it stood has the values that it had
+node_kept : (nodes new : List Node) → KeepsNodes nodes new → (place : ℕ) (node : Option Node) → slice_get nodes place ≡ node → is_some node ≡ true → slice_get new place ≡ node
+node_kept nodes new stays place None is e = absurd (let f : false ≡ true = e in cc)
+node_kept nodes new stays place (Some node) is e = stays place node is
+
 pub row_kept : (nodes new : List Node) (values : List ℕ → Option ℕ) → KeepsNodes nodes new → AreThere nodes values → (key : List ℕ) → row_in new values key ≡ row_in nodes values key
 row_kept nodes new values stays there key = by (values key) (there.each key)
   where
-    one : (place : ℕ) (node : Option Node) → slice_get nodes place ≡ node → is_some node ≡ true → slice_get new place ≡ node
-    one place None is e = absurd (let f : false ≡ true = e in cc)
-    one place (Some node) is e = stays place node is
-
     by : (value : Option ℕ) → is_some (option_and_then (slice_get nodes) value) ≡ is_some value → option_map ranked_in (option_and_then (slice_get new) value) ≡ option_map ranked_in (option_and_then (slice_get nodes) value)
     by None e = refl
-    by (Some place) e = ap (option_map ranked_in) (one place (slice_get nodes place) refl e)
+    by (Some place) e = ap (option_map ranked_in) (node_kept nodes new stays place (slice_get nodes place) refl e)
+
+pub there_kept : (nodes new : List Node) (values : List ℕ → Option ℕ) → KeepsNodes nodes new → AreThere nodes values → AreThere new values
+there_kept nodes new values stays there = record { each = λ key. by (values key) (there.each key) }
+  where
+    by : (value : Option ℕ) → is_some (option_and_then (slice_get nodes) value) ≡ is_some value → is_some (option_and_then (slice_get new) value) ≡ is_some value
+    by None e = refl
+    by (Some place) e = ap is_some (node_kept nodes new stays place (slice_get nodes place) refl e) ∙ e
+
+-- the same rows at the same places
+pub there_same : (nodes new_nodes : List Node) (old new : List ℕ → Option ℕ) → new_nodes ≡ nodes → ((key : List ℕ) → new key ≡ old key) → AreThere nodes old → AreThere new_nodes new
+there_same nodes new_nodes old new kept same there = record {
+  each = λ key.
+      ap (λ v. is_some (option_and_then (slice_get new_nodes) v)) (same key)
+      ∙ ap (λ (z : List Node). is_some (option_and_then (slice_get z) (old key))) kept ∙ there.each key ∙ ap is_some (sym (same key));
+}
+
+-- a node has a value, and a row
+some_value : (node : Option Node) → is_some (option_map ranked_in node) ≡ is_some node
+some_value None = refl
+some_value (Some node) = refl
+
+pub some_node : (cids : List Cid) (key : List ℕ) (node : Option Node) → is_some node ≡ is_some (option_map (row_of_node cids key) node)
+some_node cids key None = refl
+some_node cids key (Some node) = refl
+
+-- keys that have the values that they had
+pub there_valued : (nodes new_nodes : List Node) (old new : List ℕ → Option ℕ) → ((key : List ℕ) → row_in new_nodes new key ≡ row_in nodes old key) → ((key : List ℕ) → is_some (new key) ≡ is_some (old key)) → AreThere nodes old → AreThere new_nodes new
+there_valued nodes new_nodes old new rows has there = record {
+  each = λ key.
+      sym (some_value (option_and_then (slice_get new_nodes) (new key))) ∙ ap is_some (rows key)
+      ∙ some_value (option_and_then (slice_get nodes) (old key)) ∙ there.each key ∙ sym (has key);
+}
+
+-- a key's value is set to a place with a row
+pub there_set : (cids : List Cid) (nodes : List Node) (old new : List ℕ → Option ℕ) (key : List ℕ) (place : ℕ) → is_some (row_at cids nodes key place) ≡ true
+    → ((other : List ℕ) → new other ≡ cond (bytes_eq key other) (Some place) (old other)) → AreThere nodes old → AreThere nodes new
+there_set cids nodes old new key place some set there = record {
+  each = λ other. ap (λ v. is_some (option_and_then (slice_get nodes) v)) (set other) ∙ by other (bytes_eq key other) ∙ ap is_some (sym (set other));
+}
+  where
+    by : (other : List ℕ) (b : Bool) → is_some (option_and_then (slice_get nodes) (cond b (Some place) (old other))) ≡ is_some (cond b (Some place) (old other))
+    by other true = some_node cids key (slice_get nodes place) ∙ some
+    by other false = there.each other
+
+-- a key's value goes
+pub there_without : (nodes : List Node) (old new : List ℕ → Option ℕ) (key : List ℕ) → ((other : List ℕ) → new other ≡ cond (bytes_eq key other) None (old other)) → AreThere nodes old → AreThere nodes new
+there_without nodes old new key gone there = record {
+  each = λ other. ap (λ v. is_some (option_and_then (slice_get nodes) v)) (gone other) ∙ by other (bytes_eq key other) ∙ ap is_some (sym (gone other));
+}
+  where
+    by : (other : List ℕ) (b : Bool) → is_some (option_and_then (slice_get nodes) (cond b None (old other))) ≡ is_some (cond b None (old other))
+    by other true = refl
+    by other false = there.each other
 
 -- a key that is put into order, where it has a value, needs to wait no more
 pub covered_moved : {Y S : Type 0} (keys : HashMap (String Y) Places S) (ordered new : BTreeSet (String Y)) (pending all : List ℕ) (number : ℕ)
@@ -180,13 +232,9 @@ covered_sorted texts values ordered pending new same covered = record {
 pub rows_in_order : {Y : Type 0} (nodes : List Node) (texts : List (String Y)) (values : List ℕ → Option ℕ) (ordered : BTreeSet (String Y)) (rows : List ℕ → Option Ranked)
     → AreThere nodes values → IsCovered texts values ordered [] → ((key : List ℕ) → row_in nodes values key ≡ rows key) → (key : List ℕ) → is_some (rows key) ≡ contains_text ordered key
 rows_in_order nodes texts values ordered rows there covered same key =
-    ap is_some (sym (same key)) ∙ with_value (option_and_then (slice_get nodes) (values key)) ∙ there.each key
+    ap is_some (sym (same key)) ∙ some_value (option_and_then (slice_get nodes) (values key)) ∙ there.each key
     ∙ both (is_some (values key)) (contains_text ordered key) (covered.each key) (covered.exact key)
   where
-    with_value : (node : Option Node) → is_some (option_map ranked_in node) ≡ is_some node
-    with_value None = refl
-    with_value (Some node) = refl
-
     both : (a b : Bool) → (a ≡ true → (b || false) ≡ true) → (b ≡ true → a ≡ true) → a ≡ b
     both true true up down = refl
     both true false up down = sym (up refl)

@@ -6,12 +6,7 @@ use Rattle.mc_base.specs.declared.cid.Cid.{Cid}
 use Rattle.mc_keep.specs.declared.rows.ElementRow.{ElementRow}
 use Rattle.mc_tables.specs.declared.elements.Node.{Node}
 use Rattle.mc_tables.specs.Chains.{AreChains, row_at, row_of_node, rows_in, rows_from, is_before, lead_back}
-use Rattle.mc_graph.specs.Graph.{cid_in}
 use Rattle.mc_tables.proofs.ChainFacts.{steps_left, chain_step, chain_done, got_at, is_none}
-
--- the block of the first row that passes
-abbrev pub first_that : (ElementRow → Bool) → List ElementRow → Option Cid
-first_that test rows = option_map (λ (row : ElementRow). row.cid) (find test rows)
 
 -- what is wanted of all rows of a key is what is made of those from a place on
 pub record IsWalking (cids : List Cid) {A : Type 0} (nodes : List Node) (key : List ℕ) (wanted : A) (made : List ElementRow → A) (at : Option ℕ) : Type 0 where
@@ -50,17 +45,6 @@ module _ {A : Type 0} {cids : List Cid} {nodes : List Node} {key : List ℕ} whe
       walking.rows ∙ ap (λ (z : Option ℕ). made (rows_from cids nodes key z)) (is_none at never) ∙ ap (λ (rest : List Node). made (map (row_of_node cids key) rest)) (chain_done nodes (length nodes))
 
 -- a search passes by a row that fails, and ends at one that passes
-module _ {cids : List Cid} {nodes : List Node} {key : List ℕ} {wanted : Option Cid} {at : Option ℕ} {node : Node} (test : ElementRow → Bool) (step : IsAtNode cids nodes key wanted (first_that test) at node) where
-  pub passed_by : test (row_of_node cids key node) ≡ false → IsWalking cids nodes key wanted (first_that test) node.before
-  passed_by fails = record {
-    rows = step.rows ∙ ap (λ (b : Bool). option_map (λ (row : ElementRow). row.cid) (cond b (Some (row_of_node cids key node)) (find test (rows_from cids nodes key node.before)))) fails;
-    there = step.there;
-  }
-
-  pub found_here : test (row_of_node cids key node) ≡ true → Some (cid_in cids node.block) ≡ wanted
-  found_here passes = sym (step.rows ∙ ap (λ (b : Bool). option_map (λ (row : ElementRow). row.cid) (cond b (Some (row_of_node cids key node)) (find test (rows_from cids nodes key node.before)))) passes)
-
--- the same where the row is wanted
 module _ {cids : List Cid} {nodes : List Node} {key : List ℕ} {wanted : Option ElementRow} {at : Option ℕ} {node : Node} (test : ElementRow → Bool) (step : IsAtNode cids nodes key wanted (find test) at node) where
   pub row_passed : test (row_of_node cids key node) ≡ false → IsWalking cids nodes key wanted (find test) node.before
   row_passed fails = record {

@@ -1,6 +1,6 @@
 pub mod Chains
 pub mod Fits
-pub mod Holder
 pub mod Listed
 pub mod Places
 pub mod Values
+pub mod Winners

@@ -3,14 +3,15 @@
 #![tactic(auto)]
 
 mod elements;
-mod holder;
 mod live;
 mod order;
 mod places;
 mod range;
+mod rows;
 mod short;
 mod store;
 mod tables;
 mod values;
+mod winners;
 
 pub use store::Store;

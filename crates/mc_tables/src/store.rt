@@ -1,33 +1,36 @@
 // The tables with the fact that they are those of the processed blocks, and with the room that they have.
-ghost use Rattle.std.specs.Prelude.{◌≡◌, ◌≤◌, ◌-◌, IfOk, OnOk, is_some, slice_get};
+ghost use Rattle.std.specs.Prelude.{◌≡◌, ◌≢◌, ◌≤◌, ◌-◌, None, IfOk, IfErr, OnOk, is_some, slice_get};
 ghost use Rattle.std.specs.List.{position};
 ghost use Rattle.mc_model.specs.Ascending.{Ascends};
 ghost use Rattle.mc_model.specs.Front.{same_cid, is_linked, heads};
 ghost use Rattle.mc_model.specs.Id.{id_text};
+ghost use Rattle.mc_model.specs.Layouts.{winner_in};
+ghost use Rattle.mc_model.specs.declared.layout.Layout.TheVariants.{One, Two};
 ghost use Rattle.mc_model.specs.Live.{has_tomb, value_row};
 ghost use Rattle.mc_model.specs.Kept.{processed, bytes_at, is_stored, nothing_kept};
-ghost use Rattle.mc_keep.specs.Changes.{row_count, changed, heads_in_rows, ranked_value};
-ghost use Rattle.mc_keep.specs.LiveRows.{IsHolder, live_element_rows};
+ghost use Rattle.mc_keep.specs.Changes.{row_count, changed, laid, heads_in_rows, ranked_value};
+ghost use Rattle.mc_keep.specs.LiveRows.{live_element_rows};
 ghost use Rattle.mc_keep.specs.Next.{AreNext, IsKeyAt};
 ghost use Rattle.mc_keep.specs.ElementOrder.{element_cmp};
-ghost use Rattle.mc_keep.specs.Tables.{ChangesFit, IsSummary, IsSmall};
-ghost use Rattle.mc_tables.specs.Fits.{Fits, RoomFor, kept_in};
+ghost use Rattle.mc_keep.specs.Tables.{Meets, IsSummary, IsSmall};
+ghost use Rattle.mc_tables.specs.Fits.{Fits, HasWinners, RoomFor, kept_in};
 
 use crate::elements::Elements;
-use crate::holder::holder_of;
 use crate::live::{is_hidden, live_elements_of};
 use crate::order::settle;
 use crate::range::{key_at, rows_from};
 use crate::tables::{Tables, commit_tables, reserve_tables};
-use crate::values::{Values, has_value, node_of, value_of};
+use crate::values::{Values, has_value, value_of};
+use crate::winners::named_block;
 use indexmap::{IndexMap, IndexSet};
 use mc_base::{Bytes, Cid, List, Text};
 use mc_graph::{
-    Graph, Tombs, block_bytes, cid_at, cid_of, has_block, has_cid, has_head,
-    has_tomb as has_tomb_row, head_rows, is_processed, position_of, processed_count, stored_count,
+    Graph, Tombs, block_bytes, cid_at, has_block, has_cid, has_head, has_tomb as has_tomb_row,
+    head_rows, is_processed, position_of, processed_count, stored_count,
 };
 use mc_keep::{
-    Changes, ElementRow, HeadRow, RankedValue, Summary, ValueRow, changes_fit, commits_are_events,
+    Changes, ElementRow, HeadRow, Layout, RankedValue, Summary, ValueRow, changes_fit,
+    commits_are_events, migrations_fit,
 };
 use mc_model::gaps_are_counted;
 use std::alloc::{AllocError, Global};
@@ -41,18 +44,21 @@ pub struct Store<S: BuildHasher + Drop> {
     pub(crate) room: u64,
     ghost fits: { Fits tables },
     ghost roomy: { RoomFor tables room },
+    ghost winners: { HasWinners tables },
 }
 
 impl<S: BuildHasher + Copy + Drop> Store<S> {
     /// Empty tables, with the mark clear, and this hasher for the tables of texts. Takes no memory.
     pub fn new(alloc: Global, hasher: S) -> Store<S>
         ensures kept { kept_in result.tables ≡ nothing_kept }
+        ensures layout { result.tables.layout ≡ Two }
         ensures room { result.room ≡ 0 }
     {
         Store {
             tables: Tables {
                 graph: Graph::new(alloc),
                 mark: false,
+                layout: Layout::Two,
                 gaps: IndexSet::new(alloc),
                 heads: IndexMap::new(alloc),
                 elements: Elements {
@@ -74,12 +80,14 @@ impl<S: BuildHasher + Drop> Store<S> {
     /// Makes the changes, for which there is room. It takes no memory.
     pub fn commit(&mut self, changes: Changes)
         requires rows { row_count changes ≤ self.old.room }
-        requires fit { ChangesFit (kept_in self.old.tables) changes }
+        requires fit { Meets self.old.tables.layout (kept_in self.old.tables) changes }
         ensures kept { kept_in self.new.tables ≡ changed (kept_in self.old.tables) changes }
+        ensures layout { self.new.tables.layout ≡ laid self.old.tables.layout changes }
         ensures room { self.new.room ≡ self.old.room - row_count changes }
     {
         commits_are_events();
         changes_fit();
+        migrations_fit();
         self.room = commit_tables(&mut self.tables, changes, self.room);
     }
 
@@ -142,6 +150,7 @@ impl<S: BuildHasher + Drop> Store<S> {
         ensures rows { IfOk result (λ rows.
             Ascends element_cmp rows (live_element_rows (processed (kept_in self.old.tables)) key.now)) }
         ensures kept { kept_in self.new.tables ≡ kept_in self.old.tables }
+        ensures layout { self.new.tables.layout ≡ self.old.tables.layout }
         ensures room { self.new.room ≡ self.old.room }
     {
         live_elements_of(
@@ -189,25 +198,31 @@ impl<S: BuildHasher + Drop> Store<S> {
         value_of(alloc, &self.tables.elements, key)
     }
 
-    /// The block of a live row with the value of a key, or none where it has no value.
-    pub fn holder(&self, alloc: Global, key: &str) -> Result<Option<Cid>, AllocError>
-        ensures { IfOk result (λ cid. IsHolder (processed (kept_in self.now.tables)) key.now cid) }
+    /// A copy of the layout: of which keys the block that gives the value is known. Takes no memory where it is of all.
+    pub fn layout(&self, alloc: Global) -> Result<Layout, AllocError>
+        ensures ok { IfOk result (λ layout. layout ≡ self.now.tables.layout) }
+        ensures no_memory { IfErr result (λ _. self.now.tables.layout ≢ Two) }
     {
-        let Some(node) = node_of(&self.tables.elements, key) else {
-            return Ok(None);
-        };
-        let cid = cid_of(&self.tables.graph, node.block);
-        if !is_hidden(alloc, &self.tables.tombs, key, &cid)? {
-            return Ok(Some(cid));
+        copy_of(alloc, &self.tables.layout)
+    }
+
+    /// The block that gives a key its value, or none where the key has none or the layout does not cover it.
+    pub fn winner(&self, key: &str) -> Option<Cid>
+        ensures { result ≡ winner_in self.now.tables.layout (processed (kept_in self.now.tables)) key.now }
+    {
+        if !self.tables.layout.covers(key) {
+            return None;
         }
-        holder_of(
-            alloc,
-            &self.tables.graph,
-            &self.tables.elements,
-            &self.tables.tombs,
-            key,
-            node,
-        )
+        named_block(&self.tables.elements, &self.tables.graph, key)
+    }
+
+    /// Forgets of each key which block gives the value, as in a store of layout 1. It takes no memory.
+    pub fn downgrade(&mut self)
+        ensures kept { kept_in self.new.tables ≡ kept_in self.old.tables }
+        ensures layout { self.new.tables.layout ≡ One None }
+        ensures room { self.new.room ≡ self.old.room }
+    {
+        self.tables.layout = Layout::One { upto: None };
     }
 
     /// Whether a key has a value.
@@ -229,6 +244,7 @@ impl<S: BuildHasher + Drop> Store<S> {
         ensures rows { IfOk result (λ rows.
             AreNext (processed (kept_in self.old.tables)) bound.now inclusive most rows) }
         ensures kept { kept_in self.new.tables ≡ kept_in self.old.tables }
+        ensures layout { self.new.tables.layout ≡ self.old.tables.layout }
         ensures room { self.new.room ≡ self.old.room }
     {
         settle(alloc, &mut self.tables.values, &self.tables.elements)?;
@@ -242,8 +258,8 @@ impl<S: BuildHasher + Drop> Store<S> {
         )
     }
 
-    /// The key at a place, from 0, among the next keys with a value, past a bound, or from it on where `inclusive`. Puts
-    /// the keys that wait into order, so the tables change, and nothing that they tell.
+    /// The key at a place, from 0, among the next keys with a value, past a bound, or from it on where `inclusive`.
+    /// Puts the keys that wait into order, so the tables change, and nothing that they tell.
     pub fn key_from(
         &mut self,
         alloc: Global,
@@ -254,6 +270,7 @@ impl<S: BuildHasher + Drop> Store<S> {
         ensures key { IfOk result (λ key.
             IsKeyAt (processed (kept_in self.old.tables)) bound.now inclusive place key) }
         ensures kept { kept_in self.new.tables ≡ kept_in self.old.tables }
+        ensures layout { self.new.tables.layout ≡ self.old.tables.layout }
         ensures room { self.new.room ≡ self.old.room }
     {
         settle(alloc, &mut self.tables.values, &self.tables.elements)?;
@@ -264,6 +281,7 @@ impl<S: BuildHasher + Drop> Store<S> {
     pub fn reserve(&mut self, rows: u64) -> Result<(), AllocError>
         ensures ok { OnOk result (rows ≤ self.new.room) }
         ensures kept { kept_in self.new.tables ≡ kept_in self.old.tables }
+        ensures layout { self.new.tables.layout ≡ self.old.tables.layout }
         ensures room { self.old.room ≤ self.new.room }
     {
         if rows <= self.room {
@@ -272,5 +290,18 @@ impl<S: BuildHasher + Drop> Store<S> {
         reserve_tables(&mut self.tables, rows as usize)?;
         self.room = rows;
         Ok(())
+    }
+}
+
+fn copy_of(alloc: Global, layout: &Layout) -> Result<Layout, AllocError>
+    ensures ok { IfOk result (λ copy. copy ≡ layout.now) }
+    ensures no_memory { IfErr result (λ _. layout.now ≢ Two) }
+{
+    match layout {
+        Layout::One { upto: None } => Ok(Layout::One { upto: None }),
+        Layout::One { upto: Some(upto) } => Ok(Layout::One {
+            upto: Some(Text::from_text(alloc, upto.as_str())?),
+        }),
+        Layout::Two => Ok(Layout::Two),
     }
 }

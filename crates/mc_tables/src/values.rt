@@ -1,5 +1,5 @@
 // The values of the keys, and the keys with a value in order: those that were put into order, and those that wait.
-ghost use Rattle.std.specs.Prelude.{◌≡◌, ℕ, ◌<◌, ◌≤◌, ◌+◌, Bool, true, List, length, vec_len, vec_capacity};
+ghost use Rattle.std.specs.Prelude.{◌≡◌, ℕ, ◌<◌, ◌≤◌, ◌+◌, true, false, List, length, vec_len, vec_capacity};
 ghost use Rattle.std.specs.Prelude.{IfOk, OnOk, IfSome, IfNone, is_some, cond, slice_get, Some, None};
 ghost use Rattle.std.specs.Str.{bytes_eq};
 ghost use Rattle.std.specs.List.{list_all};
@@ -8,14 +8,14 @@ ghost use Rattle.std.specs.Option.{option_and_then, option_copied};
 ghost use Rattle.mc_base.specs.declared.cid.Cid.{Cid};
 ghost use Rattle.mc_keep.specs.Changes.{ranked_value, value_after, values_after};
 ghost use Rattle.mc_tables.specs.Chains.{rows_in};
-ghost use Rattle.mc_tables.specs.Holder.{AreBacked, is_brought, row_with};
 ghost use Rattle.mc_tables.specs.Places.{last_in, value_in, texts_in, stands_at};
-ghost use Rattle.mc_tables.specs.Values.{row_in, IsCovered};
+ghost use Rattle.mc_tables.specs.Values.{is_brought, row_in, row_with, AreThere, IsCovered};
+ghost use Rattle.mc_tables.specs.Winners.{has_value_of};
 
 use crate::elements::{Elements, Node};
-use crate::holder::place_with;
 use crate::order::drop_key;
 use crate::places::{find_key, set_value, value_place};
+use crate::rows::place_with;
 use mc_base::Text;
 use mc_graph::Spot;
 use mc_keep::{RankedValue, ValueChange, ValueRow};
@@ -43,11 +43,12 @@ pub(crate) fn put_value<S: BuildHasher + Drop>(
         values.old.ordered values.old.pending.items }
     ensures rows { (key : List ℕ) → row_in elements.new.nodes.items (value_in elements.new.keys) key
         ≡ value_after key (row_in elements.old.nodes.items (value_in elements.old.keys) key) change }
+    ensures others { (key : List ℕ) → bytes_eq change.key key ≡ false →
+        value_in elements.new.keys key ≡ value_in elements.old.keys key }
     ensures nodes { elements.new.nodes ≡ elements.old.nodes }
     ensures lasts { (key : List ℕ) → last_in elements.new.keys key ≡ last_in elements.old.keys key }
-    ensures backed { (cids : List Cid) (hidden : List ℕ → List ℕ → Bool) →
-        AreBacked cids hidden elements.old.nodes.items (last_in elements.old.keys) (value_in elements.old.keys) →
-        AreBacked cids hidden elements.new.nodes.items (last_in elements.new.keys) (value_in elements.new.keys) }
+    ensures there { AreThere elements.old.nodes.items (value_in elements.old.keys) →
+        AreThere elements.new.nodes.items (value_in elements.new.keys) }
     ensures covered { IsCovered (texts_in elements.new.keys) (value_in elements.new.keys)
         values.new.ordered values.new.pending.items }
     ensures keys_spare { spare elements.old.keys ≤ spare elements.new.keys }
@@ -76,11 +77,12 @@ fn set_row<S: BuildHasher + Drop>(
     ensures rows { (other : List ℕ) → row_in elements.new.nodes.items (value_in elements.new.keys) other
         ≡ cond (bytes_eq key.now other) (Some (value.priority, value.value))
         (row_in elements.old.nodes.items (value_in elements.old.keys) other) }
+    ensures others { (other : List ℕ) → bytes_eq key.now other ≡ false →
+        value_in elements.new.keys other ≡ value_in elements.old.keys other }
     ensures nodes { elements.new.nodes ≡ elements.old.nodes }
     ensures lasts { (other : List ℕ) → last_in elements.new.keys other ≡ last_in elements.old.keys other }
-    ensures backed { (cids : List Cid) (hidden : List ℕ → List ℕ → Bool) →
-        AreBacked cids hidden elements.old.nodes.items (last_in elements.old.keys) (value_in elements.old.keys) →
-        AreBacked cids hidden elements.new.nodes.items (last_in elements.new.keys) (value_in elements.new.keys) }
+    ensures there { AreThere elements.old.nodes.items (value_in elements.old.keys) →
+        AreThere elements.new.nodes.items (value_in elements.new.keys) }
     ensures covered { IsCovered (texts_in elements.new.keys) (value_in elements.new.keys)
         values.new.ordered values.new.pending.items }
     ensures keys_spare { spare elements.old.keys ≤ spare elements.new.keys }
@@ -110,11 +112,12 @@ fn place_row<S: BuildHasher + Drop>(
         (row_in elements.old.nodes.items (value_in elements.old.keys) other) }
     ensures has { (other : List ℕ) → is_some (value_in elements.new.keys other)
         ≡ cond (bytes_eq key.now other) true (is_some (value_in elements.old.keys other)) }
+    ensures others { (other : List ℕ) → bytes_eq key.now other ≡ false →
+        value_in elements.new.keys other ≡ value_in elements.old.keys other }
     ensures nodes { elements.new.nodes ≡ elements.old.nodes }
     ensures lasts { (other : List ℕ) → last_in elements.new.keys other ≡ last_in elements.old.keys other }
-    ensures backed { (cids : List Cid) (hidden : List ℕ → List ℕ → Bool) →
-        AreBacked cids hidden elements.old.nodes.items (last_in elements.old.keys) (value_in elements.old.keys) →
-        AreBacked cids hidden elements.new.nodes.items (last_in elements.new.keys) (value_in elements.new.keys) }
+    ensures there { AreThere elements.old.nodes.items (value_in elements.old.keys) →
+        AreThere elements.new.nodes.items (value_in elements.new.keys) }
     ensures keys_spare { spare elements.old.keys ≤ spare elements.new.keys }
 {
     let bytes = value.value.as_slice();
@@ -170,11 +173,12 @@ pub(crate) fn put_values<S: BuildHasher + Drop>(
         values.old.ordered values.old.pending.items }
     ensures rows { (key : List ℕ) → row_in elements.new.nodes.items (value_in elements.new.keys) key
         ≡ values_after key (row_in elements.old.nodes.items (value_in elements.old.keys) key) changes.items }
+    ensures others { (key : List ℕ) → has_value_of changes.items key ≡ false →
+        value_in elements.new.keys key ≡ value_in elements.old.keys key }
     ensures nodes { elements.new.nodes ≡ elements.old.nodes }
     ensures lasts { (key : List ℕ) → last_in elements.new.keys key ≡ last_in elements.old.keys key }
-    ensures backed { (cids : List Cid) (hidden : List ℕ → List ℕ → Bool) →
-        AreBacked cids hidden elements.old.nodes.items (last_in elements.old.keys) (value_in elements.old.keys) →
-        AreBacked cids hidden elements.new.nodes.items (last_in elements.new.keys) (value_in elements.new.keys) }
+    ensures there { AreThere elements.old.nodes.items (value_in elements.old.keys) →
+        AreThere elements.new.nodes.items (value_in elements.new.keys) }
     ensures covered { IsCovered (texts_in elements.new.keys) (value_in elements.new.keys)
         values.new.ordered values.new.pending.items }
     ensures keys_spare { spare elements.old.keys ≤ spare elements.new.keys }

@@ -1,5 +1,5 @@
 -- Groups of stored blocks in a commit.
-use Rattle.std.proofs.Common.{◌≡◌, ℕ, Bool, true, false, List, [], ◌∷◌, map, ◌||◌, ◌&&◌, Option, Some, None, Ok, refl, sym, ap, subst, ◌∙◌}
+use Rattle.std.proofs.Common.{◌≡◌, ℕ, Bool, true, false, List, [], ◌∷◌, map, ◌||◌, ◌&&◌, Option, Some, None, Ok, inl, refl, sym, ap, subst, ◌∙◌}
 use Rattle.std.specs.Prelude.{IfSome}
 use Rattle.std.specs.List.{list_any, list_all}
 use Rattle.std.specs.Result.{is_ok}
@@ -10,13 +10,19 @@ use Rattle.mc_model.specs.Ascending.{is_once}
 use Rattle.mc_model.specs.Front.{same_cid, is_among}
 use Rattle.mc_model.specs.Kept.{Kept, IsKept, blocks_in, is_stored}
 use Rattle.mc_model.specs.Offer.{offer}
+use Rattle.mc_model.specs.declared.layout.Layout.{Layout}
 use Rattle.mc_model.proofs.Blocks.{block_in_cid}
 use Rattle.mc_keep.specs.declared.changes.Changes.{Changes}
 use Rattle.mc_keep.specs.Changes.{no_changes}
 use Rattle.mc_keep.specs.New.{AreNew}
-use Rattle.mc_keep.specs.Tables.{ChangesFit}
+use Rattle.mc_keep.specs.Tables.{ChangesFit, Meets}
 use Rattle.mc_core.specs.Uptakes.{Processes}
 use Rattle.mc_core.proofs.UptakeFacts.{StoringLaw, FitLaw}
+
+-- changes that fit are changes that a keeper takes
+pub takes : (told : Option Kept) (layout : Layout) (changes : Changes) → IfSome told (λ kept. ChangesFit kept changes) → IfSome told (λ kept. Meets layout kept changes)
+takes None layout changes fits = tt
+takes (Some kept) layout changes fits = inl fits
 
 -- bytes that are a block may be stored
 pub told_may_store : (law : StoringLaw) (told : Option Kept) (cid : Cid) (bytes : List ℕ) (block : Block) (changes : Changes) → changes ≡ record no_changes { store = record { cid = cid; bytes = bytes } ∷ [] }
@@ -48,7 +54,7 @@ module _ (fit_law : FitLaw) where
   told_may_process (Some kept) whole cids blocks changes are stored once none p =
       let back : cids_in blocks ≡ cids = ap cids_in are ∙ cids_back kept.graph cids in
       fit_law kept blocks changes p.only p.marks (told_new (Some kept) cids blocks are once none)
-      (ap (list_all (is_stored kept.graph)) back ∙ stored) (ap (blocks_in kept.graph) back ∙ sym are) p.rows p.front
+      (ap (list_all (is_stored kept.graph)) back ∙ stored) (ap (blocks_in kept.graph) back ∙ sym are) p.rows p.front p.ordinary
 
 -- the same at the moments of a call
 

@@ -1,10 +1,11 @@
 // What the tests are given: keepers in memory, blocks that differ, and the changes of a group of blocks.
-ghost use Rattle.std.specs.Prelude.{◌≡◌, ◌∷◌, [], map, IfOk, IfSome};
+ghost use Rattle.std.specs.Prelude.{◌≡◌, ◌∷◌, [], map, IfOk, IfSome, OnOk};
 ghost use Rattle.mc_model.specs.declared.block.Block.{Block};
 ghost use Rattle.mc_model.specs.Ascending.{is_once};
 ghost use Rattle.mc_model.specs.Front.{same_cid, is_processed};
 ghost use Rattle.mc_model.specs.Kept.{nothing_kept};
 ghost use Rattle.mc_model.specs.State.{HasSoundMark};
+ghost use Rattle.mc_model.specs.declared.layout.Layout.TheVariants.{Two};
 ghost use Rattle.mc_keep.specs.Calls.{Reads};
 ghost use Rattle.mc_keep.specs.Causes.{IfTold};
 ghost use Rattle.mc_keep.specs.Changes.{no_changes};
@@ -13,20 +14,22 @@ ghost use Rattle.mc_keep.specs.Plan.{is_fault};
 ghost use Rattle.mc_keep_mem.specs.Fits.{kept_in};
 ghost use Rattle.mc_core.specs.Uptakes.{Processes};
 
+use crate::replicas::opened;
 use mc_base::{Bytes, Cid};
+use mc_core::{CoreError, Replica};
 use mc_front::front_changes;
 use mc_keep::{Changes, KeepError, Keeper, Stored};
 use mc_keep_mem::{FaultPlan, MemKeeper};
-use mc_model::Block;
+use mc_model::{Block, Layout};
 use mc_rows::merge;
 use std::alloc::{AllocError, Global};
 use std::sync::Wait;
 use std::test::Fail;
 
-/// What is tried on a keeper, whichever it is. A call over a keeper of a given type costs its check all that the type
+/// What is tried on a keeper, whichever it is, and mostly an empty one. A call over a keeper of a given type costs its check all that the type
 /// promises, so that one function alone makes the keepers of all trials.
 pub trait Trial {
-    /// Whether all goes as it should over this keeper, which is empty.
+    /// Whether all goes as it should over this keeper, which has just what its maker says.
     fn passes<K: Keeper + Drop, W: Wait>(
         self,
         alloc: Global,
@@ -67,6 +70,64 @@ pub fn empty(alloc: Global) -> Result<MemKeeper, AllocError>
     MemKeeper::new(alloc, FaultPlan::nothing(alloc))
 }
 
+/// The same over one that never fails, without winner rows, with so many keys: one block sets them all to 1, and another
+/// one the first of them to 2.
+pub fn passes_old<T: Trial + Copy, W: Wait>(
+    trial: T,
+    alloc: Global,
+    keys: u64,
+    wait: &W,
+) -> Result<bool, Fail> {
+    trial.passes(alloc, old(alloc, keys)?, wait)
+}
+
+// A keeper of layout 1 with so many keys.
+fn old(alloc: Global, keys: u64) -> Result<MemKeeper, CoreError>
+    ensures { IfOk result (λ keeper. HasSoundMark (kept_in keeper.store.tables)) }
+{
+    match filled(empty(alloc)?, alloc, keys) {
+        Ok(keeper) => Ok(keeper.downgrade()),
+        Err(error) => Err(error),
+    }
+}
+
+// The keeper with so many keys.
+fn filled<K: Keeper + Drop>(keeper: K, alloc: Global, keys: u64) -> Result<K, CoreError>
+    requires { IfSome (K.told keeper) HasSoundMark }
+    ensures { IfOk result (λ keeper. IfSome (K.told keeper) HasSoundMark) }
+{
+    let mut replica = opened(alloc, keeper)?;
+    let put = put_keys(&mut replica, alloc, keys);
+    let keeper = replica.stop();
+    match put {
+        Ok(()) => Ok(keeper),
+        Err(error) => Err(error),
+    }
+}
+
+// Sets so many keys.
+fn put_keys<K: Keeper>(
+    replica: &mut Replica<K>,
+    alloc: Global,
+    keys: u64,
+) -> Result<(), CoreError> {
+    replica.batch_begin(alloc)?;
+    for number in 0..keys {
+        replica.batch_put(key_of(alloc, number)?.as_str(), &[1])?;
+    }
+    replica.batch_commit(alloc)?;
+    if keys > 0 {
+        replica.put(alloc, key_of(alloc, 0)?.as_str(), &[2])?;
+    }
+    Ok(())
+}
+
+/// The key with this number, from 0 on. The first ones have five digits, so that they ascend.
+pub fn key_of(alloc: Global, number: u64) -> Result<String, AllocError> {
+    let digits = number.saturating_add(10_000);
+    format!(in alloc; "/{digits}")
+}
+
 /// Whether no block stands twice, by comparing each with each.
 pub fn are_once(blocks: &[Block]) -> bool
     ensures { result ≡ is_once (λ (a b : Block). same_cid a.cid b.cid) blocks.now }
@@ -88,6 +149,17 @@ fn has_block(blocks: &[Block], cid: &Cid) -> bool
     false
 }
 
+/// Looks whether a keeper has all winner rows, and gives up where it has not.
+pub fn ask_two<K: Keeper>(keeper: &mut K, alloc: Global) -> Result<(), KeepError>
+    ensures two { OnOk result (K.layout keeper.new ≡ Two) }
+    ensures reads { Reads K.Keeper (is_fault result) keeper.old keeper.new }
+{
+    match keeper.layout(alloc)? {
+        Layout::Two => Ok(()),
+        Layout::One { upto: _ } => Err(KeepError::Memory),
+    }
+}
+
 /// The changes that process these blocks, of which none is processed. Where `whole`, every gap is wanted.
 pub fn process_changes<K: Keeper>(
     keeper: &mut K,
@@ -100,6 +172,7 @@ pub fn process_changes<K: Keeper>(
         Processes kept whole blocks.now (map (λ (block : Block). block.cid) blocks.now) changes) }
     ensures reads { Reads K.Keeper (is_fault result) keeper.old keeper.new }
 {
+    ask_two(keeper, alloc)?;
     let mut changes = Changes::new(alloc);
     merge(keeper, alloc, blocks, &mut changes)?;
     front_changes(keeper, alloc, blocks, whole, &mut changes)?;

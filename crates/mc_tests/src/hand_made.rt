@@ -1,9 +1,10 @@
 // A keeper with rows made by hand, which tells nothing.
 ghost use Rattle.std.specs.Prelude.{◌≡◌, None, false};
+ghost use Rattle.mc_model.specs.declared.layout.Layout.TheVariants.{Two};
 
 use mc_base::{Bytes, Cid, Counted, Failed, List, Text};
 use mc_keep::{Changes, ElementRow, HeadRow, KeepError, Keeper, RankedValue, Summary, ValueRow};
-use mc_model::id_of;
+use mc_model::{Layout, id_of};
 use mc_query::Pair;
 use std::alloc::{AllocError, Global};
 use std::sync::Wait;
@@ -197,6 +198,8 @@ impl Keeper for HandMade {
 
     ghost told = { λ keeper. None };
 
+    ghost layout = { λ keeper. Two };
+
     ghost spare = { λ keeper. keeper.room };
 
     ghost fuse = { λ keeper. None };
@@ -284,7 +287,11 @@ impl Keeper for HandMade {
         Ok(find_value(alloc, self.rows.as_slice(), key)?)
     }
 
-    fn holder(&mut self, _alloc: Global, _key: &str) -> Result<Option<Cid>, KeepError> {
+    fn layout(&mut self, _alloc: Global) -> Result<Layout, KeepError> {
+        Ok(Layout::Two)
+    }
+
+    fn winner(&mut self, _key: &str) -> Result<Option<Cid>, Failed> {
         Ok(None)
     }
 

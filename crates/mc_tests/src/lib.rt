@@ -38,6 +38,8 @@ mod makers;
 #[cfg(test)]
 mod memory;
 #[cfg(test)]
+mod migrations;
+#[cfg(test)]
 mod nodes;
 #[cfg(test)]
 mod offers;
@@ -67,5 +69,7 @@ mod trees;
 mod turns;
 #[cfg(test)]
 mod walks;
+#[cfg(test)]
+mod winners;
 #[cfg(test)]
 mod workers;

@@ -250,7 +250,7 @@ fn has_no_value<K: Keeper>(keeper: &mut K, alloc: Global) -> Result<bool, KeepEr
     Ok(
         keeper.value(alloc, "/a")?.is_none()
             && !keeper.has("/a")?
-            && keeper.holder(alloc, "/a")?.is_none()
+            && keeper.winner("/a")?.is_none()
             && keeper.values_from(alloc, "", true, 1)?.len() == 0,
     )
 }
@@ -285,7 +285,7 @@ fn an_empty_keeper_has_nothing(rt: HostRuntime) -> Result<(), Fail> {
     Ok(())
 }
 
-// The number of the one call of seventeen that fails and is counted, in an order of the calls in which each comes once.
+// The number of the one call of eighteen that fails and is counted, in an order of the calls in which each comes once.
 fn failing_read<K: Keeper>(keeper: &mut K, alloc: Global) -> usize {
     let failed = [
         keeper.summary().is_err(),
@@ -302,7 +302,8 @@ fn failing_read<K: Keeper>(keeper: &mut K, alloc: Global) -> usize {
         keeper.has("/a").is_err(),
         keeper.values_from(alloc, "", true, 1).is_err(),
         keeper.key_from(alloc, "", true, 0).is_err(),
-        keeper.holder(alloc, "/a").is_err(),
+        keeper.winner("/a").is_err(),
+        keeper.layout(alloc).is_err(),
         keeper.stored(&CID).is_err(),
         keeper.at(0).is_err(),
     ];
@@ -331,7 +332,7 @@ fn fails_at<K: Keeper + Drop>(keeper: K, alloc: Global, number: usize) -> bool {
 #[test]
 fn a_planned_read_fails_alone(rt: HostRuntime) -> Result<(), Fail> {
     let alloc = rt.alloc();
-    for number in 1..18u8 {
+    for number in 1..19u8 {
         let plan = read_plan(alloc, u64::from(number))?;
         let trial = Memory::FailAt {
             number: usize::from(number),

@@ -2,7 +2,7 @@
 ghost use Rattle.std.specs.Prelude.{IfSome};
 ghost use Rattle.mc_keep.specs.New.{AreNew};
 
-use crate::given::{are_once, empty};
+use crate::given::{are_once, ask_two, empty};
 use mc_base::{Bytes, Cid, List, Text};
 use mc_keep::{Changes, KeepError, Keeper};
 use mc_model::{Block, Delta, Element, Tomb, id_of};
@@ -10,7 +10,8 @@ use mc_rows::merge;
 use std::alloc::Global;
 use std::test::Fail;
 
-const ORDERS: [[u8; 3]; 6] = [
+/// Three places in each order.
+pub(crate) const ORDERS: [[u8; 3]; 6] = [
     [0, 1, 2],
     [0, 2, 1],
     [1, 0, 2],
@@ -89,6 +90,7 @@ fn merged_in<K: Keeper + Drop>(
     requires new { IfSome (K.told keeper) (λ kept. AreNew kept blocks.now) }
 {
     let mut keeper = keeper;
+    ask_two(&mut keeper, alloc)?;
     let mut changes = Changes::new(alloc);
     merge(&mut keeper, alloc, blocks, &mut changes)?;
     Ok(changes)

@@ -70,8 +70,8 @@ pub fn has_rows<K: Keeper>(
             && keeper.hides(alloc, "/k", hidden)?
             && !keeper.hides(alloc, "/k", kept)?
             && !keeper.hides(alloc, "/", hidden)?
-            && keeper.holder(alloc, "/k")? == Some(*kept)
-            && keeper.holder(alloc, "/")?.is_none(),
+            && keeper.winner("/k")? == Some(*kept)
+            && keeper.winner("/")?.is_none(),
     )
 }
 

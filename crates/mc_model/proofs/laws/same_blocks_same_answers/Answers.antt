@@ -1,5 +1,6 @@
 use Rattle.mc_model.proofs.SameAnswers.{same_answers, same_groups}
 use Rattle.mc_model.proofs.Same.{same_value, same_hidden, same_processed, same_linked, same_gap, same_gaps, same_gap_count, same_heads, same_head}
+use Rattle.mc_model.proofs.WhoFacts.{same_who}
 use Rattle.mc_model.proofs.laws.same_blocks_same_answers.Goals as goal
 
 pub returns-clause-value : goal.returns-clause-value
@@ -34,3 +35,6 @@ returns-clause-answers c = same_answers
 
 pub returns-clause-groups : goal.returns-clause-groups
 returns-clause-groups c = same_groups
+
+pub returns-clause-who : goal.returns-clause-who
+returns-clause-who c = same_who

@@ -3,7 +3,7 @@ use Rattle.std.proofs.lemmas.Iterator.Adapters.{YieldsList-from_vec}
 use Rattle.std.proofs.lemmas.Iterator.Consumers.{YieldsList-turn}
 use Rattle.mc_keep.specs.declared.rows.ElementRow.{ElementRow}
 use Rattle.mc_tables.specs.Chains.{rows_in}
-use Rattle.mc_tables.specs.Holder.{is_brought}
+use Rattle.mc_tables.specs.Values.{is_brought}
 use Rattle.mc_tables.specs.Places.{last_in}
 use Rattle.mc_tables.proofs.BroughtFacts.{all_at}
 use Rattle.mc_tables.proofs.ChainFacts.{same_rows}

@@ -1,11 +1,14 @@
 use Rattle.std.proofs.Common.{[], ◌∷◌, refl}
 use Rattle.mc_base.specs.Causes.{Rose}
 use Rattle.mc_model.specs.Events.{Process}
-use Rattle.mc_plan.proofs.CommitFacts.{process_done, process_failed}
+use Rattle.mc_plan.proofs.CommitFacts.{process_done, process_failed, ready_fits}
 use Rattle.mc_plan.proofs.CountFacts.{counted_after, gaps_planned}
 use Rattle.mc_core.proofs.Keeps.{commits_on}
 use Rattle.mc_plan.proofs.SoundFacts.{breaks_told, goes_told}
 use Rattle.mc_core.specs.Replica.{running_of}
+use Rattle.mc_keep.proofs.LaidTwo.{laid_two, laid_two_or_not}
+use Rattle.mc_core.proofs.LaidFacts.{meets}
+use Rattle.mc_keep.specs.Causes.{fires}
 use Rattle.mc_core.proofs.replica.Replica.commit_process.Goals as goal
 
 pub returns-in-Ok-clause-part : goal.returns-in-Ok-clause-part
@@ -37,3 +40,13 @@ invariant_of-self-in-Err-clause-sound g c =
     breaks_told (Process c.args.process.marks ∷ []) (Rose (g.K.Keeper.own c.args.self.now.keeper) (g.K.Keeper.own c.commit.new.self)) _ _ (g.K.Keeper.fuse c.args.self.now.keeper) _ _ _ (running_of c.args.self.now) _ c.in-Err.ensures.commits.silent
     (process_failed c.commits_are_events.ensures.process _ _ (g.K.Keeper.fuse c.args.self.now.keeper) _ _ (running_of c.args.self.now) c.args.process c.args.after (Rose (g.K.Keeper.own c.args.self.now.keeper) (g.K.Keeper.own c.commit.new.self)) c.requires.up c.in-Err.ensures.commits.fuse_burnt c.is_sound.ensures c.requires.ready
     c.requires.only.0 c.requires.only.1 c.in-Err.ensures.failed) c.args.self.now.sound
+
+pub commit-requires-clause-fits : goal.commit-requires-clause-fits
+commit-requires-clause-fits g c = meets (g.K.Keeper.told c.args.self.now.keeper) (g.K.Keeper.layout c.args.self.now.keeper) c.args.process (ready_fits (g.K.Keeper.told c.args.self.now.keeper) c.args.self.now.whole c.args.process c.args.after c.requires.ready)
+
+pub invariant_of-self-clause-laid : goal.invariant_of-self-clause-laid
+invariant_of-self-clause-laid g c = laid_two (g.K.Keeper.layout c.args.self.now.keeper) (g.K.Keeper.layout c.commit.new.self) c.args.process c.args.self.now.laid c.in-Ok.ensures.laid
+
+pub invariant_of-self-in-Err-clause-laid : goal.invariant_of-self-in-Err-clause-laid
+invariant_of-self-in-Err-clause-laid g c =
+    laid_two_or_not (fires (g.K.Keeper.fuse c.args.self.now.keeper)) (Rose (g.K.Keeper.own c.args.self.now.keeper) (g.K.Keeper.own c.commit.new.self)) (g.K.Keeper.layout c.args.self.now.keeper) (g.K.Keeper.layout c.commit.new.self) c.args.process c.args.self.now.laid c.in-Err.ensures.laid_or_not

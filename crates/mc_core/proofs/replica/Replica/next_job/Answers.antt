@@ -29,7 +29,11 @@ pub returns-in-Err-Memory-clause-wants : goal.returns-in-Err-Memory-clause-wants
 returns-in-Err-Memory-clause-wants g c = short_wants _ _ c.in-Some.cid (sym (rw c.in-Some.is at c.next.ensures.first)) (c.back.ensures.queue ∙ ap (λ (q : Queue). cond (has c.in-Some.cid q.flight) (give_back q c.in-Some.cid) q) c.next.ensures.queue)
 
 pub invariant_of-self-in-Ok-1 : goal.invariant_of-self-in-Ok-1
-invariant_of-self-in-Ok-1 g c = record { counted = search (c.own_bytes.ensures.reads.told_same); sound = begin_sound _ _ (g.K.Keeper.fuse c.args.self.now.keeper) _ (running_of c.args.self.now) _ c.in-Some.cid c.if-self.false c.own_bytes.ensures.reads.told_same (sym (rw c.in-Some.is at c.next.ensures.first)) c.next.ensures.queue c.args.self.now.sound }
+invariant_of-self-in-Ok-1 g c = record {
+  counted = search (c.own_bytes.ensures.reads.told_same);
+  sound = begin_sound _ _ (g.K.Keeper.fuse c.args.self.now.keeper) _ (running_of c.args.self.now) _ c.in-Some.cid c.if-self.false c.own_bytes.ensures.reads.told_same (sym (rw c.in-Some.is at c.next.ensures.first)) c.next.ensures.queue c.args.self.now.sound;
+  laid = c.own_bytes.ensures.reads.layout_same ∙ c.args.self.now.laid;
+}
 
 pub invariant_of-self-in-Err-Memory-clause-sound : goal.invariant_of-self-in-Err-Memory-clause-sound
 invariant_of-self-in-Err-Memory-clause-sound g c =

@@ -7,6 +7,9 @@ use Rattle.mc_core.proofs.Keeps.{commits_on}
 use Rattle.mc_plan.proofs.SoundFacts.{breaks_told, goes_told}
 use Rattle.mc_core.proofs.GroupFacts.{ready_fit}
 use Rattle.mc_core.specs.Replica.{running_of}
+use Rattle.mc_keep.proofs.LaidTwo.{laid_two, laid_two_or_not}
+use Rattle.mc_core.proofs.LaidFacts.{meets}
+use Rattle.mc_keep.specs.Causes.{fires}
 use Rattle.mc_core.proofs.replica.Replica.process_group.Goals as goal
 
 pub returns-in-Ok-clause-part : goal.returns-in-Ok-clause-part
@@ -40,4 +43,12 @@ invariant_of-self-in-Err-clause-sound g c =
     (Rose (g.K.Keeper.own c.args.self.now.keeper) (g.K.Keeper.own c.commit.new.self)) c.in-Err.ensures.failed) c.args.self.now.sound
 
 pub commit-requires-clause-fits : goal.commit-requires-clause-fits
-commit-requires-clause-fits g c = ready_fit _ _ c.args.process c.args.cids.now c.args.links.now c.args.gaps c.requires.some c.requires.ready
+commit-requires-clause-fits g c =
+    meets (g.K.Keeper.told c.args.self.now.keeper) (g.K.Keeper.layout c.args.self.now.keeper) c.args.process (ready_fit (g.K.Keeper.told c.args.self.now.keeper) c.args.self.now.whole c.args.process c.args.cids.now c.args.links.now c.args.gaps c.requires.some c.requires.ready)
+
+pub invariant_of-self-clause-laid : goal.invariant_of-self-clause-laid
+invariant_of-self-clause-laid g c = laid_two (g.K.Keeper.layout c.args.self.now.keeper) (g.K.Keeper.layout c.commit.new.self) c.args.process c.args.self.now.laid c.in-Ok.ensures.laid
+
+pub invariant_of-self-in-Err-clause-laid : goal.invariant_of-self-in-Err-clause-laid
+invariant_of-self-in-Err-clause-laid g c =
+    laid_two_or_not (fires (g.K.Keeper.fuse c.args.self.now.keeper)) (Rose (g.K.Keeper.own c.args.self.now.keeper) (g.K.Keeper.own c.commit.new.self)) (g.K.Keeper.layout c.args.self.now.keeper) (g.K.Keeper.layout c.commit.new.self) c.args.process c.args.self.now.laid c.in-Err.ensures.laid_or_not

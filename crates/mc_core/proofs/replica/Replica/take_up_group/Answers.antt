@@ -35,8 +35,8 @@ returns-then-is_empty-clause-takes g c =
       wanted = none_wants (shown c.args.self.now.queue) c.args.group.slots.items c.args.group.blocks.items c.args.group.cids.items c.requires.group none;
     }
 
-pub plan_group-requires : goal.plan_group-requires
-plan_group-requires g c = record { new = new_told _ _ (running_of c.args.self.now) c.args.group.slots.items c.args.group.blocks.items c.args.group.cids.items c.args.self.now.sound c.requires.up c.requires.group }
+pub plan_group-requires-clause-new : goal.plan_group-requires-clause-new
+plan_group-requires-clause-new g c = new_told _ _ (running_of c.args.self.now) c.args.group.slots.items c.args.group.blocks.items c.args.group.cids.items c.args.self.now.sound c.requires.up c.requires.group
 
 pub returns-in-Err-Failed-clause-call : goal.returns-in-Err-Failed-clause-call
 returns-in-Err-Failed-clause-call g c =

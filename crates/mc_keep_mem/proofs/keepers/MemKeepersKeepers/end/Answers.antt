@@ -19,6 +19,7 @@ returns-clause-taken g c =
       plans = before.plans;
       failing = before.failing;
       hasher = before.hasher;
+      downgrades = before.downgrades;
       made = before.made;
       faults = before.faults;
       lost = returns-clause-lost g c i;

@@ -4,7 +4,6 @@ use Rattle.mc_model.specs.Kept.{processed}
 use Rattle.mc_tables.specs.Fits.{kept_in}
 use Rattle.mc_tables.specs.Places.{value_in, texts_in}
 use Rattle.mc_tables.specs.Values.{IsCovered}
-use Rattle.mc_tables.proofs.HolderFacts.{are_there}
 use Rattle.mc_tables.proofs.ValueFacts.{rows_in_order}
 use Rattle.mc_tables.proofs.store.Store.key_from.Goals as goal
 
@@ -16,6 +15,6 @@ returns-clause-key g c =
     let ordered = c.settle.new.values.ordered in
     let rows = value_row (processed (kept_in tables)) in
     c.key_at.ensures rows
-    (rows_in_order tables.elements.nodes.items texts values ordered rows (are_there c.args.self.now.fits.backed)
+    (rows_in_order tables.elements.nodes.items texts values ordered rows c.args.self.now.fits.there
     (subst (λ (pending : List ℕ). IsCovered texts values ordered pending) c.in_ok-settle.ensures.settled (c.settle.ensures.covered c.args.self.now.fits.covered))
     c.args.self.now.fits.values)
