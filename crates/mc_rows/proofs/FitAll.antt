@@ -37,7 +37,8 @@ use Rattle.mc_rows.specs.Rows.{rows_of, tombs_of, tomb_row, tomb_rows, new_eleme
 use Rattle.mc_rows.specs.Hiding.{is_unknown, hides, has_element_of, has_tomb_of, new_row}
 use Rattle.mc_rows.specs.declared.best.Top.{Top}
 use Rattle.mc_rows.specs.declared.best.TopChange.{TopChange}
-use Rattle.mc_rows.specs.Values.{has_key, placed_top, top_after, tops_after, value_part, winner_part, ValuesFit}
+use Rattle.mc_rows.specs.declared.parts.TopChanges.{TopChanges}
+use Rattle.mc_rows.specs.Values.{has_key, placed_top, top_after, tops_after, value_part, winner_part, ValuesFit, ChangesFit}
 use Rattle.mc_rows.proofs.Lives.{new_row_is, new_row_untouched}
 use Rattle.mc_rows.proofs.OnceRows.{tombs_stand_once, elements_stand_once}
 use Rattle.mc_rows.proofs.Step.{unspoken}
@@ -197,13 +198,13 @@ rows_fit blocks more elements tombs keys tops changes once sorted same sorted' s
     each : (key : List ℕ) → top_row (blocks ++ more) key ≡ tops_after key (top_row blocks key) tops
     each = each_key blocks more (rows_of elements) (tombs_of tombs) keys tops same same' spoken fit
 
-pub rows_fit_told : (told : Option Kept) (more : List Block) (elements : List NewElement) (tombs : List NewTomb) (keys : List (Bor (List ℕ))) (tops : List TopChange) (changes : Changes)
+pub rows_fit_told : (told : Option Kept) (more : List Block) (elements : List NewElement) (tombs : List NewTomb) (keys : List (Bor (List ℕ))) (tops : TopChanges) (changes : Changes)
     → IsStrictlySortedBy new_element_cmp elements → SameMembers (rows_of elements) (element_rows more)
     → IsStrictlySortedBy new_tomb_cmp tombs → IfSome told (λ kept. SameMembers (tombs_of tombs) (filter (is_unknown (processed kept)) (tomb_rows more)))
     → ((key : List ℕ) → has_key keys key ≡ (has_element_of (rows_of elements) key || has_tomb_of (tombs_of tombs) key))
-    → IfSome told (λ kept. ValuesFit (processed kept) (rows_of elements) (tombs_of tombs) keys tops)
-    → changes.elements ≡ rows_of elements → changes.tombs ≡ tombs_of tombs → changes.values ≡ map value_part tops → changes.winners ≡ map winner_part tops
+    → IfSome told (λ kept. ChangesFit (processed kept) (rows_of elements) (tombs_of tombs) keys tops)
+    → changes.elements ≡ rows_of elements → changes.tombs ≡ tombs_of tombs → changes.values ≡ tops.values → changes.winners ≡ tops.winners
     → IfSome told (λ kept. AreNew kept more → RowsFit (processed kept) more changes)
 rows_fit_told None more elements tombs keys tops changes sorted same sorted' same' spoken fit e t v w = tt
 rows_fit_told (Some kept) more elements tombs keys tops changes sorted same sorted' same' spoken fit e t v w =
-    λ new. rows_fit (processed kept) more elements tombs keys tops changes new.0 sorted same sorted' same' spoken fit e t v w
+    λ new. rows_fit (processed kept) more elements tombs keys fit.changes changes new.0 sorted same sorted' same' spoken fit.fit e t (v ∙ fit.values) (w ∙ fit.winners)

@@ -1,12 +1,12 @@
 -- One more change of a value row.
-use Rattle.std.proofs.Common.{◌≡◌, ℕ, ◌+◌, ◌<◌, length, take, get_or, Bool, true, false, cond, not, List, [], ◌∷◌, ◌++◌, ◌||◌, sym, refl, ap, ◌∙◌, subst, arith}
+use Rattle.std.proofs.Common.{◌≡◌, ℕ, ◌+◌, ◌<◌, length, take, get_or, map, Bool, true, false, cond, not, List, [], ◌∷◌, ◌++◌, ◌||◌, sym, refl, ap, ◌∙◌, subst, arith}
 use Rattle.std.specs.Prelude.{fold, IfSome, Option, Some, None}
 use Rattle.std.specs.List.{list_any}
 use Rattle.std.specs.List.Sorted.{IsStrictlySortedBy}
 use Rattle.std.specs.Ordering.{nat_cmp, is_eq}
 use Rattle.std.specs.Cmp.Lexicographic.{slice_cmp}
 use Rattle.std.specs.Str.{bytes_eq}
-use Rattle.std.proofs.lemmas.List.{append-nil, get_or-take, get_or_default, length-take-le}
+use Rattle.std.proofs.lemmas.List.{append-nil, get_or-take, get_or_default, length-take-le, map-append}
 use Rattle.std.proofs.lemmas.List.Folds.{list_any-append, list_any_none, list_any_more}
 use Rattle.std.proofs.lemmas.Map.Keys.{Less-from_sorted}
 use Rattle.std.proofs.lemmas.Map.Text.{is_eq-slice_cmp}
@@ -23,8 +23,9 @@ use Rattle.mc_model.proofs.Greatest.{fold-append}
 use Rattle.mc_keep.specs.declared.rows.ElementRow.{ElementRow}
 use Rattle.mc_keep.specs.declared.rows.TombRow.{TombRow}
 use Rattle.mc_rows.specs.declared.best.TopChange.{TopChange}
+use Rattle.mc_rows.specs.declared.parts.TopChanges.{TopChanges}
 use Rattle.mc_rows.specs.Hiding.{new_row}
-use Rattle.mc_rows.specs.Values.{IsChange, change_list, has_key, has_change_of, placed_top, top_after, tops_after, ValuesFit}
+use Rattle.mc_rows.specs.Values.{IsChange, change_list, has_key, has_change_of, placed_top, top_after, tops_after, value_part, winner_part, ValuesFit, ChangesFit}
 
 itself : (a : List ℕ) → bytes_eq a a ≡ true
 itself a = (bytes_decides a a).1 refl
@@ -126,13 +127,21 @@ fit_more blocks elements tombs keys i d key now change sorted within at before i
     row k false apart has =
         other_row key k (top_row blocks key) (new_row blocks elements tombs key) (top_row blocks k) now change apart is ∙ before.rows k (sym (or-false (has_key (take i keys) k)) ∙ has)
 
-pub fit_more_told : (told : Option Kept) (elements : List ElementRow) (tombs : List TombRow) (keys : List (Bor (List ℕ))) (i : ℕ) (key : Bor (List ℕ)) (now new : List TopChange) (change : Option TopChange)
+-- the rows of the changes with those of one more
+map_more : {Row : Type 0} (part : TopChange → Row) (rows new : List Row) (now : List TopChange) (change : Option TopChange) → rows ≡ map part now → new ≡ rows ++ map part (change_list change)
+    → new ≡ map part (now ++ change_list change)
+map_more part rows new now change is e = e ∙ ap (λ z. z ++ map part (change_list change)) is ∙ sym (map-append part now (change_list change))
+
+pub fit_more_told : (told : Option Kept) (elements : List ElementRow) (tombs : List TombRow) (keys : List (Bor (List ℕ))) (i : ℕ) (key : Bor (List ℕ)) (now new : TopChanges) (change : Option TopChange)
     → IsStrictlySortedBy (λ (x y : Bor (List ℕ)). slice_cmp nat_cmp x.now y.now) keys → i < length keys → key ≡ get_or keys i key
-    → IfSome told (λ kept. ValuesFit (processed kept) elements tombs (take i keys) now)
+    → IfSome told (λ kept. ChangesFit (processed kept) elements tombs (take i keys) now)
     → IfSome told (λ kept. IsChange key.now (top_row (processed kept) key.now) (new_row (processed kept) elements tombs key.now) change)
-    → new ≡ now ++ change_list change
-    → IfSome told (λ kept. ValuesFit (processed kept) elements tombs (take (i + 1) keys) new)
-fit_more_told None elements tombs keys i key now new change sorted within at before is e = tt
-fit_more_told (Some kept) elements tombs keys i key now new change sorted within at before is e =
-    subst (λ (z : List TopChange). ValuesFit (processed kept) elements tombs (take (i + 1) keys) z) (sym e)
-    (fit_more (processed kept) elements tombs keys i key key.now now change sorted within (ap (λ (z : Bor (List ℕ)). z.now) (sym at)) before is)
+    → new.values ≡ now.values ++ map value_part (change_list change) → new.winners ≡ now.winners ++ map winner_part (change_list change)
+    → IfSome told (λ kept. ChangesFit (processed kept) elements tombs (take (i + 1) keys) new)
+fit_more_told None elements tombs keys i key now new change sorted within at before is v w = tt
+fit_more_told (Some kept) elements tombs keys i key now new change sorted within at before is v w = record {
+  changes = before.changes ++ change_list change;
+  fit = fit_more (processed kept) elements tombs keys i key key.now before.changes change sorted within (ap (λ (z : Bor (List ℕ)). z.now) (sym at)) before.fit is;
+  values = map_more value_part now.values new.values before.changes change before.values v;
+  winners = map_more winner_part now.winners new.winners before.changes change before.winners w;
+}

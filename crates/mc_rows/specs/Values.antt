@@ -1,5 +1,5 @@
 -- What the value rows of a merge come to.
-use Rattle.std.specs.Prelude.{◌≡◌, ℕ, Bool, true, false, List, [], ◌∷◌, fold, Option, Some, None, if◌then◌else◌}
+use Rattle.std.specs.Prelude.{◌≡◌, ℕ, Bool, true, false, List, [], ◌∷◌, fold, map, Option, Some, None, if◌then◌else◌}
 use Rattle.std.specs.List.{list_any}
 use Rattle.std.specs.Option.{option_map}
 use Rattle.std.specs.Str.{bytes_eq}
@@ -14,6 +14,7 @@ use Rattle.mc_keep.specs.declared.changes.WinnerChange.{WinnerChange}
 use Rattle.mc_rows.specs.declared.best.Best.{Best}
 use Rattle.mc_rows.specs.declared.best.Top.{Top}
 use Rattle.mc_rows.specs.declared.best.TopChange.{TopChange}
+use Rattle.mc_rows.specs.declared.parts.TopChanges.{TopChanges}
 use Rattle.mc_rows.specs.Hiding.{new_row}
 
 -- what a borrowed value with its block stands for, and a value that is owned
@@ -68,3 +69,11 @@ pub record ValuesFit (blocks : List Block) (elements : List ElementRow) (tombs :
       tops_after key (top_row blocks key) changes ≡ new_row blocks elements tombs key
   pub rest : (key : List ℕ) → has_key keys key ≡ false → has_change_of changes key ≡ false
   pub once : is_once (λ (a b : TopChange). bytes_eq a.key b.key) changes ≡ true
+
+-- the value rows and the winner rows are those of changes that fit
+pub record ChangesFit (blocks : List Block) (elements : List ElementRow) (tombs : List TombRow)
+    (keys : List (Bor (List ℕ))) (rows : TopChanges) : Type 0 where
+  pub changes : List TopChange
+  pub fit : ValuesFit blocks elements tombs keys changes
+  pub values : rows.values ≡ map value_part changes
+  pub winners : rows.winners ≡ map winner_part changes

@@ -1,5 +1,5 @@
 // The rows by which a keeper takes up further blocks.
-ghost use Rattle.std.specs.Prelude.{◌≡◌, ◌++◌, IfSome, OnOk, OnErr};
+ghost use Rattle.std.specs.Prelude.{◌≡◌, ◌++◌, map, IfSome, OnOk, OnErr};
 ghost use Rattle.std.specs.Ordering.{nat_cmp};
 ghost use Rattle.std.specs.Cmp.Lexicographic.{slice_cmp};
 ghost use Rattle.std.specs.List.Sorted.{IsStrictlySortedBy};
@@ -11,16 +11,15 @@ ghost use Rattle.mc_keep.specs.Plan.{is_fault};
 ghost use Rattle.mc_keep.specs.New.{AreNew};
 ghost use Rattle.mc_keep.specs.Tables.{RowsFit};
 ghost use Rattle.mc_rows.specs.Rows.{new_element_cmp, new_tomb_cmp, rows_of, tombs_of};
-ghost use Rattle.mc_rows.specs.Values.{ValuesFit, change_list};
+ghost use Rattle.mc_rows.specs.Values.{ChangesFit, change_list, value_part, winner_part};
 
 use crate::best::TopChange;
 use crate::elements::{NewElement, element_rows_from, new_elements};
 use crate::keys::keys_of;
-use crate::parts::{values_of, winners_of};
+use crate::parts::TopChanges;
 use crate::search::elements_with;
 use crate::tombs::{NewTomb, new_tombs, tomb_rows_from};
 use crate::values::change_of;
-use mc_base::List;
 use mc_keep::{Changes, KeepError, Keeper};
 use mc_model::Block;
 use std::alloc::{AllocError, Global};
@@ -61,10 +60,9 @@ pub fn merge<K: Keeper>(
         elements.as_slice(),
         tombs.as_slice(),
     )?;
-    let winners = winners_of(alloc, tops.as_slice())?;
-    let values = values_of(alloc, tops)?;
     let element_rows = element_rows_from(alloc, elements.as_slice())?;
     let tomb_rows = tomb_rows_from(alloc, tombs.as_slice())?;
+    let TopChanges { values, winners } = tops;
     changes.elements = element_rows;
     changes.tombs = tomb_rows;
     changes.values = values;
@@ -79,31 +77,37 @@ fn top_changes<K: Keeper>(
     keys: &[&str],
     elements: &[NewElement<'_>],
     tombs: &[NewTomb<'_>],
-) -> Result<List<TopChange>, KeepError>
+) -> Result<TopChanges, KeepError>
     requires two { K.layout keeper.old ≡ Two }
     requires keys { IsStrictlySortedBy (λ x y. slice_cmp nat_cmp x.now y.now) keys.now }
     requires elements { IsStrictlySortedBy new_element_cmp elements.now }
     requires tombs { IsStrictlySortedBy new_tomb_cmp tombs.now }
     ensures fit { IfTold (K.told keeper.old) result (λ kept tops.
-        ValuesFit (processed kept) (rows_of elements.now) (tombs_of tombs.now) keys.now tops) }
+        ChangesFit (processed kept) (rows_of elements.now) (tombs_of tombs.now) keys.now tops) }
     ensures reads { Reads K.Keeper (is_fault result) keeper.old keeper.new }
 {
-    let mut tops = List::with_capacity(alloc, keys.len())?;
+    let mut tops = TopChanges::with_capacity(alloc, keys.len())?;
     let mut at = 0;
     for key in keys {
         let (own, next) = elements_with(elements, *key, at);
         at = next;
         let change = change_of(keeper, alloc, *key, own, tombs)?;
-        push_change(&mut tops, change)?;
+        push_change(alloc, &mut tops, change)?;
     }
     Ok(tops)
 }
 
-fn push_change(tops: &mut List<TopChange>, change: Option<TopChange>) -> Result<(), AllocError>
-    ensures { OnOk result (tops.new ≡ tops.old ++ change_list change) }
+// Adds the rows of a change, where there is one.
+fn push_change(
+    alloc: Global,
+    tops: &mut TopChanges,
+    change: Option<TopChange>,
+) -> Result<(), AllocError>
+    ensures values { OnOk result (tops.new.values ≡ tops.old.values ++ map value_part (change_list change)) }
+    ensures winners { OnOk result (tops.new.winners ≡ tops.old.winners ++ map winner_part (change_list change)) }
 {
     if let Some(change) = change {
-        tops.push(change)?;
+        tops.push(alloc, change)?;
     }
     Ok(())
 }

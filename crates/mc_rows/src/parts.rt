@@ -1,5 +1,5 @@
 // The value rows and the winner rows of changes.
-ghost use Rattle.std.specs.Prelude.{◌≡◌, ◌++◌, ◌∷◌, [], map, IfOk, OnOk};
+ghost use Rattle.std.specs.Prelude.{◌≡◌, ◌++◌, ◌∷◌, [], IfOk, OnOk};
 ghost use Rattle.mc_rows.specs.Values.{value_part, winner_part};
 
 use crate::best::{Top, TopChange};
@@ -7,27 +7,40 @@ use mc_base::{Cid, List, Text};
 use mc_keep::{RankedValue, ValueChange, WinnerChange};
 use std::alloc::{AllocError, Global};
 
-// The blocks that give the changed keys their values.
-pub(crate) fn winners_of(
-    alloc: Global,
-    tops: &[TopChange],
-) -> Result<List<WinnerChange>, AllocError>
-    ensures { IfOk result (λ winners. winners ≡ map winner_part tops.now) }
-{
-    let mut winners = List::with_capacity(alloc, tops.len())?;
-    for change in tops {
-        winners.push(winner_of(alloc, change)?)?;
-    }
-    Ok(winners)
+// Changes of the values of keys, kept as the value row and the winner row of each.
+#[derive(Drop)]
+pub(crate) struct TopChanges {
+    pub(crate) values: List<ValueChange>,
+    pub(crate) winners: List<WinnerChange>,
 }
 
-fn winner_of(alloc: Global, change: &TopChange) -> Result<WinnerChange, AllocError>
-    ensures { IfOk result (λ winner. winner ≡ winner_part change.now) }
-{
-    Ok(WinnerChange {
-        key: Text::from_text(alloc, change.key.as_str())?,
-        cid: cid_of(&change.top),
-    })
+impl TopChanges {
+    // No changes, with room for at least this many.
+    pub(crate) fn with_capacity(alloc: Global, capacity: usize) -> Result<TopChanges, AllocError>
+        ensures { IfOk result (λ changes. changes ≡ record { values = []; winners = [] }) }
+    {
+        Ok(TopChanges {
+            values: List::with_capacity(alloc, capacity)?,
+            winners: List::with_capacity(alloc, capacity)?,
+        })
+    }
+
+    // Adds the rows of a change. A refusal may leave the one without the other.
+    pub(crate) fn push(&mut self, alloc: Global, change: TopChange) -> Result<(), AllocError>
+        ensures values { OnOk result (self.new.values ≡ self.old.values ++ value_part change ∷ []) }
+        ensures winners { OnOk result (self.new.winners ≡ self.old.winners ++ winner_part change ∷ []) }
+    {
+        let TopChange { key, top } = change;
+        self.winners.push(WinnerChange {
+            key: Text::from_text(alloc, key.as_str())?,
+            cid: cid_of(&top),
+        })?;
+        self.values.push(ValueChange {
+            key,
+            value: ranked_of(top),
+        })?;
+        Ok(())
+    }
 }
 
 fn cid_of(top: &Option<Top>) -> Option<Cid>
@@ -36,30 +49,6 @@ fn cid_of(top: &Option<Top>) -> Option<Cid>
     match top {
         Some(top) => Some(top.cid),
         None => None,
-    }
-}
-
-// The values of the changed keys.
-pub(crate) fn values_of(
-    alloc: Global,
-    tops: List<TopChange>,
-) -> Result<List<ValueChange>, AllocError>
-    ensures { IfOk result (λ values. values ≡ map value_part tops) }
-{
-    let mut values = List::with_capacity(alloc, tops.len())?;
-    for change in tops.into_vec() {
-        values.push(value_of(change))?;
-    }
-    Ok(values)
-}
-
-fn value_of(change: TopChange) -> ValueChange
-    ensures { result ≡ value_part change }
-{
-    let TopChange { key, top } = change;
-    ValueChange {
-        key,
-        value: ranked_of(top),
     }
 }
 

@@ -12,5 +12,5 @@ loop-key-preserved g c = record {
   fit = fit_more_told (g.K.Keeper.told c.args.keeper.now) (rows_of c.args.elements.now) (tombs_of c.args.tombs.now) c.args.keys.now c.loop-key.key-index _ c.loop-key.tops _ _
       c.requires.keys c.loop-key-test.true (get_or_default c.args.keys.now c.loop-key.key-index _ _ c.loop-key-test.true) c.loop-key.invariant.fit
       (of_all_told (g.K.Keeper.told c.args.keeper.now) _ _ (tombs_of c.args.tombs.now) _ _ c.elements_with-next.ensures.own (rw c.loop-key.invariant.reads.told_same at c.in_ok-change.ensures.change))
-      c.in_ok-push_change.ensures;
+      c.in_ok-push_change.ensures.values c.in_ok-push_change.ensures.winners;
 }
