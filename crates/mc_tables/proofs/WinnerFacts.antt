@@ -229,6 +229,15 @@ module _ (cids : List Cid) (nodes : List Node) (lasts old new : List ℕ → Opt
       by true e = had (old key) own.is_value ∙ ap (λ z. is_some (old z)) ((bytes_eq-Decides key other).0 e)
       by false e = refl
 
+-- a key whose value names the block already needs no change
+pub named_still : (cids : List Cid) (nodes : List Node) (values : List ℕ → Option ℕ) (key : List ℕ) (cid : Cid) → named_in cids nodes values key ≡ Some cid
+    → (other : List ℕ) → named_in cids nodes values other ≡ cond (bytes_eq key other) (Some cid) (named_in cids nodes values other)
+named_still cids nodes values key cid named other = by (bytes_eq key other) refl
+  where
+    by : (b : Bool) → bytes_eq key other ≡ b → named_in cids nodes values other ≡ cond b (Some cid) (named_in cids nodes values other)
+    by true e = ap (named_in cids nodes values) (sym ((bytes_eq-Decides key other).0 e)) ∙ named
+    by false e = refl
+
 -- where a row is due one is found
 pub no_row : (cid : Cid) (value : Option Ranked) (rows : List ElementRow) → has_row_of (Some cid) value rows ≡ true → None ≡ option_and_then (λ ranked. row_with_cid cid ranked rows) value → ⊥
 no_row cid value rows met none =

@@ -91,10 +91,29 @@ fn name_block<S: BuildHasher + Drop>(
     ensures texts { texts_in elements.new.keys ≡ texts_in elements.old.keys }
     ensures keys_spare { spare elements.old.keys ≤ spare elements.new.keys }
 {
+    if is_named(elements, graph, key, cid) {
+        return;
+    }
     let Some((number, place)) = place_of_block(elements, graph, key, cid) else {
         unreachable!();
     };
     let _had = set_value(&mut elements.keys, number, Spot::at(place));
+}
+
+// Whether the value of a key names a row of this block.
+fn is_named<S: BuildHasher + Drop>(
+    elements: &Elements<S>,
+    graph: &Graph,
+    key: &str,
+    cid: &Cid,
+) -> bool
+    ensures { result ≡ true →
+        named_in (keys graph.now.blocks) elements.now.nodes.items (value_in elements.now.keys) key.now ≡ Some cid.now }
+{
+    match named_block(elements, graph, key) {
+        Some(found) => found == *cid,
+        None => false,
+    }
 }
 
 // The place of the key, and that of its last row of the block that has the key's value, or none where no row is.

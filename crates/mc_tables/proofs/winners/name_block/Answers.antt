@@ -4,8 +4,13 @@ use Rattle.std.specs.Str.{bytes_eq}
 use Rattle.mc_tables.specs.Chains.{rows_in}
 use Rattle.mc_tables.specs.Places.{last_in, value_in}
 use Rattle.mc_tables.specs.Values.{row_in}
-use Rattle.mc_tables.proofs.WinnerFacts.{no_row, set_has, set_named, set_rows}
+use Rattle.mc_tables.proofs.WinnerFacts.{named_still, no_row, set_has, set_named, set_rows}
 use Rattle.mc_tables.proofs.winners.name_block.Goals as goal
+
+pub returns-then-is_named-clause-named : goal.returns-then-is_named-clause-named
+returns-then-is_named-clause-named g c =
+    let old = c.args.elements.now in
+    named_still (keys c.args.graph.now.blocks) old.nodes.items (value_in old.keys) c.args.key.now c.args.cid.now (c.is_named.ensures c.if-is_named.true)
 
 pub unreachable-requires : goal.unreachable-requires
 unreachable-requires g c =
