@@ -19,7 +19,7 @@ use mc_base::{Cid, Failed, List};
 use mc_group::done_all;
 use mc_keep::{Changes, Keeper, changes_fit, commits_are_events};
 use mc_model::{Stored, kept_changes_are_events, kept_is_durable};
-use mc_plan::{After, Uptake, is_sound, numbers_after, want_links};
+use mc_plan::{After, ProcessChanges, Uptake, is_sound, numbers_after, want_links};
 use std::alloc::Global;
 
 impl<K: Keeper> Replica<K> {
@@ -55,7 +55,11 @@ impl<K: Keeper> Replica<K> {
     }
 
     // Processes a stored block.
-    pub(crate) fn commit_process(&mut self, process: Changes, after: After) -> Result<(), Failed>
+    pub(crate) fn commit_process(
+        &mut self,
+        process: ProcessChanges,
+        after: After,
+    ) -> Result<(), Failed>
         requires up { self.old.stopped ≡ false }
         requires room { row_count process ≤ K.spare self.old.keeper }
         requires links { length after.links ≤ spare self.old.queue }
@@ -69,6 +73,7 @@ impl<K: Keeper> Replica<K> {
     {
         commits_are_events();
         is_sound(&self.keeper);
+        let process = process.into_changes();
         let numbers = numbers_after(self.numbers, &process, after.gaps);
         match self.keeper.commit(process) {
             Ok(()) => {
@@ -85,7 +90,12 @@ impl<K: Keeper> Replica<K> {
     }
 
     // Stores blocks, and then processes one.
-    fn commit_both(&mut self, store: Changes, process: Changes, after: After) -> Result<(), Failed>
+    fn commit_both(
+        &mut self,
+        store: Changes,
+        process: ProcessChanges,
+        after: After,
+    ) -> Result<(), Failed>
         requires up { self.old.stopped ≡ false }
         requires room { row_count store + row_count process ≤ K.spare self.old.keeper }
         requires only_store { (store.marks ≡ []) × (store.mark ≡ None) }
@@ -130,7 +140,7 @@ impl<K: Keeper> Replica<K> {
             process,
             after,
         } = uptake;
-        match store {
+        match store.into_changes() {
             Some(store) => self.commit_both(store, process, after),
             None => self.commit_process(process, after),
         }

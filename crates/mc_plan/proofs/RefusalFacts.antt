@@ -1,10 +1,13 @@
 -- Refusals, one after another.
-use Rattle.std.proofs.Common.{◌≡◌, ℕ, Bool, true, false, cond, List, Option, Some, None, Result, Ok, Err, refl, sym, ◌∙◌, ap, subst}
+use Rattle.std.proofs.Common.{◌≡◌, ℕ, Bool, true, false, cond, List, [], ◌∷◌, Option, Some, None, Result, Ok, Err, inl, inr, refl, sym, ◌∙◌, ap, subst}
+use Rattle.std.specs.List.{list_all}
+use Rattle.std.proofs.lemmas.Bool.{and_parts, or_cases}
 use Rattle.std.specs.Prelude.{IfSome, IfErr, is_some}
 use Rattle.std.specs.Option.{option_or}
 use Rattle.mc_base.specs.declared.cid.Cid.{Cid}
-use Rattle.mc_model.specs.Front.{is_among}
-use Rattle.mc_model.specs.Kept.{Kept, processed, bytes_at, is_stored}
+use Rattle.mc_model.specs.Front.{is_among, same_cid}
+use Rattle.mc_model.specs.Kept.{IsKept, Kept, processed, bytes_at, is_stored}
+use Rattle.mc_model.proofs.Counts.{cid_is}
 use Rattle.mc_model.specs.declared.delta.Delta.{Delta}
 use Rattle.mc_model.specs.Made.{next_priority, made_bytes, made_cid}
 use Rattle.mc_plan.specs.Puts.{next_links}
@@ -66,6 +69,26 @@ pub clash_stored : (told : Option Kept) (cid : Cid) (bytes : List ℕ) (found : 
 clash_stored None cid bytes found refusal new at e = tt
 clash_stored (Some kept) cid bytes found refusal new at e =
     ap (λ b. cond b (Some (Clash cid)) (other_refusal cid bytes (bytes_at kept.graph cid))) new ∙ ap (other_refusal cid bytes) (sym at) ∙ e
+
+-- what is processed is stored
+stored_among : (test : Cid → Bool) (cids : List Cid) (cid : Cid) → list_all test cids ≡ true → is_among cids cid ≡ true → test cid ≡ true
+stored_among test [] cid all among = absurd (let f : false ≡ true = among in cc)
+stored_among test (c ∷ cids) cid all among =
+    let parts = and_parts (test c) (list_all test cids) all in
+    elim (or_cases (same_cid cid c) (is_among cids cid) among) [
+      | inl here ↦ ap test (cid_is cid c here) ∙ parts.0
+      | inr there ↦ stored_among test cids cid parts.1 there
+    ]
+
+unstored : (kept : Kept) (cid : Cid) (bytes : List ℕ) (among : Bool) → is_among kept.order cid ≡ among → IsKept kept → None ≡ bytes_at kept.graph cid → clash_refusal kept cid bytes ≡ None
+unstored kept cid bytes false new sound at = ap (λ b. cond b (Some (Clash cid)) (other_refusal cid bytes (bytes_at kept.graph cid))) new ∙ ap (other_refusal cid bytes) (sym at)
+unstored kept cid bytes true new sound at = absurd (let f : false ≡ true = ap is_some at ∙ stored_among (is_stored kept.graph) kept.order cid sound.stored new in cc)
+
+pub clash_unstored : (told : Option Kept) (cid : Cid) (bytes : List ℕ) (found : Option (List ℕ)) → ((other : List ℕ) → found ≡ Some other → ⊥) → IfSome told IsKept → IfSome told (λ kept. found ≡ bytes_at kept.graph cid)
+    → IfSome told (λ kept. clash_refusal kept cid bytes ≡ None)
+clash_unstored None cid bytes found never sound at = tt
+clash_unstored (Some kept) cid bytes None never sound at = unstored kept cid bytes (is_among kept.order cid) refl sound at
+clash_unstored (Some kept) cid bytes (Some other) never sound at = absurd (never other refl)
 
 pub stored_is : (told : Option Kept) (cid : Cid) (found : Option (List ℕ)) (known : Bool) → known ≡ is_some found → IfSome told (λ kept. found ≡ bytes_at kept.graph cid) → IfSome told (λ kept. known ≡ is_stored kept.graph cid)
 stored_is None cid found known e at = tt

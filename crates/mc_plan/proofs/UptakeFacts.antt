@@ -228,30 +228,6 @@ module _ (fit_law : FitLaw) (sound_law : SoundLaw) (mark_law : MarkLaw) (links_l
       plan_has_stored fit_law sound_law mark_law links_law storing_law stored_law same_law kept whole uptake.process uptake.after sound
       (subst (λ s. IsSomeUptake kept whole (record { store = s; process = uptake.process; after = uptake.after })) is p)
 
--- an uptake is made
-
-store_is : (graph : List Stored) (cid : Cid) (bytes : List ℕ) (known : Bool) (store : Option Changes) → known ≡ is_stored graph cid → (known ≡ true → store ≡ None) → (known ≡ false → store ≡ Some (storing_pub cid bytes))
-    → store ≡ store_change graph cid bytes
-store_is graph cid bytes true store e p q = p refl ∙ ap (λ t. cond t None (Some (storing_pub cid bytes))) e
-store_is graph cid bytes false store e p q = q refl ∙ ap (λ t. cond t None (Some (storing_pub cid bytes))) e
-
-pub uptake_is : (told : Option Kept) (whole : Bool) (block : Block) (bytes : List ℕ) (known : Bool) (store : Option Changes) (process : Changes) (after : After) → IfSome told (λ kept. IsNew kept block bytes after.links)
-    → IfSome told (λ kept. known ≡ is_stored kept.graph block.cid) → (known ≡ true → store ≡ None) → (known ≡ false → store ≡ Some (storing_pub block.cid bytes))
-    → IfSome told (λ kept. Processes kept whole (block ∷ []) (block.cid ∷ []) process) → IfSome told (λ kept. after.gaps ≡ length (gaps (processed kept ++ block ∷ [])))
-    → IfSome told (λ kept. IsUptake kept whole block bytes (record { store = store; process = process; after = after }))
-uptake_is None whole block bytes known store process after new e p q processes left = tt
-uptake_is (Some kept) whole block bytes known store process after new e p q processes left =
-    record { block_is_new = new; store = store_is kept.graph block.cid bytes known store e p q; process = processes; gaps_left = left }
-
-shape_store : (known : Bool) (cid : Cid) (bytes : List ℕ) (store : Option Changes) → (known ≡ true → store ≡ None) → (known ≡ false → store ≡ Some (storing_pub cid bytes))
-    → IfSome store (λ s. (s.marks ≡ []) × (s.mark ≡ None) × (row_count s ≡ 1))
-shape_store true cid bytes store p q = subst (λ o. IfSome o (λ s. (s.marks ≡ []) × (s.mark ≡ None) × (row_count s ≡ 1))) (sym (p refl)) tt
-shape_store false cid bytes store p q = subst (λ o. IfSome o (λ s. (s.marks ≡ []) × (s.mark ≡ None) × (row_count s ≡ 1))) (sym (q refl)) (refl, refl, refl)
-
-pub plan_shape : (known : Bool) (cid : Cid) (bytes : List ℕ) (store : Option Changes) (process : Changes) (links : List Cid) (left : ℕ) → (known ≡ true → store ≡ None) → (known ≡ false → store ≡ Some (storing_pub cid bytes))
-    → process.store ≡ [] → process.marks ≡ cid ∷ [] → IsShaped (record { store = store; process = process; after = record { cid = cid; links = links; gaps = left } })
-plan_shape known cid bytes store process links left p q only marks = record { store = shape_store known cid bytes store p q; only = only; marks = marks }
-
 -- what only stores leaves what is processed
 pub stores_only : ((kept : Kept) (stored : List Stored) → IsKept kept → processed (changed kept (record no_changes { store = stored })) ≡ processed kept) → (told : Option Kept) (store : Changes) → IfSome told IsKept → store.marks ≡ []
     → (kept : Kept) → told ≡ Some kept → processed (changed kept store) ≡ processed kept

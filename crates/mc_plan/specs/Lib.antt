@@ -6,6 +6,7 @@ pub mod Desks
 pub mod Drained
 pub mod Events
 pub mod Exact
+pub mod Handed
 pub mod Hears
 pub mod Jobs
 pub mod Uptakes

@@ -17,6 +17,7 @@ ghost use Rattle.mc_plan.specs.Refusals.{Is, IsDue, clash_refusal, is_fault, mad
 ghost use Rattle.mc_plan.specs.Refusals.{priority_refusal, size_refusal};
 
 use crate::CoreError;
+use crate::sound::is_sound;
 use crate::uptakes::{Uptake, uptake_of};
 use mc_base::{Bytes, Cid, Failed, List};
 use mc_block::write_block;
@@ -126,16 +127,15 @@ pub(crate) fn check_clash<K: Keeper>(
         IfErr result (IsDue (Is (clash_refusal kept cid.now bytes.now)))) }
     ensures reads { Reads K.Keeper (is_fault result) keeper.old keeper.new }
 {
+    is_sound(keeper);
+    let Some(other) = keeper.block(alloc, cid)? else {
+        return Ok(false);
+    };
     if is_processed(keeper, cid)? {
         return Err(CoreError::Clash { cid: *cid });
     }
-    match keeper.block(alloc, cid)? {
-        Some(other) => {
-            check_same(cid, other.as_slice(), bytes)?;
-            Ok(true)
-        }
-        None => Ok(false),
-    }
+    check_same(cid, other.as_slice(), bytes)?;
+    Ok(true)
 }
 
 // Plans to take up the block with these links and this delta, and takes all the memory that it needs.

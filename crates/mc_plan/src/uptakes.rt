@@ -11,9 +11,10 @@ ghost use Rattle.mc_keep.specs.Changes.{no_changes, row_count};
 ghost use Rattle.mc_keep.specs.New.{AreNew};
 ghost use Rattle.mc_plan.specs.Uptakes.{IsNew, IsUptake, IsShaped, Processes, uptake_rows};
 
+use crate::handed::{ProcessChanges, StoreChanges};
 use mc_base::{Bytes, Cid, List};
 use mc_front::front_changes;
-use mc_keep::{Changes, KeepError, Keeper, Stored};
+use mc_keep::{Changes, KeepError, Keeper};
 use mc_model::Block;
 use mc_rows::merge;
 use std::alloc::{AllocError, Global};
@@ -31,8 +32,8 @@ pub struct After {
 /// The commits that take up one block: it is stored, unless it is, and then processed; and what comes after.
 #[derive(Drop)]
 pub struct Uptake {
-    pub store: Option<Changes>,
-    pub process: Changes,
+    pub store: StoreChanges,
+    pub process: ProcessChanges,
     pub after: After,
 }
 
@@ -77,32 +78,6 @@ fn reserve_rows<K: Keeper>(keeper: &mut K, changes: &Changes) -> Result<(), Allo
     keeper.reserve(rows)
 }
 
-// The changes that store these bytes, unless they are stored.
-fn store_changes(
-    alloc: Global,
-    cid: Cid,
-    bytes: Bytes,
-    known: bool,
-) -> Result<Option<Changes>, AllocError>
-    ensures stored { known ≡ true → IfOk result (λ store. store ≡ Rattle.std.specs.Prelude.None) }
-    ensures new { known ≡ false → IfOk result (λ store. store ≡ Rattle.std.specs.Prelude.Some
-        (record no_changes { store = record { cid = cid; bytes = bytes } ∷ [] })) }
-{
-    if known {
-        return Ok(None);
-    }
-    Ok(Some(store_of(alloc, cid, bytes)?))
-}
-
-pub(crate) fn store_of(alloc: Global, cid: Cid, bytes: Bytes) -> Result<Changes, AllocError>
-    ensures { IfOk result (λ changes.
-        changes ≡ record no_changes { store = record { cid = cid; bytes = bytes } ∷ [] }) }
-{
-    let mut changes = Changes::new(alloc);
-    changes.store.push(Stored { cid, bytes })?;
-    Ok(changes)
-}
-
 // Plans to take up a block with these bytes, of which these links are not processed, and takes all the memory that the
 // keeper needs.
 pub(crate) fn uptake_of<K: Keeper>(
@@ -131,11 +106,14 @@ pub(crate) fn uptake_of<K: Keeper>(
                 links,
                 gaps,
             };
-            Ok(Uptake {
-                store,
-                process,
-                after,
-            })
+            match ProcessChanges::of(alloc, process) {
+                Ok(process) => Ok(Uptake {
+                    store,
+                    process,
+                    after,
+                }),
+                Err(AllocError) => Err(KeepError::Memory),
+            }
         }
         Err(error) => Err(error),
     }
@@ -151,7 +129,7 @@ fn plan_changes<K: Keeper>(
     known: bool,
     whole: bool,
     process: &mut Changes,
-) -> Result<(Option<Changes>, u64), KeepError>
+) -> Result<(StoreChanges, u64), KeepError>
     requires two { K.layout keeper.old ≡ Two }
     requires none { process.old ≡ no_changes }
     requires new { IfSome (K.told keeper.old) (λ kept. AreNew kept (block.now ∷ [])) }
@@ -167,13 +145,7 @@ fn plan_changes<K: Keeper>(
     ensures room { IfOk result (λ plan. row_count process.new + 1 ≤ K.spare keeper.new) }
     ensures reads { Reads K.Keeper (is_fault result) keeper.old keeper.new }
 {
-    let gaps = process_changes(keeper, alloc, one(block), whole, process)?;
-    let store = store_changes(alloc, block.cid, bytes, known)?;
+    let gaps = process_changes(keeper, alloc, slice::from_ref(block), whole, process)?;
+    let store = StoreChanges::of(alloc, block.cid, bytes, known)?;
     Ok((store, gaps))
-}
-
-fn one(block: &Block) -> &[Block]
-    ensures { result.now ≡ block.now ∷ [] }
-{
-    slice::from_ref(block)
 }
