@@ -1,6 +1,7 @@
 // Why a file serves no keeper.
 use mc_base::Failed;
 use sqlite::{Error as SqlError, ErrorCode};
+use sqlite_disk::is_no_room;
 use sqlite_std_file::OpenError;
 use std::io;
 use thiserror::Error;
@@ -75,4 +76,12 @@ pub(crate) fn cause_of_files(error: &OpenError) -> FileCause {
         OpenError::Busy => FileCause::InUse,
         OpenError::HotJournal => FileCause::Journal,
     }
+}
+
+// The cause of a file that is not read or written.
+pub(crate) fn cause_of_disk(error: io::Error) -> FileCause {
+    if is_no_room(&error) {
+        return FileCause::Full;
+    }
+    cause_of_files(&OpenError::Io(error))
 }

@@ -1,4 +1,5 @@
 // What a keeper asks of its database, and a file as one.
+use crate::blank::shorten_pages;
 use crate::cause::{FileCause, cause_of, cause_of_files};
 use crate::changing;
 use crate::log::Log;
@@ -104,6 +105,8 @@ fn connected<D: Disk + Drop>(
     seed: u64,
     log: &Log,
 ) -> Result<Connection<FileStore<D>>, FileCause> {
+    let mut files = files;
+    shorten_pages(&mut files)?;
     if !(files.log.may_be_used() && files.db.may_be_used()) {
         return Err(FileCause::ReadOrWrite);
     }

@@ -2,6 +2,7 @@
 //! many rows there are.
 #![tactic(auto)]
 
+mod blank;
 mod cause;
 mod cells;
 mod changing;
