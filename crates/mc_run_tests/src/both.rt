@@ -3,8 +3,8 @@ ghost use Rattle.std.specs.Prelude.{IfOk};
 ghost use Rattle.mc_model.specs.State.{HasSoundMark};
 ghost use Rattle.mc_keep_mem.specs.Fits.{kept_in};
 
-use crate::tables::in_memory;
 use crate::worlds::{Played, play};
+use mc_file_tests::in_memory;
 use mc_keep::KeepError;
 use mc_keep_mem::{FaultPlan, MemKeeper};
 use std::alloc::Global;

@@ -1,6 +1,6 @@
 // Tables that another program has changed.
 use crate::both::over_sql;
-use crate::tables::in_memory;
+use mc_file_tests::in_memory;
 use mc_keep::KeepError;
 use std::alloc::Global;
 use std::sync::Wait;

@@ -1,8 +1,7 @@
 // A store that the program wrote before there was layout 2.
 use crate::both::over_sql;
-use crate::migrations::{migrated_twice, number};
-use crate::tables::{LAYOUT_ONE, after, in_memory};
 use crate::worlds::{Played, play};
+use mc_file_tests::{LAYOUT_ONE, after, in_memory, migrated_twice, number};
 use mc_keep::KeepError;
 use mc_keep_sql::SqlKeeper;
 use sqlite::MemStore;

@@ -1,10 +1,9 @@
 // Runs over SQLite files.
 use crate::drawing::drawn_script;
 use crate::earlier::{WINNERS, statements};
-use crate::layouts::change_file;
-use crate::migrations::number;
 use crate::runs::{Given, Meeting, Ran, WHOLE, run_with};
 use mc_app::Status;
+use mc_file_tests::{change_file, number};
 use mc_keep_any::RealKeepers;
 use sqlite::Connection;
 use std::fs;

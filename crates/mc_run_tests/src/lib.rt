@@ -1,6 +1,5 @@
 //! Tests of whole runs over keepers in memory and in SQLite files, and of the keeper over SQLite beside the one in memory:
-//! the same scripts are answered alike, and what the keepers hold is the same; tables that are damaged or of another
-//! layout; and disks that stop at each of their calls.
+//! the same scripts are answered alike, and what the keepers hold is the same; tables that are damaged; and stores of layout 1.
 #![tactic(auto)]
 
 #[cfg(test)]
@@ -22,23 +21,15 @@ mod files;
 #[cfg(test)]
 mod gathering;
 #[cfg(test)]
-mod layouts;
-#[cfg(test)]
 mod limits;
 #[cfg(test)]
 mod lines;
-#[cfg(test)]
-mod migrations;
 #[cfg(test)]
 mod rows;
 #[cfg(test)]
 mod runs;
 #[cfg(test)]
 mod shown;
-#[cfg(test)]
-mod stops;
-#[cfg(test)]
-mod tables;
 #[cfg(test)]
 mod words;
 #[cfg(test)]

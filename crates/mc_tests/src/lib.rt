@@ -14,8 +14,6 @@ mod deltas;
 #[cfg(test)]
 mod drains;
 #[cfg(test)]
-mod faces;
-#[cfg(test)]
 mod fetches;
 #[cfg(test)]
 mod front;
@@ -32,8 +30,6 @@ mod inboxes;
 #[cfg(test)]
 mod library;
 #[cfg(test)]
-mod lists;
-#[cfg(test)]
 mod makers;
 #[cfg(test)]
 mod memory;
@@ -42,11 +38,7 @@ mod migrations;
 #[cfg(test)]
 mod nodes;
 #[cfg(test)]
-mod offers;
-#[cfg(test)]
 mod queries;
-#[cfg(test)]
-mod queues;
 #[cfg(test)]
 mod refusals;
 #[cfg(test)]
@@ -66,10 +58,4 @@ mod storms;
 #[cfg(test)]
 mod trees;
 #[cfg(test)]
-mod turns;
-#[cfg(test)]
-mod walks;
-#[cfg(test)]
 mod winners;
-#[cfg(test)]
-mod workers;

@@ -36,7 +36,7 @@ impl Counted for Listed {
 
 impl Fetch for Listed {
     ghost use Rattle.std.specs.Prelude.{◌≡◌, ⊤, Some, false, length, refl};
-    ghost use Rattle.mc_tests.specs.Leading.{few_all};
+    ghost use Rattle.mc_part_tests.specs.Leading.{few_all};
 
     ghost offers = { λ fetch. Some (λ cid. fetch.offers.items) };
 

@@ -107,7 +107,7 @@ impl Counted for Empty {
 impl Fetch for Empty {
     ghost use Rattle.std.specs.Prelude.{⊤, false};
     ghost use Rattle.std.specs.Prelude as prelude;
-    ghost use Rattle.mc_tests.specs.Leading.{few_none};
+    ghost use Rattle.mc_part_tests.specs.Leading.{few_none};
 
     ghost offers = { λ fetch. prelude.None };
 

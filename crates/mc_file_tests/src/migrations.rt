@@ -1,9 +1,9 @@
 // Tables of layout 1 that are migrated, with a stop before and after each commit, and with disks that stop.
+use crate::migrated::{migrated, migrated_twice};
 use crate::stops::{adopted, connected, copied};
-use crate::tables::{LAYOUT_ONE, after, changed};
+use crate::tables::{LAYOUT_ONE, after, changed, number};
 use mc_keep::{Fused, KeepError, Keeper, Layout};
 use mc_keep_sql::SqlKeeper;
-use mc_migrate::{Migrated, migrate};
 use sqlite::types::ValueRef;
 use sqlite::{Alter, Connection, Files, MemStore};
 use sqlite_disk::{Crash, Disk, Fuse, Memory};
@@ -83,17 +83,6 @@ fn filled(alloc: Global, keys: u64) -> Result<SqlKeeper<MemStore>, KeepError> {
     SqlKeeper::adopt(connection)
 }
 
-/// The number that a query gives.
-pub(crate) fn number<S: Alter>(connection: &mut Connection<S>, sql: &str) -> Option<u64> {
-    let Ok(rows) = connection.query_all(sql, &[]) else {
-        return None;
-    };
-    match rows.first()?.get_ref(0) {
-        Ok(ValueRef::Int(number)) => u64::try_from(number).ok(),
-        _ => None,
-    }
-}
-
 // What the tables must be for so many keys: each query gives the number of keys, or the number beside it.
 const WANTED: [(&str, Option<u64>); 5] = [
     ("SELECT layout FROM meta", Some(2)),
@@ -162,25 +151,6 @@ fn is_exact<S: Alter>(
         }
     }
     Ok(is_whole(connection, keys))
-}
-
-// What a migration did: its keys and its commits, or none where it failed.
-fn migrated<K: Keeper>(alloc: Global, keeper: &mut K) -> Option<(u64, u64)> {
-    match migrate(keeper, alloc) {
-        Ok(Migrated { keys, commits }) => Some((keys, commits)),
-        Err(_) => None,
-    }
-}
-
-/// What a migration does over a keeper, where a second one does nothing: its keys and its commits.
-pub(crate) fn migrated_twice<K: Keeper>(alloc: Global, keeper: K) -> (Option<(u64, u64)>, K) {
-    let mut keeper = keeper;
-    let done = migrated(alloc, &mut keeper);
-    let more = migrated(alloc, &mut keeper);
-    if more != Some((0, 0)) {
-        return (None, keeper);
-    }
-    (done, keeper)
 }
 
 // What a migration does over so many keys, where the tables are right then, and a keeper that adopts them has none to do.
@@ -399,11 +369,7 @@ fn a_migration_goes_on_after_a_stop_of_the_log_or_the_database(
 ) -> Result<(), Fail> {
     // how many keys there are, at which calls a disk stops, and how many migrations that stops at least: each commit writes
     // its pages to the log and syncs, which is copied where it is long; two commits take the keys of the last two rows
-    let rows = [
-        (40, true, 1, 4),
-        (1_025, true, 7, 2),
-        (1_025, false, 5, 1),
-    ];
+    let rows = [(40, true, 1, 4), (1_025, true, 7, 2), (1_025, false, 5, 1)];
     for (keys, on_log, step, least) in rows {
         let files = files_of(rt.alloc(), keys)?;
         let stopped = stops(rt.alloc(), &files, StopPlan { keys, on_log, step })?;

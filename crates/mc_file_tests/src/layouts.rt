@@ -1,8 +1,9 @@
 // Files of another layout, and folders in which no file is made.
-use crate::tables::{LAYOUT_ONE, changed};
+use crate::changing::{change_file, close_after};
+use crate::tables::LAYOUT_ONE;
 use mc_keep::KeepError;
 use mc_keep_sql::{FileKeeper, OpenFault, SqlKeeper};
-use sqlite::{Connection, Error, FileStore};
+use sqlite::{Connection, FileStore};
 use sqlite_disk::Disk;
 use std::fs;
 use std::test::Fail;
@@ -13,34 +14,12 @@ const FILE: &str = "mc_sql_layout_test/a.db";
 
 const LOG: &str = "mc_sql_layout_test/a.db-wal";
 
-// Runs these statements over a connection to files, and closes them.
-fn close_after<D: Disk + Drop>(
-    connection: Connection<FileStore<D>>,
-    statements: &str,
-) -> Result<(), KeepError> {
-    match changed(connection, statements)?.close() {
-        Ok(()) => Ok(()),
-        Err(_) => Err(KeepError::Failed),
-    }
-}
-
 // The same over the tables of a keeper.
 fn change_tables<D: Disk + Drop>(
     keeper: Result<SqlKeeper<FileStore<D>>, KeepError>,
     statements: &str,
 ) -> Result<(), KeepError> {
     close_after(keeper?.into_connection(), statements)
-}
-
-/// The same over a file.
-pub(crate) fn change_file<D: Disk + Drop>(
-    connection: Result<Connection<FileStore<D>>, Error>,
-    statements: &str,
-) -> Result<(), KeepError> {
-    match connection {
-        Ok(connection) => close_after(connection, statements),
-        Err(_) => Err(KeepError::Failed),
-    }
 }
 
 // A folder of this name without a file.
@@ -125,5 +104,51 @@ fn a_folder_without_room_for_files_is_refused(rt: HostRuntime) -> Result<(), Fai
     assert!(rt; is_refused(&rt, "/proc"));
     assert!(rt; is_refused(&rt, "/dev/null"));
     assert!(rt; is_refused(&rt, "mc_sql_no_folder"));
+    Ok(())
+}
+
+// How long the pages of the file are, as its header says it.
+fn page_length(rt: &HostRuntime) -> Result<u64, Fail> {
+    let bytes = fs::read(rt, FILE)?;
+    match bytes.as_slice() {
+        [
+            _,
+            _,
+            _,
+            _,
+            _,
+            _,
+            _,
+            _,
+            _,
+            _,
+            _,
+            _,
+            _,
+            _,
+            _,
+            _,
+            high,
+            low,
+            ..
+        ] => { Ok(u64::from(*high) * 256 + u64::from(*low)) }
+        _ => Err(Fail::new("a file without a header")),
+    }
+}
+
+#[test]
+fn an_empty_file_gets_short_pages_and_another_one_keeps_its_own(
+    rt: HostRuntime,
+) -> Result<(), Fail> {
+    make_folder(&rt)?;
+    fs::write(&rt, FILE, "")?;
+    change_tables(SqlKeeper::open(&rt, FOLDER, 0), "UPDATE meta SET dirty = 0")?;
+    assert_eq!(rt; page_length(&rt)?, 1_024);
+    make_folder(&rt)?;
+    change_file(Connection::open(&rt, FILE), LAYOUT_ONE)?;
+    let before = page_length(&rt)?;
+    change_tables(SqlKeeper::open(&rt, FOLDER, 0), "UPDATE meta SET dirty = 0")?;
+    assert_eq!(rt; (before, page_length(&rt)?), (4_096, 4_096));
+    fs::remove_dir_all(&rt, FOLDER)?;
     Ok(())
 }

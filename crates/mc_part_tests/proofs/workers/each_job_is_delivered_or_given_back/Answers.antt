@@ -1,5 +1,5 @@
 use Rattle.std.proofs.Common.{◌≡◌, All, None, subst, sym}
-use Rattle.mc_tests.proofs.workers.each_job_is_delivered_or_given_back.Goals as goal
+use Rattle.mc_part_tests.proofs.workers.each_job_is_delivered_or_given_back.Goals as goal
 
 pub run_workers-requires-clause-ready : goal.run_workers-requires-clause-ready
 run_workers-requires-clause-ready g c κs =
