@@ -1,0 +1,5 @@
+use Rattle.std.specs.Prelude.{length}
+use Rattle.mc_keep_tests.proofs.blocks.+are_once.Given as goal
+
+abbrev pub decreases-are_once : goal.decreases-are_once
+decreases-are_once l = length l.cids.now

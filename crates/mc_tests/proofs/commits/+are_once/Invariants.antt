@@ -1,5 +1,0 @@
-use Rattle.std.specs.Prelude.{length}
-use Rattle.mc_tests.proofs.commits.+are_once.Given as goal
-
-abbrev pub decreases-are_once : goal.decreases-are_once
-decreases-are_once l = length l.cids.now
