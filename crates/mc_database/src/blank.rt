@@ -60,19 +60,50 @@ fn write_first<D: Disk>(db: &mut D) -> Result<(), FileCause> {
     }
 }
 
-fn is_empty<D: Disk>(disk: &mut D) -> Result<bool, FileCause> {
+fn len_of<D: Disk>(disk: &mut D) -> Result<usize, FileCause> {
     if !disk.may_be_used() {
         return Err(FileCause::ReadOrWrite);
     }
     match disk.len() {
-        Ok(len) => Ok(len == 0),
+        Ok(len) => Ok(len),
         Err(error) => Err(cause_of_disk(error)),
     }
 }
 
+// Reads the first bytes of a file.
+fn read<D: Disk>(db: &mut D, bytes: &mut [u8]) -> Result<(), FileCause> {
+    if !db.may_be_used() {
+        return Err(FileCause::ReadOrWrite);
+    }
+    match db.read_at(0, bytes) {
+        Ok(()) => Ok(()),
+        Err(error) => Err(cause_of_disk(error)),
+    }
+}
+
+// Whether each of these bytes is zero or that of the first page.
+fn are_of_first(bytes: &[u8]) -> bool {
+    for (byte, wanted) in bytes.iter().zip(&first_page()) {
+        if *byte != 0 && byte != wanted {
+            return false;
+        }
+    }
+    true
+}
+
+// Whether a file is empty, or has no other bytes than a crash leaves of the first page before that is synced.
+fn is_blank<D: Disk>(db: &mut D) -> Result<bool, FileCause> {
+    let mut page = [0; PAGE];
+    let Some(bytes) = page.get_mut(..len_of(db)?) else {
+        return Ok(false);
+    };
+    read(db, bytes)?;
+    Ok(are_of_first(bytes))
+}
+
 // Makes the pages of an empty file short. One that is not empty, or has a log, stays as it is.
 pub(crate) fn shorten_pages<D: Disk>(files: &mut Files<D>) -> Result<(), FileCause> {
-    if is_empty(&mut files.log)? && is_empty(&mut files.db)? {
+    if len_of(&mut files.log)? == 0 && is_blank(&mut files.db)? {
         write_first(&mut files.db)?;
     }
     Ok(())

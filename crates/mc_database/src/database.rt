@@ -88,8 +88,8 @@ pub struct FileDatabase {
 }
 
 // How many pages stand in the log before it is copied into the file. Each copy takes four syncs, and the commit after it
-// one more; so many pages are 16 MB.
-const LOG_PAGES: usize = 4000;
+// one more; so many pages are 16 MB, and 64 MB where they have 4,096 bytes.
+const LOG_PAGES: usize = 16_000;
 
 // How a file is opened, with a number that is drawn anew.
 fn options_of(seed: u64) -> Options {

@@ -95,6 +95,9 @@ fn a_file_of_another_program_is_left(rt: HostRuntime) -> Result<(), Fail> {
         "CREATE TABLE note (id INTEGER PRIMARY KEY, title TEXT); INSERT INTO note VALUES (1, 'a')";
     change_file(Connection::open(&rt, FILE), statements)?;
     assert!(rt; is_left(&rt)?);
+    make_folder(&rt)?;
+    fs::write(&rt, FILE, "Sqlite")?;
+    assert!(rt; is_left(&rt)?);
     fs::remove_dir_all(&rt, FOLDER)?;
     Ok(())
 }
@@ -140,10 +143,13 @@ fn page_length(rt: &HostRuntime) -> Result<u64, Fail> {
 fn an_empty_file_gets_short_pages_and_another_one_keeps_its_own(
     rt: HostRuntime,
 ) -> Result<(), Fail> {
-    make_folder(&rt)?;
-    fs::write(&rt, FILE, "")?;
-    change_tables(SqlKeeper::open(&rt, FOLDER, 0), "UPDATE meta SET dirty = 0")?;
-    assert_eq!(rt; page_length(&rt)?, 1_024);
+    // what a crash may leave of the first page
+    for left in ["", "\0\0\0", "SQLite format 3\0"] {
+        make_folder(&rt)?;
+        fs::write(&rt, FILE, left)?;
+        change_tables(SqlKeeper::open(&rt, FOLDER, 0), "UPDATE meta SET dirty = 0")?;
+        assert_eq!(rt; page_length(&rt)?, 1_024, "{left}");
+    }
     make_folder(&rt)?;
     change_file(Connection::open(&rt, FILE), LAYOUT_ONE)?;
     let before = page_length(&rt)?;

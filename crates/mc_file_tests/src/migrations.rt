@@ -2,6 +2,7 @@
 use crate::migrated::{migrated, migrated_twice};
 use crate::stops::{adopted, connected, copied};
 use crate::tables::{LAYOUT_ONE, after, changed, number};
+use mc_database::opened;
 use mc_keep::{Fused, KeepError, Keeper, Layout};
 use mc_keep_sql::SqlKeeper;
 use sqlite::types::ValueRef;
@@ -376,4 +377,34 @@ fn a_migration_goes_on_after_a_stop_of_the_log_or_the_database(
         assert!(rt; stopped >= least, "{keys} {on_log}: {stopped}");
     }
     Ok(())
+}
+
+// Opens the tables in these files: whether no disk stopped it, and the files. None where there was no connection.
+fn opening(alloc: Global, files: Files<Fuse<Memory>>) -> Option<(bool, Files<Fuse<Memory>>)> {
+    let mut connection = connected(alloc, files)?;
+    let done = opened(&mut connection).is_ok();
+    Some((done, connection.into_store().close()))
+}
+
+// Whether a migration of these files takes so many keys, where all that was written is there and where only what was synced
+// is.
+fn all_are_taken(alloc: Global, files: Files<Fuse<Memory>>, keys: u64) -> Result<bool, Fail> {
+    let written = taken_in(alloc, copies(alloc, &files, u64::MAX, u64::MAX)?, keys)?;
+    Ok(written == Some(keys) && taken_after_crash(alloc, files, keys)? == Some(keys))
+}
+
+#[test]
+fn an_opening_goes_on_after_a_stop_of_the_log(rt: HostRuntime) -> Result<(), Fail> {
+    let files = files_of(rt.alloc(), 3)?;
+    for calls in 0..MOST {
+        let Some((done, files)) = opening(rt.alloc(), copies(rt.alloc(), &files, calls, u64::MAX)?)
+        else {
+            continue;
+        };
+        assert!(rt; all_are_taken(rt.alloc(), files, 3)?, "{calls}");
+        if done {
+            return Ok(());
+        }
+    }
+    Err(Fail::new("an opening of more calls"))
 }
