@@ -60,7 +60,7 @@ fn read_group<K: Keeper>(
     Ok(blocks)
 }
 
-fn add<T: Drop>(list: &mut List<T>, item: T) -> Result<(), AllocError>
+pub(crate) fn add<T: Drop>(list: &mut List<T>, item: T) -> Result<(), AllocError>
     ensures { OnOk result (list.new ≡ list.old ++ item ∷ []) }
 {
     match list.push(item) {

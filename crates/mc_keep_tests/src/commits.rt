@@ -1,5 +1,5 @@
 // Commits of groups of blocks into a keeper in memory.
-use crate::blocks::{element, no_delta, process, store_bytes, take_up};
+use crate::blocks::{add, element, no_delta, process, store_bytes, take_up};
 use crate::shown::{has_blocks, has_front, has_head, has_keys, has_rows, has_value};
 use crate::trials::{Trial, passes, passes_over};
 use mc_base::{Bytes, Cid, Counted, List, Text};
@@ -104,10 +104,10 @@ where
 fn chain<K: Keeper>(keeper: &mut K, alloc: Global, length: u64) -> Result<List<Cid>, KeepError> {
     let mut cids = List::new(alloc);
     let mut last = store_bytes(keeper, alloc, element(alloc, 0)?)?;
-    cids.push(last)?;
+    add(&mut cids, last)?;
     for number in 1..length {
         last = store_bytes(keeper, alloc, link(alloc, last, number)?)?;
-        cids.push(last)?;
+        add(&mut cids, last)?;
     }
     let mut cids = cids.into_vec();
     cids.reverse();
