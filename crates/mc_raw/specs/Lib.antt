@@ -1,0 +1,4 @@
+pub mod Raw
+pub mod RowOrder
+pub mod RowTables
+pub mod Drops
