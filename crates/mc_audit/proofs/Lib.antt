@@ -17,3 +17,4 @@ pub mod SweepFacts
 pub mod PlainFacts
 pub mod Exact
 pub mod Sweeps
+pub mod Keeps

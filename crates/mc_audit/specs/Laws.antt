@@ -1,15 +1,19 @@
 -- Laws of the verdict and of what a sweep leaves.
-use Rattle.std.specs.Prelude.{◌≡◌, ◌⊎◌, ◌↔◌, ℕ, ◌+◌, true, false, not, List, [], ◌∷◌, map, filter, fold, None}
+use Rattle.std.specs.Prelude.{◌≡◌, ◌⊎◌, ◌↔◌, ℕ, ◌+◌, true, false, not, List, [], ◌∷◌, map, filter, fold, take, None}
 use Rattle.std.specs.List.{AllByRecursion}
 use Rattle.std.specs.List.Sorted.{IsStrictlySortedBy}
 use Rattle.std.specs.Ordering.{nat_cmp, on}
 use Rattle.std.specs.Cmp.Lexicographic.{slice_cmp}
 use Rattle.mc_model.specs.Ascending.{is_once}
 use Rattle.mc_model.specs.Front.{same_cid}
+use Rattle.mc_model.specs.Kept.{Kept, processed}
 use Rattle.mc_model.specs.Offer.{is_good}
+use Rattle.mc_model.specs.declared.layout.Layout.{Layout}
+use Rattle.mc_raw.specs.Drops.{without_blocks}
 use Rattle.mc_raw.specs.declared.raw.Row.{Row}
 use Rattle.mc_raw.specs.Raw.{Tables, has_row, without}
 use Rattle.mc_raw.specs.RowTables.{element_table, tomb_table, value_table, winner_table, head_table, link_table}
+use Rattle.mc_raw.specs.RowTables.{tables_of}
 use Rattle.mc_audit.specs.Rows.{cid_in, blocks_of}
 use Rattle.mc_audit.specs.Sweep.{is_free, free_cids}
 use Rattle.mc_audit.specs.Sound.{first_break, has_gap}
@@ -43,3 +47,10 @@ abbrev pub SweepLeavesTheRest : Type 0
 SweepLeavesTheRest =
     (marks rows : List Row) →
     fold without rows (free_cids marks rows) ≡ filter (λ (row : Row). not (is_free marks row)) rows
+
+-- a sweep of a keeper, or a part of one, leaves the processed blocks as they were
+abbrev pub SweepKeepsProcessed : Type 0
+SweepKeepsProcessed =
+    (layout : Layout) (kept : Kept) (count : ℕ) →
+    processed (without_blocks (take count (free_cids (tables_of layout kept 2) (tables_of layout kept 1))) kept)
+    ≡ processed kept

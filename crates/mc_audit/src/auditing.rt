@@ -28,7 +28,9 @@ use mc_keep::{HeadRow, KeepError};
 use mc_raw::{RawTables, Row};
 use std::alloc::{AllocError, Global};
 
-/// Whether the tables are sound, or the first place where they are not. It changes nothing.
+/// Whether the tables are sound, with the numbers of processed and of stored blocks, or else the first place where they
+/// are not. It changes nothing. `Failed` where a read failed. It keeps the digests of all blocks and the element and
+/// tombstone rows of the processed ones, and no block's bytes.
 pub fn audit<T: RawTables>(alloc: Global, tables: &mut T) -> Result<Verdict, KeepError>
     ensures verdict { IfRaw (T.raw tables.old) result (λ t verdict. verdict ≡ verdict_of t) }
     ensures goes { T.goes [] (is_fault result) tables.old tables.new }

@@ -19,7 +19,7 @@ mod verdict;
 
 pub use auditing::audit;
 pub use calls::{audit_at, sweep_at};
-pub use laws::{sound_is_exact, sweep_leaves_the_rest};
+pub use laws::{sound_is_exact, sweep_keeps_processed, sweep_leaves_the_rest};
 pub use plain::PlainTables;
 pub use sweeping::sweep;
 pub use verdict::{Place, Verdict};

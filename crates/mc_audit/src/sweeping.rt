@@ -15,7 +15,8 @@ use mc_raw::{RawTables, Row};
 use std::alloc::{AllocError, Global};
 
 /// Removes each block of table 1 that is not in table 2, and gives their number. A row whose digest hasn't 32 bytes
-/// stays, and is not counted. After want of memory none is removed, after `Failed` some are.
+/// stays, and is not counted. After want of memory none is removed; after `Failed` some first ones are, and the next one
+/// wholly or not at all. The tables need not be sound.
 pub fn sweep<T: RawTables>(alloc: Global, tables: &mut T) -> Result<u64, KeepError>
     ensures { Sweeps (λ cids failed. T.goes cids failed tables.old tables.new) (T.raw tables.old) result }
 {
